@@ -1,0 +1,13 @@
+//! Bytes in and bytes out: a source and a sink that count their faults, and the calls that read a whole
+//! source and write a whole piece. `docs/edge.md` has the rules.
+#![tactic(auto)]
+
+mod sink;
+mod source;
+
+pub use sink::{Sink, write_all};
+pub use source::{ReadError, Source, read_all};
+
+/// A read or a write failed. The count of faults of its source or sink rose.
+#[derive(Clone, Copy, Debug, PartialEq, Eq)]
+pub struct Failed;
