@@ -71,9 +71,8 @@ Came_join s t u xs ys p q = record {
 pub Came_none : (s : InputState) → Came s s []
 Came_none s = record { consumed = Consumes_none s.left; counts = omega arith }
 
--- a read after others
-pub came_more : (s t u : InputState) (xs buffer : List ℕ) (n : ℕ) → Came s t xs → Gave t u buffer n → Came s u (xs ++ take n buffer)
-came_more s t u xs buffer n p q = Came_join s t u xs (take n buffer) p q.came
-
-pub length_more : (xs buffer : List ℕ) (n : ℕ) → n ≤ length buffer → length (xs ++ take n buffer) ≡ length xs + n
-length_more xs buffer n h = length-append xs (take n buffer) ∙ ap (λ k. length xs + k) (length-take-le n buffer h)
+-- the bytes of a read after others, and how many there are then
+pub came_more : (s t u : InputState) (xs buffer : List ℕ) (n : ℕ) → n ≤ length buffer → Came s t xs → Gave t u buffer n
+    → (bytes : List ℕ) × Came s u bytes × (length bytes ≡ length xs + n)
+came_more s t u xs buffer n h p q =
+    (xs ++ take n buffer, Came_join s t u xs (take n buffer) p q.came, length-append xs (take n buffer) ∙ ap (λ k. length xs + k) (length-take-le n buffer h))
