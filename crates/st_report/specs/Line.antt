@@ -1,5 +1,5 @@
 -- The bytes of each line of the report, its line end included.
-use Rattle.std.specs.Prelude.{ℕ, suc, zero, ◌+◌, ◌*◌, ◌/◌, ◌%◌, Bool, true, false, if◌then◌else◌, nat_lt, List, [], ◌∷◌, ◌++◌, codes, decimal}
+use Rattle.std.specs.Prelude.{ℕ, suc, zero, ◌+◌, ◌*◌, ◌/◌, ◌%◌, Bool, true, false, if◌then◌else◌, nat_lt, List, [], ◌∷◌, ◌++◌, codes, decimal, Option, Some, None}
 
 -- the line end
 abbrev pub lf : List ℕ
@@ -9,12 +9,12 @@ lf = 10 ∷ []
 abbrev pub hex_digit : ℕ → ℕ
 hex_digit d = if nat_lt d 10 then 48 + d else 55 + d
 
--- the n last hexadecimal digits of x, the highest first
+-- the last n hexadecimal digits of x, the highest first
 unfoldable pub hex_text : ℕ → ℕ → List ℕ
 hex_text zero x = []
 hex_text (suc n) x = hex_text n (x / 16) ++ hex_digit (x % 16) ∷ []
 
--- a word as sixteen hexadecimal digits
+-- a word of 64 bits as sixteen hexadecimal digits
 abbrev pub hex_word : ℕ → List ℕ
 hex_word word = hex_text 16 word
 
@@ -22,13 +22,42 @@ hex_word word = hex_text 16 word
 abbrev pub two_digits : ℕ → List ℕ
 two_digits n = decimal (n / 10) ++ decimal (n % 10)
 
+-- a bit of a word as word.bit
+abbrev pub place : ℕ → ℕ → List ℕ
+place word bit = decimal word ++ codes "." ++ decimal bit
+
 -- a bit address as word.bit
 abbrev pub bit_address : ℕ → List ℕ
-bit_address b = decimal (b / 64) ++ codes "." ++ decimal (b % 64)
+bit_address b = place (b / 64) (b % 64)
 
--- a half-word address as word.bit: a half-word begins at each thirty-second bit
+-- a half-word address as word.bit: the halves of a word begin at its bits 0 and 32
 abbrev pub half_address : ℕ → List ℕ
-half_address h = bit_address (32 * h)
+half_address h = place (h / 2) (32 * (h % 2))
+
+-- yes or no
+abbrev pub flag : Bool → List ℕ
+flag true = codes "1"
+flag false = codes "0"
+
+-- the seed and the number of cards of a made deck
+abbrev pub soak_line : ℕ → ℕ → List ℕ
+soak_line number cards = codes "SOAK " ++ decimal number ++ codes " " ++ decimal cards ++ lf
+
+-- the first faulty card and the name of its fault
+abbrev pub fault_line : ℕ → List ℕ → List ℕ
+fault_line card name = codes "CARD " ++ decimal card ++ codes " " ++ name ++ lf
+
+-- the n-th instruction done and its address
+abbrev pub trc_line : ℕ → ℕ → List ℕ
+trc_line n address = codes "TRC " ++ decimal n ++ codes " " ++ half_address address ++ lf
+
+-- the line that the printer prints
+abbrev pub prt_line : List ℕ → List ℕ
+prt_line text = codes "PRT " ++ text ++ lf
+
+-- the interrupt by indicator i after n instructions
+abbrev pub int_line : ℕ → ℕ → List ℕ
+int_line i n = codes "INT " ++ decimal i ++ codes " AFTER " ++ decimal n ++ lf
 
 -- how the run ended: the machine waits, or the budget is used up
 abbrev pub end_line : Bool → List ℕ
@@ -39,23 +68,60 @@ end_line false = codes "END BUDGET" ++ lf
 abbrev pub done_line : ℕ → List ℕ
 done_line m = codes "DONE " ++ decimal m ++ lf
 
+-- the number of states stepped back
+abbrev pub back_line : ℕ → List ℕ
+back_line j = codes "BACK " ++ decimal j ++ lf
+
 -- the instruction counter
 abbrev pub ic_line : ℕ → List ℕ
 ic_line ic = codes "IC " ++ half_address ic ++ lf
 
 -- whether interrupts are enabled
 abbrev pub en_line : Bool → List ℕ
-en_line true = codes "EN 1" ++ lf
-en_line false = codes "EN 0" ++ lf
+en_line enabled = codes "EN " ++ flag enabled ++ lf
 
 -- a register and its word
 abbrev pub reg_line : ℕ → ℕ → List ℕ
 reg_line w word = codes "REG " ++ two_digits w ++ codes " " ++ hex_word word ++ lf
 
--- an interrupt by indicator i after n instructions
-abbrev pub int_line : ℕ → ℕ → List ℕ
-int_line i n = codes "INT " ++ decimal i ++ codes " AFTER " ++ decimal n ++ lf
+-- the first and the last word of a dump
+abbrev pub dump_line : ℕ → ℕ → List ℕ
+dump_line from to = codes "DUMP " ++ decimal from ++ codes " " ++ decimal to ++ lf
 
--- the first faulty card and the name of its fault
-abbrev pub fault_line : ℕ → List ℕ → List ℕ
-fault_line card name = codes "CARD " ++ decimal card ++ codes " " ++ name ++ lf
+-- a word of storage
+abbrev pub mem_line : ℕ → ℕ → List ℕ
+mem_line w word = codes "MEM " ++ decimal w ++ codes " " ++ hex_word word ++ lf
+
+-- the tick of the last completion
+abbrev pub ticks_line : ℕ → List ℕ
+ticks_line t = codes "TICKS " ++ decimal t ++ lf
+
+-- the tick of an interrupt
+abbrev pub time_line : ℕ → List ℕ
+time_line t = codes "TIME " ++ decimal t ++ lf
+
+-- the n-th instruction done, prepared at tick p, ready at tick r and complete at tick c
+abbrev pub row_line : ℕ → ℕ → ℕ → ℕ → ℕ → List ℕ
+row_line n address p r c =
+    codes "ROW " ++ decimal n ++ codes " " ++ half_address address
+    ++ codes " P " ++ decimal p ++ codes " R " ++ decimal r ++ codes " C " ++ decimal c ++ lf
+
+-- a dropped entry, prepared at tick p
+abbrev pub drop_line : ℕ → ℕ → List ℕ
+drop_line address p = codes "DROP " ++ half_address address ++ codes " P " ++ decimal p ++ lf
+
+-- the state at tick t: q instructions done and k entries ahead
+abbrev pub snap_line : ℕ → ℕ → ℕ → List ℕ
+snap_line t q k =
+    codes "SNAP " ++ decimal t ++ codes " DONE " ++ decimal q ++ codes " AHEAD " ++ decimal k ++ lf
+
+-- the index word that a level changed early, with what it held before, or none
+abbrev pub change_text : Option (ℕ × ℕ) → List ℕ
+change_text None = codes "-"
+change_text (Some change) = decimal change.0 ++ codes " OLD " ++ hex_word change.1
+
+-- a level: its instruction's address, its early change, and whether its result is ready
+abbrev pub lev_line : ℕ → Option (ℕ × ℕ) → Bool → List ℕ
+lev_line address index ready =
+    codes "LEV " ++ half_address address ++ codes " X " ++ change_text index
+    ++ codes " READY " ++ flag ready ++ lf

@@ -1,18 +1,28 @@
 //! The lines that tell of the job as it was handed in.
 ghost use Rattle.std.specs.Prelude.{◌≡◌};
-ghost use Rattle.st_report.specs.Line.{fault_line};
+ghost use Rattle.st_report.specs.Line.{fault_line, soak_line};
 
 use crate::Line;
-use crate::pieces::{ended, push_decimal};
+use crate::pieces::{begun, ended, push_decimal, push_short_decimal};
 use arrayvec::ArrayString;
+
+/// `SOAK number cards`: the seed of a made deck, and how many drawn cards it has.
+pub fn line_soak(number: u64, cards: u32) -> Line
+    ensures { result.bytes ≡ soak_line number cards }
+{
+    let mut line = begun("SOAK ");
+    push_decimal(&mut line, number);
+    line.push_str(" ");
+    push_short_decimal(&mut line, cards);
+    ended(line)
+}
 
 /// `CARD n FAULT`: the card that is refused, counted from 1, and the name of its fault.
 pub fn line_fault(card: u32, name: &ArrayString<32>) -> Line
     ensures { result.bytes ≡ fault_line card name.now.bytes }
 {
-    let mut line = Line::new();
-    line.push_str("CARD ");
-    push_decimal(&mut line, u64::from(card));
+    let mut line = begun("CARD ");
+    push_short_decimal(&mut line, card);
     line.push_str(" ");
     line.push_str(name.as_str());
     ended(line)

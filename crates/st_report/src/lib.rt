@@ -1,15 +1,21 @@
-//! The lines of the report: one call a line, each with its line end.
+//! The lines of the report and of the listing: one call a line, each with its line end.
 #![tactic(auto)]
 
+mod cards;
 mod job;
+mod levels;
 mod pieces;
 mod run;
 mod state_block;
 
 use arrayvec::ArrayString;
-pub use job::line_fault;
-pub use run::{line_done, line_end, line_int};
-pub use state_block::{line_en, line_ic, line_reg};
+pub use cards::{line_listed, line_symbol};
+pub use job::{line_fault, line_soak};
+pub use levels::{line_drop, line_lev, line_row, line_snap};
+pub use run::{
+    line_back, line_done, line_end, line_int, line_prt, line_ticks, line_time, line_trc,
+};
+pub use state_block::{line_dump, line_en, line_ic, line_mem, line_reg};
 
-/// One line of the report with its line end. Every line has at most 128 bytes.
+/// One line with its line end, of at most 128 bytes.
 pub type Line = ArrayString<128>;

@@ -1,22 +1,51 @@
 //! The pieces that lines are put together from.
-ghost use Rattle.std.specs.Prelude.{◌≡◌, ◌+◌, ◌<◌, ◌≤◌, ◌++◌, decimal};
+ghost use Rattle.std.specs.Prelude.{◌≡◌, ◌+◌, ◌*◌, ◌<◌, ◌≤◌, ◌++◌, length, decimal};
 ghost use Rattle.arrayvec.specs.ArrayString.{array_string_len};
-ghost use Rattle.st_report.specs.Line.{lf, hex_digit, hex_text, two_digits, bit_address};
+ghost use Rattle.st_report.specs.Line.{lf, hex_digit, hex_text, two_digits, place, bit_address, half_address, flag};
 
 use crate::Line;
 use itoa::Buffer;
 
+// A line that begins with this word.
+pub(crate) fn begun(word: &str) -> Line
+    requires { length word.now ≤ 128 }
+    ensures { result.bytes ≡ word.now }
+{
+    let mut line = Line::new();
+    line.push_str(word);
+    line
+}
+
 // Appends a number in decimal digits.
 pub(crate) fn push_decimal(line: &mut Line, n: u64)
-    requires { array_string_len line.old ≤ 108 }
+    requires { array_string_len line.old + 20 ≤ 128 }
     ensures bytes { line.new.bytes ≡ line.old.bytes ++ decimal n }
     ensures room { array_string_len line.new ≤ array_string_len line.old + 20 }
 {
     line.push_str(Buffer::new().format(n));
 }
 
+// Appends a number of at most ten decimal digits.
+pub(crate) fn push_short_decimal(line: &mut Line, n: u32)
+    requires { array_string_len line.old + 10 ≤ 128 }
+    ensures bytes { line.new.bytes ≡ line.old.bytes ++ decimal n }
+    ensures room { array_string_len line.new ≤ array_string_len line.old + 10 }
+{
+    line.push_str(Buffer::new().format(n));
+}
+
+// Appends a number below 100 as two decimal digits.
+pub(crate) fn push_two_digits(line: &mut Line, n: u8)
+    requires { array_string_len line.old + 20 ≤ 128 }
+    ensures bytes { line.new.bytes ≡ line.old.bytes ++ two_digits n }
+    ensures room { array_string_len line.new ≤ array_string_len line.old + 20 }
+{
+    push_short_decimal(line, u32::from(n / 10));
+    push_short_decimal(line, u32::from(n % 10));
+}
+
 // The hexadecimal digit of a number below 16.
-pub(crate) fn hex_char(digit: u8) -> char
+fn hex_char(digit: u8) -> char
     requires { digit < 16 }
     ensures value { result ≡ hex_digit digit }
     ensures ascii { result < 128 }
@@ -42,33 +71,49 @@ pub(crate) fn push_hex(line: &mut Line, digits: u8, n: u64)
     line.push(hex_char((n % 16) as u8));
 }
 
-// Appends a bit address as word.bit.
-pub(crate) fn push_bit_address(line: &mut Line, address: u32)
-    requires { array_string_len line.old ≤ 80 }
-    ensures bytes { line.new.bytes ≡ line.old.bytes ++ bit_address address }
-    ensures room { array_string_len line.new ≤ array_string_len line.old + 41 }
+// Appends a bit of a word as word.bit.
+fn push_place(line: &mut Line, word: u32, bit: u8)
+    requires { array_string_len line.old + 14 ≤ 128 }
+    ensures bytes { line.new.bytes ≡ line.old.bytes ++ place word bit }
+    ensures room { array_string_len line.new ≤ array_string_len line.old + 14 }
 {
-    push_decimal(line, u64::from(address / 64));
+    push_short_decimal(line, word);
     line.push_str(".");
-    push_decimal(line, u64::from(address % 64));
+    line.push_str(Buffer::new().format(bit));
 }
 
-// Appends a number below 100 as two decimal digits.
-pub(crate) fn push_two_digits(line: &mut Line, n: u8)
-    requires { array_string_len line.old ≤ 80 }
-    ensures bytes { line.new.bytes ≡ line.old.bytes ++ two_digits n }
-    ensures room { array_string_len line.new ≤ array_string_len line.old + 40 }
+// Appends a bit address.
+pub(crate) fn push_bit_address(line: &mut Line, address: u32)
+    requires { array_string_len line.old + 14 ≤ 128 }
+    ensures bytes { line.new.bytes ≡ line.old.bytes ++ bit_address address }
+    ensures room { array_string_len line.new ≤ array_string_len line.old + 14 }
 {
-    push_decimal(line, u64::from(n / 10));
-    push_decimal(line, u64::from(n % 10));
+    push_place(line, address / 64, (address % 64) as u8);
+}
+
+// Appends a half-word address.
+pub(crate) fn push_half_address(line: &mut Line, address: u32)
+    requires { array_string_len line.old + 14 ≤ 128 }
+    ensures bytes { line.new.bytes ≡ line.old.bytes ++ half_address address }
+    ensures room { array_string_len line.new ≤ array_string_len line.old + 14 }
+{
+    push_place(line, address / 2, 32 * (address % 2) as u8);
+}
+
+// Appends 1 for yes, 0 for no.
+pub(crate) fn push_flag(line: &mut Line, yes: bool)
+    requires { array_string_len line.old < 128 }
+    ensures bytes { line.new.bytes ≡ line.old.bytes ++ flag yes }
+    ensures room { array_string_len line.new ≡ array_string_len line.old + 1 }
+{
+    line.push_str(if yes { "1" } else { "0" });
 }
 
 // The line with its line end.
-pub(crate) fn ended(line: Line) -> Line
+pub(crate) fn ended(mut line: Line) -> Line
     requires { array_string_len line < 128 }
     ensures { result.bytes ≡ line.bytes ++ lf }
 {
-    let mut line = line;
     line.push_str("\n");
     line
 }

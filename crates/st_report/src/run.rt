@@ -1,26 +1,28 @@
 //! The lines that tell of the run.
 ghost use Rattle.std.specs.Prelude.{◌≡◌};
-ghost use Rattle.st_report.specs.Line.{end_line, done_line, int_line};
+ghost use Rattle.st_report.specs.Line.{trc_line, prt_line, int_line, time_line, end_line, done_line, ticks_line, back_line};
 
 use crate::Line;
-use crate::pieces::{ended, push_decimal};
+use crate::pieces::{begun, ended, push_decimal, push_half_address, push_short_decimal};
+use arrayvec::ArrayString;
 
-/// `END WAIT` where the machine waits and nothing is left to come, else `END BUDGET`.
-pub fn line_end(waits: bool) -> Line
-    ensures { result.bytes ≡ end_line waits }
+/// `TRC n a`: the n-th instruction is done. The address is a half-word address.
+pub fn line_trc(n: u64, address: u32) -> Line
+    ensures { result.bytes ≡ trc_line n address }
 {
-    let mut line = Line::new();
-    line.push_str(if waits { "END WAIT" } else { "END BUDGET" });
+    let mut line = begun("TRC ");
+    push_decimal(&mut line, n);
+    line.push_str(" ");
+    push_half_address(&mut line, address);
     ended(line)
 }
 
-/// `DONE m`: the number of instructions done at the end.
-pub fn line_done(m: u64) -> Line
-    ensures { result.bytes ≡ done_line m }
+/// `PRT text`: a line that the printer prints. The text may be empty.
+pub fn line_prt(text: &ArrayString<64>) -> Line
+    ensures { result.bytes ≡ prt_line text.now.bytes }
 {
-    let mut line = Line::new();
-    line.push_str("DONE ");
-    push_decimal(&mut line, m);
+    let mut line = begun("PRT ");
+    line.push_str(text.as_str());
     ended(line)
 }
 
@@ -28,10 +30,52 @@ pub fn line_done(m: u64) -> Line
 pub fn line_int(i: u8, n: u64) -> Line
     ensures { result.bytes ≡ int_line i n }
 {
-    let mut line = Line::new();
-    line.push_str("INT ");
-    push_decimal(&mut line, u64::from(i));
+    let mut line = begun("INT ");
+    push_short_decimal(&mut line, u32::from(i));
     line.push_str(" AFTER ");
     push_decimal(&mut line, n);
+    ended(line)
+}
+
+/// `TIME t`: the tick at which an interrupt is taken.
+pub fn line_time(t: u64) -> Line
+    ensures { result.bytes ≡ time_line t }
+{
+    let mut line = begun("TIME ");
+    push_decimal(&mut line, t);
+    ended(line)
+}
+
+/// `END WAIT` where the machine waits and nothing is left to come, else `END BUDGET`.
+pub fn line_end(waits: bool) -> Line
+    ensures { result.bytes ≡ end_line waits }
+{
+    ended(begun(if waits { "END WAIT" } else { "END BUDGET" }))
+}
+
+/// `DONE m`: the number of instructions done at the end.
+pub fn line_done(m: u64) -> Line
+    ensures { result.bytes ≡ done_line m }
+{
+    let mut line = begun("DONE ");
+    push_decimal(&mut line, m);
+    ended(line)
+}
+
+/// `TICKS t`: the tick of the last completion.
+pub fn line_ticks(t: u64) -> Line
+    ensures { result.bytes ≡ ticks_line t }
+{
+    let mut line = begun("TICKS ");
+    push_decimal(&mut line, t);
+    ended(line)
+}
+
+/// `BACK j`: how many instructions the state block that follows lies before the end.
+pub fn line_back(j: u8) -> Line
+    ensures { result.bytes ≡ back_line j }
+{
+    let mut line = begun("BACK ");
+    push_short_decimal(&mut line, u32::from(j));
     ended(line)
 }

@@ -1,18 +1,18 @@
 //! The lines of the state block.
-ghost use Rattle.std.specs.Prelude.{◌≡◌, ◌^◌, ◌<◌};
-ghost use Rattle.st_report.specs.Line.{ic_line, en_line, reg_line};
+ghost use Rattle.std.specs.Prelude.{◌≡◌};
+ghost use Rattle.st_report.specs.Line.{ic_line, en_line, reg_line, dump_line, mem_line};
 
 use crate::Line;
-use crate::pieces::{ended, push_bit_address, push_hex, push_two_digits};
+use crate::pieces::{
+    begun, ended, push_flag, push_half_address, push_hex, push_short_decimal, push_two_digits,
+};
 
 /// `IC a`: the instruction counter, a half-word address, as word.bit.
 pub fn line_ic(ic: u32) -> Line
-    requires { ic < 2 ^ 19 }
     ensures { result.bytes ≡ ic_line ic }
 {
-    let mut line = Line::new();
-    line.push_str("IC ");
-    push_bit_address(&mut line, 32 * ic);
+    let mut line = begun("IC ");
+    push_half_address(&mut line, ic);
     ended(line)
 }
 
@@ -20,19 +20,39 @@ pub fn line_ic(ic: u32) -> Line
 pub fn line_en(enabled: bool) -> Line
     ensures { result.bytes ≡ en_line enabled }
 {
-    let mut line = Line::new();
-    line.push_str(if enabled { "EN 1" } else { "EN 0" });
+    let mut line = begun("EN ");
+    push_flag(&mut line, enabled);
     ended(line)
 }
 
 /// `REG nn hhhhhhhhhhhhhhhh`: a register, a word address below 32, and its word.
 pub fn line_reg(w: u8, word: u64) -> Line
-    requires { w < 32 }
     ensures { result.bytes ≡ reg_line w word }
 {
-    let mut line = Line::new();
-    line.push_str("REG ");
+    let mut line = begun("REG ");
     push_two_digits(&mut line, w);
+    line.push_str(" ");
+    push_hex(&mut line, 16, word);
+    ended(line)
+}
+
+/// `DUMP from to`: the first and the last word address of a dump.
+pub fn line_dump(from: u32, to: u32) -> Line
+    ensures { result.bytes ≡ dump_line from to }
+{
+    let mut line = begun("DUMP ");
+    push_short_decimal(&mut line, from);
+    line.push_str(" ");
+    push_short_decimal(&mut line, to);
+    ended(line)
+}
+
+/// `MEM w hhhhhhhhhhhhhhhh`: a word address and its word.
+pub fn line_mem(w: u32, word: u64) -> Line
+    ensures { result.bytes ≡ mem_line w word }
+{
+    let mut line = begun("MEM ");
+    push_short_decimal(&mut line, w);
     line.push_str(" ");
     push_hex(&mut line, 16, word);
     ended(line)

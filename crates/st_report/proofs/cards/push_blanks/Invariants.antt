@@ -1,0 +1,7 @@
+-- As many blanks stand behind the line as rounds are done.
+use Rattle.std.proofs.Common.{◌≡◌, ◌++◌}
+use Rattle.st_report.specs.Listing.{blanks}
+use Rattle.st_report.proofs.cards.push_blanks.Given as goal
+
+abbrev pub invariant-loop : goal.invariant-loop
+invariant-loop l = l.line.bytes ≡ l.initial.line.bytes ++ blanks l.counter

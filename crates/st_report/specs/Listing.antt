@@ -1,0 +1,49 @@
+-- The bytes of the lines of the listing, their line ends included.
+use Rattle.std.specs.Prelude.{ℕ, ◌-◌, ◌*◌, ◌^◌, ◌≤◌, ◌==◌, List, [], ◌++◌, length, take, replicate, IsAscii, codes, decimal, Option, Some, None}
+use Rattle.std.specs.Int.{div_ceil}
+use Rattle.std.specs.List.{suffix_len}
+use Rattle.st_report.specs.Line.{lf, hex_text, bit_address}
+
+-- n blanks
+abbrev pub blanks : ℕ → List ℕ
+blanks n = replicate n 32
+
+-- the text at the right of n places
+abbrev pub right_in : ℕ → List ℕ → List ℕ
+right_in n text = blanks (n - length text) ++ text
+
+-- the text at the left of n places
+abbrev pub left_in : ℕ → List ℕ → List ℕ
+left_in n text = text ++ blanks (n - length text)
+
+-- the text without the blanks at its end
+abbrev pub without_end_blanks : List ℕ → List ℕ
+without_end_blanks text = take (length text - suffix_len (λ c. c == 32) text) text
+
+-- n bits in hexadecimal, with zeros on the right to whole digits
+abbrev pub laid_text : ℕ → ℕ → List ℕ
+laid_text bits n = let digits = div_ceil n 4 in hex_text digits (bits * 2 ^ (4 * digits - n))
+
+-- the location of a card, or none
+abbrev pub location_text : Option ℕ → List ℕ
+location_text None = []
+location_text (Some location) = bit_address location
+
+-- the text of a card: at most 80 bytes, each of them ASCII
+pub record IsCardText (text : List ℕ) : Type 0 where
+  pub short : length text ≤ 80
+  pub ascii : IsAscii text
+
+-- a card in columns: its number, its location, the n bits that it lays and its text
+abbrev pub columns : ℕ → Option ℕ → ℕ → ℕ → List ℕ → List ℕ
+columns card location bits n text =
+    right_in 5 (decimal card) ++ codes " " ++ right_in 9 (location_text location)
+    ++ codes " " ++ left_in 16 (laid_text bits n) ++ codes " " ++ text
+
+-- the line of a card
+abbrev pub listed_line : ℕ → Option ℕ → ℕ → ℕ → List ℕ → List ℕ
+listed_line card location bits n text = without_end_blanks (columns card location bits n text) ++ lf
+
+-- a name, without the blanks that fill it, and its value
+abbrev pub symbol_line : List ℕ → ℕ → List ℕ
+symbol_line name value = codes "SYM " ++ without_end_blanks name ++ codes " " ++ bit_address value ++ lf

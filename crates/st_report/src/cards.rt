@@ -1,0 +1,127 @@
+//! The lines of the listing.
+ghost use Rattle.std.specs.Prelude.{◌≡◌, ◌+◌, ◌-◌, ◌^◌, ◌<◌, ◌≤◌, ◌++◌, length, take, slice_index, IsAscii, decimal, max};
+ghost use Rattle.arrayvec.specs.ArrayString.{array_string_len};
+ghost use Rattle.st_report.specs.Listing.{blanks, right_in, left_in, without_end_blanks, laid_text, location_text, IsCardText, listed_line, symbol_line};
+
+use crate::Line;
+use crate::pieces::{begun, ended, push_bit_address, push_hex, push_short_decimal};
+use itoa::Buffer;
+use std::str;
+
+// Appends bytes as they stand.
+fn push_text(line: &mut Line, text: &[u8])
+    requires ascii { IsAscii text.now }
+    requires room { array_string_len line.old + length text.now ≤ 128 }
+    ensures { line.new.bytes ≡ line.old.bytes ++ text.now }
+{
+    line.push_str(str::from_utf8(text).unwrap());
+}
+
+// Appends blanks.
+fn push_blanks(line: &mut Line, count: usize)
+    requires { array_string_len line.old + count ≤ 128 }
+    ensures { line.new.bytes ≡ line.old.bytes ++ blanks count }
+{
+    for _ in 0..count {
+        line.push_str(" ");
+    }
+}
+
+// Appends a text at the right of so many places.
+fn push_right(line: &mut Line, places: usize, text: &str)
+    requires { array_string_len line.old + max places (length text.now) ≤ 128 }
+    ensures bytes { line.new.bytes ≡ line.old.bytes ++ right_in places text.now }
+    ensures room { array_string_len line.new ≡ array_string_len line.old + max places (length text.now) }
+{
+    push_blanks(line, places.saturating_sub(text.len()));
+    line.push_str(text);
+}
+
+// Appends a text at the left of so many places.
+fn push_left(line: &mut Line, places: usize, text: &str)
+    requires { array_string_len line.old + max places (length text.now) ≤ 128 }
+    ensures bytes { line.new.bytes ≡ line.old.bytes ++ left_in places text.now }
+    ensures room { array_string_len line.new ≡ array_string_len line.old + max places (length text.now) }
+{
+    line.push_str(text);
+    push_blanks(line, places.saturating_sub(text.len()));
+}
+
+// How many bytes stand before the blanks at the end.
+fn filled_len(text: &[u8]) -> usize
+    ensures within { result ≤ length text.now }
+    ensures value { take result text.now ≡ without_end_blanks text.now }
+    ensures blank_next { result < length text.now → slice_index text.now result ≡ 32 }
+{
+    text.iter()
+        .rposition(|byte| *byte != b' ')
+        .map_or(0, |last| last + 1)
+}
+
+// Drops the blanks at the line's end.
+fn drop_end_blanks(line: &mut Line)
+    ensures bytes { line.new.bytes ≡ without_end_blanks line.old.bytes }
+    ensures room { array_string_len line.new ≤ array_string_len line.old }
+{
+    let filled = filled_len(line.as_str().as_bytes());
+    line.truncate(filled);
+}
+
+// The location of a card as word.bit, or nothing.
+fn shown_location(location: Option<u32>) -> Line
+    ensures bytes { result.bytes ≡ location_text location }
+    ensures room { array_string_len result ≤ 14 }
+{
+    let mut shown = Line::new();
+    if let Some(location) = location {
+        push_bit_address(&mut shown, location);
+    }
+    shown
+}
+
+// Bits in hexadecimal, with zeros on the right to whole digits.
+fn shown_bits(bits: u64, length: u8) -> Line
+    requires whole { length ≤ 64 }
+    requires fits { bits < 2 ^ length }
+    ensures bytes { result.bytes ≡ laid_text bits length }
+    ensures room { array_string_len result ≤ 16 }
+{
+    let digits = length.div_ceil(4);
+    let mut shown = Line::new();
+    push_hex(&mut shown, digits, bits << (4 * digits - length));
+    shown
+}
+
+/// A line of the listing: the card's number, counted from 1, right in 5 places; its location, a
+/// bit address, as word.bit right in 9; the bits that it lays in hexadecimal, left in 16, with zeros
+/// on the right to whole digits; and its text. A blank stands between two of them; the blanks at
+/// the line's end are dropped. `bits` are the laid bits as one number, `length` is how many there are.
+pub fn line_listed(card: u32, location: Option<u32>, bits: u64, length: u8, text: &[u8]) -> Line
+    requires whole { length ≤ 64 }
+    requires fits { bits < 2 ^ length }
+    requires card_text { IsCardText text.now }
+    ensures { result.bytes ≡ listed_line card location bits length text.now }
+{
+    let mut line = Line::new();
+    push_right(&mut line, 5, Buffer::new().format(card));
+    line.push_str(" ");
+    push_right(&mut line, 9, shown_location(location).as_str());
+    line.push_str(" ");
+    push_left(&mut line, 16, shown_bits(bits, length).as_str());
+    line.push_str(" ");
+    push_text(&mut line, text);
+    drop_end_blanks(&mut line);
+    ended(line)
+}
+
+/// `SYM name word.bit`: a name, filled with blanks to eight bytes, and its value, a bit address.
+pub fn line_symbol(name: [u8; 8], value: u32) -> Line
+    requires { IsAscii name }
+    ensures { result.bytes ≡ symbol_line name value }
+{
+    let mut line = begun("SYM ");
+    push_text(&mut line, &name[..filled_len(&name)]);
+    line.push_str(" ");
+    push_bit_address(&mut line, value);
+    ended(line)
+}

@@ -1,0 +1,82 @@
+//! The lines of the chart and of a snapshot.
+ghost use Rattle.std.specs.Prelude.{◌≡◌, ◌+◌, ◌≤◌, ◌++◌};
+ghost use Rattle.arrayvec.specs.ArrayString.{array_string_len};
+ghost use Rattle.st_report.specs.Line.{row_line, drop_line, snap_line, change_text, lev_line};
+
+use crate::Line;
+use crate::pieces::{
+    begun, ended, push_decimal, push_flag, push_half_address, push_hex, push_short_decimal,
+};
+
+/// `ROW n a P p R r C c`: the n-th instruction done, its half-word address, and the ticks at
+/// which it was prepared, its result was ready, and it was complete.
+pub fn line_row(n: u64, address: u32, p: u64, r: u64, c: u64) -> Line
+    ensures { result.bytes ≡ row_line n address p r c }
+{
+    let mut line = begun("ROW ");
+    push_decimal(&mut line, n);
+    line.push_str(" ");
+    push_half_address(&mut line, address);
+    line.push_str(" P ");
+    push_decimal(&mut line, p);
+    line.push_str(" R ");
+    push_decimal(&mut line, r);
+    line.push_str(" C ");
+    push_decimal(&mut line, c);
+    ended(line)
+}
+
+/// `DROP a P p`: a dropped entry, its half-word address, and the tick at which it was prepared.
+pub fn line_drop(address: u32, p: u64) -> Line
+    ensures { result.bytes ≡ drop_line address p }
+{
+    let mut line = begun("DROP ");
+    push_half_address(&mut line, address);
+    line.push_str(" P ");
+    push_decimal(&mut line, p);
+    ended(line)
+}
+
+/// `SNAP t DONE q AHEAD k`: at tick t, q instructions are done and k entries stand ahead.
+pub fn line_snap(t: u64, q: u64, k: u8) -> Line
+    ensures { result.bytes ≡ snap_line t q k }
+{
+    let mut line = begun("SNAP ");
+    push_decimal(&mut line, t);
+    line.push_str(" DONE ");
+    push_decimal(&mut line, q);
+    line.push_str(" AHEAD ");
+    push_short_decimal(&mut line, u32::from(k));
+    ended(line)
+}
+
+// Appends the index word that was changed early with what it held before, or a dash.
+fn push_change(line: &mut Line, index: Option<(u8, u64)>)
+    requires { array_string_len line.old + 31 ≤ 128 }
+    ensures bytes { line.new.bytes ≡ line.old.bytes ++ change_text index }
+    ensures room { array_string_len line.new ≤ array_string_len line.old + 31 }
+{
+    match index {
+        None => line.push_str("-"),
+        Some((number, old)) => {
+            push_short_decimal(line, u32::from(number));
+            line.push_str(" OLD ");
+            push_hex(line, 16, old);
+        }
+    }
+}
+
+/// `LEV a X x OLD hhhhhhhhhhhhhhhh READY r`, or `LEV a X - READY r`: an entry that stands ahead.
+/// The address is a half-word address; the index is the number, below 16, of the index word that
+/// the entry changed early, and the word before that change. `ready` says that its result is.
+pub fn line_lev(address: u32, index: Option<(u8, u64)>, ready: bool) -> Line
+    ensures { result.bytes ≡ lev_line address index ready }
+{
+    let mut line = begun("LEV ");
+    push_half_address(&mut line, address);
+    line.push_str(" X ");
+    push_change(&mut line, index);
+    line.push_str(" READY ");
+    push_flag(&mut line, ready);
+    ended(line)
+}
