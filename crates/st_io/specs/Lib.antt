@@ -1,3 +1,4 @@
 pub mod Count
 pub mod Input
 pub mod Output
+pub mod Memory

@@ -2,11 +2,14 @@
 //! source and write a whole piece. `docs/edge.md` has the rules.
 #![tactic(auto)]
 
+mod buffer;
 mod sink;
 mod source;
+mod sure;
 
 pub use sink::{Sink, write_all};
 pub use source::{ReadError, Source, read_all};
+pub use sure::{SureSink, SureSource};
 
 /// A read or a write failed. The count of faults of its source or sink rose.
 #[derive(Clone, Copy, Debug, PartialEq, Eq)]
