@@ -3,10 +3,12 @@
 #![tactic(auto)]
 
 mod buffer;
+mod mem;
 mod sink;
 mod source;
 mod sure;
 
+pub use mem::{MemSink, MemSource};
 pub use sink::{Sink, write_all};
 pub use source::{ReadError, Source, read_all};
 pub use sure::{SureSink, SureSource};
