@@ -2,3 +2,4 @@ pub mod Count
 pub mod Input
 pub mod Output
 pub mod Memory
+pub mod Devices
