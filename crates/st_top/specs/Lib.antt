@@ -1,5 +1,3 @@
 pub mod Command
 pub mod Print
 pub mod Report
-pub mod Output
-pub mod Answers
