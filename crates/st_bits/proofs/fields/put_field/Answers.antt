@@ -15,7 +15,7 @@ with_part-requires-else-count-here-clause-fits c =
 
 pub returns-then-count-here-clause-put : goal.returns-then-count-here-clause-put
 returns-then-count-here-clause-put c =
-    rw c.with_part.ensures
+    rw c.with_part.ensures.value
     (sym
     (put-at_word c.args.words.now c.args.a c.args.n c.args.bits c.requires.some (omega arith)
     c.requires.inside c.requires.fits))
@@ -31,11 +31,11 @@ returns-else-count-here-clause-put c =
     let last : c.part.result ≡ c.args.bits % 2 ^ rest =
     c.part.ensures.value ∙ part-last c.args.bits rest (omega arith) in
     let second : c.with_part-else-count-here-2.result ≡ with_part (get_or words (w + 1) 0) 0 rest (c.args.bits % 2 ^ rest) =
-    c.with_part-else-count-here-2.ensures
+    c.with_part-else-count-here-2.ensures.value
     ∙ ap (λ x. with_part x 0 rest c.part.result)
     (get_or-set_other words w (w + 1) c.with_part-else-count-here.result 0 apart)
     ∙ ap (λ v. with_part (get_or words (w + 1) 0) 0 rest v) last in
     ap (λ y. all_bits (set (set words w y) (w + 1) c.with_part-else-count-here-2.result))
-    c.with_part-else-count-here.ensures
+    c.with_part-else-count-here.ensures.value
     ∙ ap (λ z. all_bits (set (set words w first) (w + 1) z)) second
     ∙ sym (put-at_two words c.args.a c.args.n c.args.bits (omega arith) c.requires.few c.requires.inside c.requires.fits)
