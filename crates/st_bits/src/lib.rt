@@ -14,3 +14,6 @@ pub use operations::{BranchOp, ConnKind, HalfOp, VflOp};
 pub use parts::{part, with_part};
 pub use register::fix_register;
 pub use storage::{Ind, NoMemory, WORDS};
+
+#[cfg(test)]
+mod tests;

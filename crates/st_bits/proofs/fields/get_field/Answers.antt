@@ -1,5 +1,4 @@
-use Rattle.std.proofs.Common.{◌≡◌, ℕ, ◌+◌, ◌-◌, ◌*◌, ◌/◌, ◌%◌, ◌<◌, ◌≤◌, ◌^◌, sym, ◌∙◌, ap, subst, arith, slice_index}
-use Rattle.st_bits.specs.Bits.{part}
+use Rattle.std.proofs.Common.{◌-◌, ◌%◌, ◌≤◌, sym, ◌∙◌, arith}
 use Rattle.st_bits.proofs.WordFields.{num-at_word, num-at_two, below-joined}
 use Rattle.std.proofs.Math.Pow.{pow_mono}
 use Rattle.st_bits.proofs.fields.get_field.Goals as goal

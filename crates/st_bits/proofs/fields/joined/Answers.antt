@@ -1,4 +1,4 @@
-use Rattle.std.proofs.Common.{◌≡◌, ◌*◌, ◌%◌, ◌^◌, ◌-◌, ◌+◌, ◌≤◌, ◌∙◌, ap, arith, bit_or}
+use Rattle.std.proofs.Common.{◌-◌, ◌+◌, ◌≤◌, ◌∙◌, ap, arith, bit_or}
 use Rattle.std.proofs.lemmas.Nat.{shl_whole, or_shifted}
 use Rattle.st_bits.proofs.fields.joined.Goals as goal
 
