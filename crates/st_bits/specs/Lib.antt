@@ -1,0 +1,4 @@
+pub mod Bits
+pub mod IndexWord
+pub mod Registers
+pub mod Storage

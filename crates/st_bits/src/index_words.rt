@@ -1,0 +1,55 @@
+ghost use Rattle.std.specs.Prelude.{◌≡◌, ◌<◌, ◌≤◌, ◌^◌, ◌≤ℤ◌, pos, neg_ℤ, unsigned_abs};
+ghost use Rattle.st_bits.specs.IndexWord.{value_of as value, count_of as count, refill_of as refill, with_value as value_put, with_count as count_put, with_refill as refill_put};
+
+use crate::parts::{part, with_part};
+
+/// The signed value of an index word.
+pub fn value_of(x: u64) -> i32
+    ensures { result ≡ value x }
+{
+    let magnitude = part(x, 0, 24) as i32;
+    if part(x, 24, 1) == 0 {
+        magnitude
+    } else {
+        -magnitude
+    }
+}
+
+/// The count of an index word, below 2^18.
+pub fn count_of(x: u64) -> u32
+    ensures { result ≡ count x }
+{
+    part(x, 28, 18) as u32
+}
+
+/// The refill address of an index word, a word address below 2^18.
+pub fn refill_of(x: u64) -> u32
+    ensures { result ≡ refill x }
+{
+    part(x, 46, 18) as u32
+}
+
+/// The index word with `r` as its value: the magnitude modulo 2^24, and the sign minus where r is below 0.
+pub fn with_value(x: u64, r: i32) -> u64
+    requires { unsigned_abs r ≤ 2 ^ 28 }
+    ensures { result ≡ value_put x r }
+{
+    let magnitude = u64::from(r.unsigned_abs()) % (1 << 24);
+    with_part(with_part(x, 0, 24, magnitude), 24, 1, u64::from(r < 0))
+}
+
+/// The index word with the count `c`, below 2^18.
+pub fn with_count(x: u64, c: u32) -> u64
+    requires { c < 2 ^ 18 }
+    ensures { result ≡ count_put x c }
+{
+    with_part(x, 28, 18, u64::from(c))
+}
+
+/// The index word with the refill address `a`, a word address below 2^18.
+pub fn with_refill(x: u64, a: u32) -> u64
+    requires { a < 2 ^ 18 }
+    ensures { result ≡ refill_put x a }
+{
+    with_part(x, 46, 18, u64::from(a))
+}

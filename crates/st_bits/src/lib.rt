@@ -1,0 +1,14 @@
+//! Words, fields, register words and index words.
+#![tactic(auto)]
+
+mod index_words;
+mod operations;
+mod parts;
+mod register;
+mod storage;
+
+pub use index_words::{count_of, refill_of, value_of, with_count, with_refill, with_value};
+pub use operations::{BranchOp, ConnKind, HalfOp, VflOp};
+pub use parts::{part, with_part};
+pub use register::fix_register;
+pub use storage::{Ind, NoMemory, WORDS};

@@ -1,0 +1,34 @@
+//! Runs of bits within one word, named by the first bit, 0 leftmost, and their number.
+ghost use Rattle.std.specs.Prelude.{◌≡◌, ◌+◌, ◌<◌, ◌≤◌, ◌^◌};
+ghost use Rattle.st_bits.specs.Bits.{part as part_of, with_part as with, kept as kept_of};
+
+/// The number of `count` bits of a word from bit `first` on.
+pub fn part(word: u64, first: u32, count: u32) -> u64
+    requires some { 1 ≤ count }
+    requires inside { first + count ≤ 64 }
+    ensures value { result ≡ part_of word first count }
+    ensures bound { result < 2 ^ count }
+{
+    word << first >> (64 - count)
+}
+
+/// The word with zeros in place of all but `count` bits from bit `first` on.
+pub fn kept(word: u64, first: u32, count: u32) -> u64
+    requires some { 1 ≤ count }
+    requires inside { first + count ≤ 64 }
+    ensures { result ≡ kept_of word first count }
+{
+    part(word, first, count) << (64 - first - count)
+}
+
+/// The word with `count` bits from bit `first` on replaced by `bits`.
+pub fn with_part(word: u64, first: u32, count: u32, bits: u64) -> u64
+    requires some { 1 ≤ count }
+    requires inside { first + count ≤ 64 }
+    requires fits { bits < 2 ^ count }
+    ensures { result ≡ with word first count bits }
+{
+    let shift = 64 - first - count;
+    let mask = u64::MAX >> (64 - count) << shift;
+    (word & !mask) | (bits << shift)
+}

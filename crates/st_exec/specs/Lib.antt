@@ -1,0 +1,3 @@
+pub mod Instructions
+pub mod Step
+pub mod Run

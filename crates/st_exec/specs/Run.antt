@@ -1,0 +1,147 @@
+-- A whole run, one instruction after the other: signals and orders take effect between two of them.
+use Rattle.std.specs.Prelude.{ℕ, zero, suc, ◌+◌, Bool, true, false, nat_le, if◌then◌else◌, List, [], ◌∷◌, ◌++◌, Option, None, Some}
+use Rattle.st_state.specs.Machine.{Machine, word, stored}
+use Rattle.st_state.specs.Interrupts.{signalled}
+use Rattle.st_state.specs.Orders.{is_due, next_device}
+use Rattle.st_state.specs.declared.devices.Order.{Order}
+use Rattle.st_state.specs.declared.devices.Device.{Device}
+use Rattle.st_state.specs.declared.devices.Device.TheVariants.{Reader, Printer}
+use Rattle.st_exec.specs.Step.{rests, interrupt, step}
+
+-- a signal turns its indicator on when so many instructions are done
+pub record Signal : Type 0 where
+  pub count : ℕ
+  pub indicator : ℕ
+
+-- a run at a moment: the machine, and the signals and the reader's cards that are still to come
+pub record Scene : Type 0 where
+  pub machine : Machine
+  pub signals : List Signal
+  pub cards : List (List ℕ)
+
+-- what a report shows of a run: eight words are printed, an interrupt is taken, the run ends
+pub data Happening : Type 0 where
+  Prints : Machine → List ℕ → Happening
+  Interrupts : Machine → ℕ → Happening
+  Ends : Machine → Bool → Happening
+
+-- a scene, and what happened on the way to it
+pub record Reached : Type 0 where
+  pub scene : Scene
+  pub happened : List Happening
+
+-- the state after words are written from word w on
+abbrev pub all_stored : Machine → ℕ → List ℕ → Machine
+all_stored s w [] = s
+all_stored s w (x ∷ xs) = all_stored (stored s w x) (w + 1) xs
+
+-- n words from word w on
+abbrev pub words_from : Machine → ℕ → ℕ → List ℕ
+words_from s w zero = []
+words_from s w (suc n) = word s w ∷ words_from s (w + 1) n
+
+-- the signals at the front that are due come, one after another
+abbrev pub with_due_signals : Machine → List Signal → List (List ℕ) → Scene
+with_due_signals s [] cards = record { machine = s; signals = []; cards = cards }
+with_due_signals s (x ∷ xs) cards =
+    if nat_le x.count s.done then with_due_signals (signalled s x.indicator) xs cards
+    else record { machine = s; signals = x ∷ xs; cards = cards }
+
+-- the reader puts a card in its area and turns on EOP, or EE where it has none
+abbrev pub read_in : Machine → ℕ → List (List ℕ) → Machine
+read_in s w [] = signalled (record s { reader = None }) 11
+read_in s w (card ∷ cards) = signalled (all_stored (record s { reader = None }) w card) 12
+
+abbrev pub cards_after : List (List ℕ) → List (List ℕ)
+cards_after [] = []
+cards_after (card ∷ cards) = cards
+
+-- an order of the reader takes effect
+abbrev pub with_reader : Option Order → Scene → Reached
+with_reader None c = record { scene = c; happened = [] }
+with_reader (Some order) c = record {
+  scene = record c { machine = read_in c.machine order.word c.cards; cards = cards_after c.cards };
+  happened = []
+}
+
+-- an order of the printer takes effect: eight words are printed, and EOP is turned on
+abbrev pub with_printer : Option Order → Scene → Reached
+with_printer None c = record { scene = c; happened = [] }
+with_printer (Some order) c = record {
+  scene = record c { machine = signalled (record c.machine { printer = None }) 12 };
+  happened = Prints c.machine (words_from c.machine order.word 8) ∷ []
+}
+
+-- one thing after another
+abbrev pub and_then : Reached → (Scene → Reached) → Reached
+and_then r f = let q = f r.scene in record { scene = q.scene; happened = r.happened ++ q.happened }
+
+-- the order, where it is due
+abbrev pub if_due : ℕ → Option Order → Option Order
+if_due done order = if is_due done order then order else None
+
+-- the orders that are due take effect, the reader's first
+abbrev pub with_due_orders : Scene → Reached
+with_due_orders c =
+    and_then (with_reader (if_due c.machine.done c.machine.reader) c)
+        (λ d. with_printer (if_due d.machine.done d.machine.printer) d)
+
+-- the order that is given takes effect where the machine rests; the reader's where both are due at once
+abbrev pub with_device : Option Device → Scene → Reached
+with_device None c = record { scene = c; happened = [] }
+with_device (Some Reader) c = with_reader c.machine.reader c
+with_device (Some Printer) c = with_printer c.machine.printer c
+
+abbrev pub with_order_at_rest : Scene → Reached
+with_order_at_rest c = with_device (if rests c.machine then next_device c.machine else None) c
+
+-- signals come one at a time as long as the machine rests
+abbrev pub with_signals_at_rest : Machine → List Signal → List (List ℕ) → Scene
+with_signals_at_rest s [] cards = record { machine = s; signals = []; cards = cards }
+with_signals_at_rest s (x ∷ xs) cards =
+    if rests s then with_signals_at_rest (signalled s x.indicator) xs cards
+    else record { machine = s; signals = x ∷ xs; cards = cards }
+
+abbrev pub with_wait : Scene → Reached
+with_wait c =
+    and_then (and_then (with_order_at_rest c) with_order_at_rest)
+        (λ d. record { scene = with_signals_at_rest d.machine d.signals d.cards; happened = [] })
+
+-- what comes between two instructions: the due signals, the due orders, and what ends a wait
+unfoldable pub settled : Scene → Reached
+settled c = and_then (with_due_orders (with_due_signals c.machine c.signals c.cards)) with_wait
+
+-- a run to its end: what happened, and the last state
+pub record Ran : Type 0 where
+  pub happened : List Happening
+  pub last : Machine
+
+-- the run ends here, the machine at rest or the budget used up
+abbrev pub ended : Reached → Ran
+ended r = record {
+  happened = r.happened ++ Ends r.scene.machine (rests r.scene.machine) ∷ [];
+  last = r.scene.machine
+}
+
+-- the interrupt that the next step takes, if it takes one
+abbrev pub interrupts_by : Option ℕ → Machine → List Happening
+interrupts_by None s = []
+interrupts_by (Some i) s = Interrupts s i ∷ []
+
+-- the scene after the next step
+abbrev pub stepped : Scene → Scene
+stepped c = record c { machine = step c.machine }
+
+-- the run goes on by a step
+abbrev pub goes_on : Reached → Ran → Ran
+goes_on r rest = record {
+  happened = r.happened ++ (interrupts_by (interrupt r.scene.machine) r.scene.machine ++ rest.happened);
+  last = rest.last
+}
+
+-- the run from a scene on, in which so many instructions may still be done; a rest is tried before the budget
+unfoldable pub run : ℕ → Scene → Ran
+run zero c = ended (settled c)
+run (suc left) c =
+    let r = settled c in
+    if rests r.scene.machine then ended r else goes_on r (run left (stepped r.scene))

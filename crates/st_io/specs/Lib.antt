@@ -1,0 +1,5 @@
+pub mod Count
+pub mod Input
+pub mod Output
+pub mod Memory
+pub mod Devices

@@ -1,0 +1,169 @@
+//! A source and a sink in memory whose failures are planned, for tests.
+ghost use Rattle.std.specs.Prelude.{◌≡◌, ℕ, ◌+◌, ◌-◌, ◌<◌, ◌≤◌, ◌↔◌, min, length, take, vec_len, vec_capacity, MatchResult, IfOk, OnOk, OnErr, IsErr, IsTrue};
+ghost use Rattle.st_io.specs.Count.{counted};
+ghost use Rattle.st_io.specs.Input.{Gave, GaveNothing};
+ghost use Rattle.st_io.specs.Output.{Wrote, WroteNothing};
+ghost use Rattle.st_io.specs.Memory.{memory_input, memory_output, IsToFail, after_call, Refuses};
+
+use crate::buffer::Buffer;
+use crate::{Failed, Sink, Source, SureSource};
+use std::marker::Model;
+
+/// Counts the calls, and knows the numbers of those that fail.
+#[derive(Debug, Drop)]
+struct Calls {
+    made: u64,
+    fails: Vec<u32>,
+}
+
+impl Model for Calls {
+    ghost use Rattle.st_io.specs.Memory.{CallPlan};
+
+    ghost Value = { CallPlan };
+
+    ghost view = { λ c. record { made = c.made; fails = c.fails.items } };
+}
+
+impl Calls {
+    fn new(fails: Vec<u32>) -> Calls
+        ensures { result ≡ record { made = 0; fails = fails.items } }
+    {
+        Calls { made: 0, fails }
+    }
+
+    /// Counts a call, and says whether it is to fail.
+    fn next_fails(&mut self) -> bool
+        ensures fails { IsTrue result ↔ IsToFail self.old }
+        ensures counts { self.new ≡ after_call self.old }
+    {
+        self.made = self.made.saturating_add(1);
+        self.fails.iter().any(|&n| u64::from(n) == self.made)
+    }
+}
+
+/// A source of the bytes of a vector, which it tells. The calls whose numbers, from 1 on, stand in a list fail.
+#[derive(Debug, Drop)]
+pub struct MemSource {
+    source: SureSource,
+    faults: u64,
+    calls: Calls,
+}
+
+impl Model for MemSource {
+    ghost use Rattle.st_io.specs.Memory.{MemoryInput};
+
+    ghost Value = { MemoryInput };
+
+    ghost view = { λ s. record { left = s.source.left; taken = s.source.taken; faults = s.faults; calls = s.calls } };
+}
+
+impl MemSource {
+    /// All of the bytes are still to come, and no call was made.
+    pub fn new(bytes: Vec<u8>, fails: Vec<u32>) -> MemSource
+        ensures { result ≡ record { left = bytes.items; taken = 0; faults = 0;
+            calls = record { made = 0; fails = fails.items } } }
+    {
+        MemSource {
+            source: SureSource::new(bytes),
+            faults: 0,
+            calls: Calls::new(fails),
+        }
+    }
+}
+
+impl Source for MemSource {
+    ghost input = { memory_input };
+
+    /// Gives as many bytes as the buffer has room for, or all that are left.
+    fn read(&mut self, buf: &mut [u8]) -> Result<usize, Failed>
+        ensures bound { IfOk result (λ n. n ≤ length buf.new) }
+        ensures outcome { MatchResult result
+            (λ n. Gave (memory_input self.old) (memory_input self.new) buf.new n)
+            (λ _. GaveNothing (memory_input self.old) (memory_input self.new)) }
+
+        // It fails as planned.
+        ensures failed { IsErr result ↔ IsToFail self.old.calls }
+        ensures calls { self.new.calls ≡ after_call self.old.calls }
+        ensures faults { OnErr result (self.new.faults ≡ counted self.old.faults 1) }
+
+        ensures count { IfOk result (λ n. n ≡ min (length buf.old) (length self.old.left)) }
+    {
+        if self.calls.next_fails() {
+            self.faults = self.faults.saturating_add(1);
+            return Err(Failed);
+        }
+        self.source.read(buf)
+    }
+}
+
+/// A sink that writes into a vector's spare capacity, and tells what it wrote. The calls whose numbers, from 1
+/// on, stand in a list fail, and so does each call with bytes once the buffer is full.
+#[derive(Debug, Drop)]
+pub struct MemSink {
+    buffer: Buffer,
+    faults: u64,
+    calls: Calls,
+}
+
+impl Model for MemSink {
+    ghost use Rattle.st_io.specs.Memory.{MemoryOutput};
+
+    ghost Value = { MemoryOutput };
+
+    ghost view = { λ s. record { written = s.buffer.bytes; room = s.buffer.room; faults = s.faults; calls = s.calls } };
+}
+
+impl MemSink {
+    /// The buffer's own bytes count as written, and no call was made.
+    pub fn new(buffer: Vec<u8>, fails: Vec<u32>) -> MemSink
+        ensures { result ≡ record { written = buffer.items; room = vec_capacity buffer - vec_len buffer;
+            faults = 0; calls = record { made = 0; fails = fails.items } } }
+    {
+        MemSink {
+            buffer: Buffer::new(buffer),
+            faults: 0,
+            calls: Calls::new(fails),
+        }
+    }
+
+    /// The bytes written.
+    pub fn bytes(&self) -> &[u8]
+        ensures { result.now ≡ self.now.written }
+    {
+        self.buffer.bytes()
+    }
+
+    /// The bytes written.
+    pub fn into_bytes(self) -> Vec<u8>
+        ensures { result.items ≡ self.written }
+    {
+        self.buffer.into_bytes()
+    }
+}
+
+impl Sink for MemSink {
+    ghost output = { memory_output };
+
+    /// Takes as much of the piece as there is room for.
+    fn write(&mut self, piece: &[u8]) -> Result<usize, Failed>
+        ensures outcome { MatchResult result
+            (λ n. Wrote (memory_output self.old) (memory_output self.new) (take n piece.now))
+            (λ _. WroteNothing (memory_output self.old) (memory_output self.new)) }
+
+        // It fails as planned, or for want of room.
+        ensures failed { IsErr result ↔ Refuses self.old piece.now }
+        ensures calls { self.new.calls ≡ after_call self.old.calls }
+        ensures faults { OnErr result (self.new.faults ≡ counted self.old.faults 1) }
+
+        ensures count { IfOk result (λ n. n ≡ min (length piece.now) self.old.room) }
+        ensures room { self.new.room + length self.new.written ≡ self.old.room + length self.old.written }
+    {
+        let n = piece.len().min(self.buffer.room());
+        if self.calls.next_fails() || (n == 0 && !piece.is_empty()) {
+            self.faults = self.faults.saturating_add(1);
+            return Err(Failed);
+        }
+        self.buffer.append(&piece[..n]);
+        Ok(n)
+    }
+}

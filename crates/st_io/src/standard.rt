@@ -1,0 +1,99 @@
+//! Sources and sinks over the readers and writers of the standard library: the edge to real devices.
+ghost use Rattle.std.specs.Prelude.{◌≡◌, ◌<◌, ◌≤◌, length, take, MatchResult, IfOk, OnErr, None};
+ghost use Rattle.std.specs.Io.KnownBytes.{ReadConsumes, WriteAppends};
+ghost use Rattle.st_io.specs.Count.{counted};
+ghost use Rattle.st_io.specs.Input.{Gave, GaveNothing};
+ghost use Rattle.st_io.specs.Output.{Wrote, WroteNothing};
+ghost use Rattle.st_io.specs.Devices.{device_input, device_output, reader_of, writer_of};
+
+use crate::{Failed, Sink, Source};
+use std::io::{Read, Write};
+
+/// A source over a reader. It tells no bytes, only their number. Each read is one call of the reader, and each
+/// error of the reader is a fault, whatever its kind.
+#[derive(Debug, Drop)]
+pub struct StdSource<R> {
+    reader: R,
+    taken: u64,
+    faults: u64,
+}
+
+impl<R: Read> StdSource<R> {
+    /// Nothing was read and nothing has failed.
+    pub fn new(reader: R) -> StdSource<R>
+        ensures reader { reader_of result ≡ reader }
+        ensures counts { device_input result ≡ record { left = None; taken = 0; faults = 0 } }
+    {
+        StdSource {
+            reader,
+            taken: 0,
+            faults: 0,
+        }
+    }
+}
+
+impl<R: Read> Source for StdSource<R> {
+    ghost input = { device_input };
+
+    fn read(&mut self, buf: &mut [u8]) -> Result<usize, Failed>
+        ensures bound { IfOk result (λ n. n ≤ length buf.new) }
+        ensures outcome { MatchResult result
+            (λ n. Gave (device_input self.old) (device_input self.new) buf.new n)
+            (λ _. GaveNothing (device_input self.old) (device_input self.new)) }
+        ensures faults { OnErr result ((device_input self.new).faults ≡ counted (device_input self.old).faults 1) }
+
+        // What it gives is what the reader gave, and nothing is lost.
+        ensures passes_on { ReadConsumes (R.remaining (reader_of self.old)) (R.remaining (reader_of self.new))
+            result buf.new }
+    {
+        let Ok(n) = self.reader.read(buf) else {
+            self.faults = self.faults.saturating_add(1);
+            return Err(Failed);
+        };
+        self.taken = self.taken.saturating_add(n as u64);
+        Ok(n)
+    }
+}
+
+/// A sink over a writer. It tells no bytes. Each write is one call of the writer. Each error of the writer is a
+/// fault, whatever its kind, and so is an answer that it took nothing of a piece with bytes.
+#[derive(Debug, Drop)]
+pub struct StdSink<W> {
+    writer: W,
+    faults: u64,
+}
+
+impl<W: Write> StdSink<W> {
+    /// Nothing has failed.
+    pub fn new(writer: W) -> StdSink<W>
+        ensures writer { writer_of result ≡ writer }
+        ensures count { device_output result ≡ record { written = None; faults = 0 } }
+    {
+        StdSink { writer, faults: 0 }
+    }
+}
+
+impl<W: Write> Sink for StdSink<W> {
+    ghost output = { device_output };
+
+    fn write(&mut self, piece: &[u8]) -> Result<usize, Failed>
+        ensures bound { IfOk result (λ n. n ≤ length piece.now) }
+        ensures some { IfOk result (λ n. 0 < length piece.now → 0 < n) }
+        ensures outcome { MatchResult result
+            (λ n. Wrote (device_output self.old) (device_output self.new) (take n piece.now))
+            (λ _. WroteNothing (device_output self.old) (device_output self.new)) }
+        ensures faults { OnErr result ((device_output self.new).faults ≡ counted (device_output self.old).faults 1) }
+
+        // What it takes is what the writer took.
+        ensures passes_on { WriteAppends (W.contents (writer_of self.old)) (W.contents (writer_of self.new))
+            result piece.now }
+    {
+        match self.writer.write(piece) {
+            Ok(n) if n > 0 || piece.is_empty() => Ok(n),
+            _ => {
+                self.faults = self.faults.saturating_add(1);
+                Err(Failed)
+            }
+        }
+    }
+}

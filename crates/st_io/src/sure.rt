@@ -1,0 +1,131 @@
+//! A source and a sink in memory that never fail.
+ghost use Rattle.std.specs.Prelude.{◌≡◌, ◌≤◌, ◌-◌, ◌↔◌, ◌++◌, min, length, take, drop, vec_len, vec_capacity, MatchResult, IfOk, IsSome, IfSome, Ok, Some, option_map, option_copied, vec_items};
+ghost use Rattle.st_io.specs.Input.{Gave, GaveNothing};
+ghost use Rattle.st_io.specs.Output.{Appends, Wrote, WroteNothing};
+ghost use Rattle.st_io.specs.Memory.{sure_input, sure_output};
+
+use crate::buffer::Buffer;
+use crate::{Failed, Sink, Source};
+use std::marker::Model;
+
+/// A source of the bytes of a vector. It tells what is left, and no read of it fails.
+#[derive(Debug, Drop)]
+pub struct SureSource {
+    bytes: Vec<u8>,
+    taken: usize,
+}
+
+impl Model for SureSource {
+    ghost use Rattle.std.specs.Prelude.{◌≤◌, length, drop};
+    ghost use Rattle.st_io.specs.Memory.{SureInput};
+
+    ghost Value = { SureInput };
+
+    ghost view = { λ s. record { left = drop s.taken s.bytes.items; taken = s.taken } };
+
+    ghost invariant = { λ s. s.taken ≤ length s.bytes.items };
+}
+
+impl SureSource {
+    /// All of the bytes are still to come.
+    pub fn new(bytes: Vec<u8>) -> SureSource
+        ensures { result ≡ record { left = bytes.items; taken = 0 } }
+    {
+        SureSource { bytes, taken: 0 }
+    }
+}
+
+impl Source for SureSource {
+    ghost input = { sure_input };
+
+    /// Gives as many bytes as the buffer has room for, or all that are left.
+    fn read(&mut self, buf: &mut [u8]) -> Result<usize, Failed>
+        ensures count { result ≡ Ok (min (length buf.old) (length self.old.left)) }
+        ensures bound { IfOk result (λ n. n ≤ length buf.new) }
+        ensures outcome { IfOk result (Gave (sure_input self.old) (sure_input self.new) buf.new) }
+    {
+        let n = copy_front(&self.bytes[self.taken..], buf);
+        self.taken += n;
+        Ok(n)
+    }
+}
+
+/// A sink that writes into a vector's spare capacity. It takes every piece whole, and no write fails. From the
+/// first piece on for which there is no room it tells its bytes no more.
+#[derive(Debug, Drop)]
+pub struct SureSink {
+    buffer: Option<Buffer>,
+}
+
+impl Model for SureSink {
+    ghost use Rattle.std.specs.Prelude.{option_map};
+    ghost use Rattle.std.specs.Option.{option_map_or};
+    ghost use Rattle.st_io.specs.Memory.{SureOutput};
+
+    ghost Value = { SureOutput };
+
+    ghost view = { λ s. record { written = option_map (λ b. b.bytes) s.buffer; room = option_map_or (λ b. b.room) s.buffer 0 } };
+}
+
+impl SureSink {
+    /// The buffer's own bytes count as written.
+    pub fn new(buffer: Vec<u8>) -> SureSink
+        ensures { result ≡ record { written = Some buffer.items; room = vec_capacity buffer - vec_len buffer } }
+    {
+        SureSink {
+            buffer: Some(Buffer::new(buffer)),
+        }
+    }
+
+    /// The bytes written, where they are told.
+    pub fn bytes(&self) -> Option<&[u8]>
+        ensures { option_copied result ≡ self.now.written }
+    {
+        self.buffer.as_ref().map(Buffer::bytes)
+    }
+
+    /// The bytes written, where they are told.
+    pub fn into_bytes(self) -> Option<Vec<u8>>
+        ensures { option_map vec_items result ≡ self.written }
+    {
+        self.buffer.map(Buffer::into_bytes)
+    }
+}
+
+impl Sink for SureSink {
+    ghost output = { sure_output };
+
+    /// Takes the whole piece.
+    fn write(&mut self, piece: &[u8]) -> Result<usize, Failed>
+        ensures whole { result ≡ Ok (length piece.now) }
+        ensures written { Wrote (sure_output self.old) (sure_output self.new) piece.now }
+        ensures told { IsSome self.new.written ↔ IsSome self.old.written × (length piece.now ≤ self.old.room) }
+        ensures room { self.new.room ≡ self.old.room - length piece.now }
+    {
+        self.buffer = self.buffer.take().and_then(|buffer| appended(buffer, piece));
+        Ok(piece.len())
+    }
+}
+
+/// The buffer with the piece at its end, where there is room for it.
+fn appended(mut buffer: Buffer, piece: &[u8]) -> Option<Buffer>
+    ensures fits { IsSome result ↔ (length piece.now ≤ buffer.room) }
+    ensures bytes { IfSome result (λ b. b.bytes ≡ buffer.bytes ++ piece.now) }
+    ensures room { IfSome result (λ b. b.room ≡ buffer.room - length piece.now) }
+{
+    if piece.len() > buffer.room() {
+        return None;
+    }
+    buffer.append(piece);
+    Some(buffer)
+}
+
+/// Copies as many bytes as both have, and says how many.
+fn copy_front(from: &[u8], to: &mut [u8]) -> usize
+    ensures count { result ≡ min (length to.old) (length from.now) }
+    ensures copied { to.new ≡ take result from.now ++ drop result to.old }
+{
+    let n = to.len().min(from.len());
+    to[..n].copy_from_slice(&from[..n]);
+    n
+}

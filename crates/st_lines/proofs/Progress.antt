@@ -1,0 +1,60 @@
+-- How far the writing of lines, or of events, has come.
+use Rattle.std.proofs.Common.{◌≡◌, ℕ, zero, suc, ◌+◌, ◌-◌, ◌<◌, List, [], ◌∷◌, ◌++◌, refl, sym, ◌∙◌, ap, subst, append_assoc, arith}
+use Rattle.std.proofs.lemmas.List.{append-nil}
+use Rattle.st_io.specs.Output.{OutputState, Wrote}
+use Rattle.st_io.proofs.Joins.{Appends_none}
+use Rattle.st_lines.specs.Lines.{text, lines_for, StoppedIn}
+use Rattle.st_lines.specs.Event.{Event, lines_of, StoppedAt}
+use Rattle.st_lines.proofs.Writing.{wrote_more, stopped_before, stopped_after, wrote_events, events_before, events_after}
+
+-- of all the lines the first ones are written, and the rest is left
+pub record LinesSoFar (s t : OutputState) (all rest : List (List ℕ)) : Type 0 where
+  pub front : List (List ℕ)
+  pub wrote : Wrote s t (text front)
+  pub order : all ≡ front ++ rest
+
+-- of all the events the first ones are written, and the rest is left
+pub record EventsSoFar (s t : OutputState) (all rest : List Event) : Type 0 where
+  pub front : List Event
+  pub wrote : Wrote s t (text (lines_of front))
+  pub order : all ≡ front ++ rest
+
+pub wrote_nothing : (s : OutputState) → Wrote s s []
+wrote_nothing s = record { appended = Appends_none s.written; steady = refl }
+
+pub lines_none : (s : OutputState) (all : List (List ℕ)) → LinesSoFar s s all all
+lines_none s all = record { front = []; wrote = wrote_nothing s; order = refl }
+
+pub lines_more : (s t u : OutputState) (all xs rest : List (List ℕ)) → LinesSoFar s t all (xs ++ rest) → Wrote t u (text xs) → LinesSoFar s u all rest
+lines_more s t u all xs rest h w = record {
+  front = h.front ++ xs;
+  wrote = wrote_more s t u h.front xs h.wrote w;
+  order = h.order ∙ sym (append_assoc h.front xs rest)
+}
+
+pub lines_stopped : (s t u : OutputState) (all xs rest : List (List ℕ)) → LinesSoFar s t all (xs ++ rest) → StoppedIn t u xs → StoppedIn s u all
+lines_stopped s t u all xs rest h w = subst (StoppedIn s u) (sym h.order) (stopped_after s t u h.front (xs ++ rest) h.wrote (stopped_before t u xs rest w))
+
+pub lines_whole : (s t : OutputState) (all : List (List ℕ)) → LinesSoFar s t all [] → Wrote s t (text all)
+lines_whole s t all h = subst (λ ls. Wrote s t (text ls)) (sym (h.order ∙ append-nil h.front)) h.wrote
+
+pub events_none : (s : OutputState) (all : List Event) → EventsSoFar s s all all
+events_none s all = record { front = []; wrote = wrote_nothing s; order = refl }
+
+pub events_more : (s t u : OutputState) (all xs rest : List Event) → EventsSoFar s t all (xs ++ rest) → Wrote t u (text (lines_of xs)) → EventsSoFar s u all rest
+events_more s t u all xs rest h w = record {
+  front = h.front ++ xs;
+  wrote = wrote_events s t u h.front xs h.wrote w;
+  order = h.order ∙ sym (append_assoc h.front xs rest)
+}
+
+pub events_stopped : (s t u : OutputState) (all xs rest : List Event) (d k : ℕ) → EventsSoFar s t all (xs ++ rest) → StoppedAt t u xs d k → StoppedAt s u all d k
+events_stopped s t u all xs rest d k h w = subst (λ es. StoppedAt s u es d k) (sym h.order) (events_after s t u h.front (xs ++ rest) d k h.wrote (events_before t u xs rest d k w))
+
+pub events_whole : (s t : OutputState) (all : List Event) → EventsSoFar s t all [] → Wrote s t (text (lines_of all))
+events_whole s t all h = subst (λ es. Wrote s t (text (lines_of es))) (sym (h.order ∙ append-nil h.front)) h.wrote
+
+-- the lines of the numbers from w to an end are those of w and then of the others
+pub lines_for-more : (give : ℕ → List (List ℕ)) (n k w : ℕ) → n ≡ k + 1 → lines_for give n w ≡ give w ++ lines_for give k (w + 1)
+lines_for-more give zero k w e = absurd (omega arith)
+lines_for-more give (suc n) k w e = let m : n ≡ k = omega arith in ap (λ j. give w ++ lines_for give j (w + 1)) m

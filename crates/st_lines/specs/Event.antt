@@ -1,0 +1,36 @@
+-- The lines of a report, each with the moment at which it is written.
+use Rattle.std.specs.Prelude.{◌≡◌, ◌≢◌, ℕ, List, [], ◌∷◌, ◌++◌}
+use Rattle.st_io.specs.Count.{HasRisen}
+use Rattle.st_io.specs.Output.{OutputState, Appends}
+use Rattle.st_lines.specs.Lines.{text}
+
+-- a line, and how many instructions were done and ticks gone by when it is written
+pub record Event : Type 0 where
+  pub line : List ℕ
+  pub done : ℕ
+  pub ticks : ℕ
+
+-- the lines of the events
+abbrev pub lines_of : List Event → List (List ℕ)
+lines_of [] = []
+lines_of (event ∷ events) = event.line ∷ lines_of events
+
+-- these lines, all at one moment
+abbrev pub at_moment : ℕ → ℕ → List (List ℕ) → List Event
+at_moment done ticks [] = []
+at_moment done ticks (l ∷ ls) = record { line = l; done = done; ticks = ticks } ∷ at_moment done ticks ls
+
+-- the writing stopped in the line of one of the events, whose moment this is
+pub record StoppedAt (before after : OutputState) (events : List Event) (done ticks : ℕ) : Type 0 where
+  pub earlier : List Event
+  pub failed : Event
+  pub later : List Event
+  pub order : events ≡ earlier ++ failed ∷ later
+  pub front : List ℕ
+  pub rest : List ℕ
+  pub parts : failed.line ≡ front ++ rest
+  pub proper : rest ≢ []
+  pub appended : Appends before.written after.written (text (lines_of earlier) ++ front)
+  pub risen : HasRisen before.faults after.faults
+  pub done_then : done ≡ failed.done
+  pub ticks_then : ticks ≡ failed.ticks

@@ -1,0 +1,39 @@
+-- Which words may not be read, written or executed.
+use Rattle.std.specs.Prelude.{ℕ, Bool, not, nat_le, nat_lt, ◌&&◌, ◌||◌, ◌==◌, if◌then◌else◌, Option, None, Some}
+use Rattle.st_bits.specs.Bits.{part}
+use Rattle.st_bits.specs.Storage.{words_of_storage}
+use Rattle.st_state.specs.Machine.{Machine, word}
+use Rattle.st_state.specs.declared.protection.Access.{Access}
+use Rattle.st_state.specs.declared.protection.Access.TheVariants.{Read, Write, Fetch}
+
+-- no such word, or a register where an instruction is fetched
+abbrev pub is_invalid : Access → ℕ → Bool
+is_invalid Read w = nat_le words_of_storage w
+is_invalid Write w = nat_le words_of_storage w
+is_invalid Fetch w = nat_le words_of_storage w || nat_lt w 32
+
+-- the word lies between the bounds of word 3: the upper one in bits 0-17, the lower one in bits 32-49
+abbrev pub is_between : ℕ → ℕ → Bool
+is_between bounds w = nat_le (part bounds 32 18) w && nat_lt w (part bounds 0 18)
+
+-- bit 57 of word 3 zero protects the words between the bounds, one all others; never a register
+abbrev pub is_protected : Machine → ℕ → Bool
+is_protected s w =
+    let bounds = word s 3 in
+    s.enabled && nat_le 32 w && (if part bounds 57 1 == 0 then is_between bounds w else not (is_between bounds w))
+
+-- the indicators of an address that is not valid, and of each access to a protected word
+abbrev pub address_invalid : ℕ
+address_invalid = 16
+
+abbrev pub protected : Access → ℕ
+protected Read = 20
+protected Write = 19
+protected Fetch = 21
+
+-- the indicator that forbids the access, if one does
+abbrev pub forbidden : Machine → Access → ℕ → Option ℕ
+forbidden s access w =
+    if is_invalid access w then Some address_invalid
+    else if is_protected s w then Some (protected access)
+    else None

@@ -1,0 +1,5 @@
+pub mod Boundary
+pub mod Interrupts
+pub mod Machine
+pub mod Orders
+pub mod View

@@ -1,0 +1,54 @@
+-- The state of the machine between two instructions.
+use Rattle.std.specs.Prelude.{ℕ, ◌≡◌, ◌+◌, ◌<◌, ◌≤◌, ◌^◌, Bool, false, List, length, slice_index, slice_set, Option, None, Some}
+use Rattle.st_bits.specs.Registers.{fixed}
+use Rattle.st_bits.specs.Storage.{words_of_storage}
+use Rattle.st_state.specs.declared.devices.Order.{Order}
+
+-- storage, the counter, the marks, the number done, and the order of each device
+pub record Machine : Type 0 where
+  pub words : List ℕ
+  pub ic : ℕ
+  pub enabled : Bool
+  pub waiting : Bool
+  pub done : ℕ
+  pub reader : Option Order
+  pub printer : Option Order
+
+-- word w of storage
+abbrev pub word : Machine → ℕ → ℕ
+word s w = slice_index s.words w
+
+-- the state with x as word w, and all else as it was
+abbrev pub with_word : Machine → ℕ → ℕ → Machine
+with_word s w x = record s { words = slice_set s.words w x }
+
+-- the state after x is written to word w
+abbrev pub stored : Machine → ℕ → ℕ → Machine
+stored s w x = with_word s w (fixed w x)
+
+-- the state at the start: the image with the fixed bits of the mask, and the counter at the start address
+abbrev pub opening : List ℕ → ℕ → Machine
+opening image start =
+    record {
+      words = slice_set image 12 (fixed 12 0);
+      ic = start;
+      enabled = false;
+      waiting = false;
+      done = 0;
+      reader = None;
+      printer = None;
+    }
+
+-- the area of an order lies in storage, above the registers
+abbrev pub HasArea : Option Order → Type 0
+HasArea None = Unit {0}
+HasArea (Some order) = (32 ≤ order.word) × (order.word + 8 ≤ words_of_storage)
+
+-- what each state keeps
+pub record IsMachine (s : Machine) : Type 0 where
+  pub size : length s.words ≡ words_of_storage
+  pub counter : s.ic < 2 ^ 19
+  pub below : (w : ℕ) → word s w < 2 ^ 64
+  pub registers : (w : ℕ) → w < 32 → fixed w (word s w) ≡ word s w
+  pub reader_area : HasArea s.reader
+  pub printer_area : HasArea s.printer

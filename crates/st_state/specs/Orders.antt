@@ -1,0 +1,29 @@
+-- The orders of the reader and the printer.
+use Rattle.std.specs.Prelude.{ℕ, Bool, false, nat_le, if◌then◌else◌, Option, None, Some}
+use Rattle.st_state.specs.Machine.{Machine}
+use Rattle.st_state.specs.declared.devices.Order.{Order}
+use Rattle.st_state.specs.declared.devices.Device.{Device}
+use Rattle.st_state.specs.declared.devices.Device.TheVariants.{Reader, Printer}
+
+-- there is an order, and that many instructions are done that it takes effect
+abbrev pub is_due : ℕ → Option Order → Bool
+is_due done None = false
+is_due done (Some order) = nat_le order.due done
+
+-- the device whose order takes effect first of those that are due
+abbrev pub due : Machine → Option Device
+due s =
+    if is_due s.done s.reader then Some Reader
+    else if is_due s.done s.printer then Some Printer
+    else None
+
+-- of two orders the one that is due earlier, the reader's where both are due at once
+abbrev pub earlier : Option Order → Option Order → Option Device
+earlier None None = None
+earlier (Some _) None = Some Reader
+earlier None (Some _) = Some Printer
+earlier (Some reader) (Some printer) = if nat_le reader.due printer.due then Some Reader else Some Printer
+
+-- the device whose order takes effect first in a wait
+abbrev pub next_device : Machine → Option Device
+next_device s = earlier s.reader s.printer

@@ -1,0 +1,22 @@
+ghost use Rattle.std.specs.Prelude.{◌≡◌, ◌<◌, IfSome};
+ghost use Rattle.st_state.specs.Interrupts.{first_from, is_pending, turned as turned_of};
+
+/// The leftmost indicator that is on and whose mask bit is one.
+pub fn leftmost(indicators: u64, mask: u64) -> Option<u8>
+    ensures value { result ≡ first_from (is_pending indicators mask) 0 64 }
+    ensures bound { IfSome result (λ i. i < 64) }
+{
+    let pending = indicators & mask;
+    if pending == 0 {
+        None
+    } else {
+        Some(pending.leading_zeros() as u8)
+    }
+}
+
+/// The indicators with those of `on` turned on and the others of `off` turned off.
+pub fn turned(indicators: u64, on: u64, off: u64) -> u64
+    ensures { result ≡ turned_of 64 on off indicators }
+{
+    (indicators & !off) | on
+}

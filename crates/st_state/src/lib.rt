@@ -1,0 +1,250 @@
+//! The state of the machine: storage, the counter and the marks, and what is asked of them.
+//!
+//! Words 0 to 31 of storage are the registers. A letter is a bit that can be one, `.` is always zero and
+//! `1` always one; bit 0 is leftmost.
+//!
+//! ```text
+//!        0        8        16       24       32       40       48       56
+//!     0  ........ ........ ........ ........ ........ ........ ........ ........
+//!     2  aaaaaaaa aaaaaaaa aa...... ........ ........ ........ ........ ........
+//!     3  uuuuuuuu uuuuuuuu uu...... ........ llllllll llllllll ll...... .c......
+//!     7  ........ ........ .zzzzzzz ........ ........ ....oooo ooo..... ........
+//!     8  hhhhhhhh hhhhhhhh hhhhhhhh hhhhhhhh hhhhhhhh hhhhhhhh hhhhhhhh hhhhhhhh
+//!     9  hhhhhhhh hhhhhhhh hhhhhhhh hhhhhhhh hhhhhhhh hhhhhhhh hhhhhhhh hhhhhhhh
+//!    10  zzzzsfff ........ ........ ........ ........ ........ ........ ........
+//!    11  iiiiiiii iiiiiiii iiiiiiii iiiiiiii iiiiiiii iiiiiiii iiiiiiii iiiiiiii
+//!    12  11111111 11111111 1111mmmm mmmmmmmm mmmmmmmm mmmmmmmm ........ ........
+//!    13  xxxxxxxx xxxxxxxx xxxxxxxx xxxxxxxx xxxxxxxx xxxxxxxx xxxxxxxx xxxxxxxx
+//! 16-31  vvvvvvvv vvvvvvvv vvvvvvvv sfffnnnn nnnnnnnn nnnnnnrr rrrrrrrr rrrrrrrr
+//!
+//!     0  zero ($Z); so are 1, 4, 5 and 6
+//!     2  interruption address ($IA)
+//!     3  upper and lower bound, boundary control
+//!     7  left zeros count, all ones count
+//!     8  accumulator, left half ($L)
+//!     9  accumulator, right half ($R)
+//!    10  sign byte: zone, sign, flags T U V ($SB)
+//!    11  indicators ($IND)
+//!    12  mask ($MASK)
+//!    13  remainder ($RM); 14 factor ($FT), 15 transit ($TR)
+//! 16-31  index words: value, sign, flags, count, refill
+//! ```
+#![tactic(auto, using(st_bits::specs::Storage::words_of_storage_is))]
+
+ghost use Rattle.std.specs.Prelude.{◌≡◌, ℕ, ◌<◌, ◌≤◌, ◌^◌, length, slice_index, IfOk, IfSome};
+ghost use Rattle.st_bits.specs.Registers.{fixed};
+ghost use Rattle.st_bits.specs.Storage.{words_of_storage};
+
+use devices::is_due;
+use indicators::{leftmost, turned};
+use st_bits::{Ind, NoMemory, WORDS, fix_register, part};
+use std::alloc::Global;
+use std::marker::Model;
+
+mod devices;
+mod indicators;
+mod protection;
+
+pub use devices::{Device, Order};
+pub use protection::Access;
+
+/// The machine between two instructions.
+#[derive(Drop)]
+pub struct State {
+    words: Vec<u64>,
+    /// The counter, a half-word address below 2^19.
+    pub ic: u32,
+    /// Whether interrupts are enabled.
+    pub enabled: bool,
+    /// Whether the machine waits.
+    pub waiting: bool,
+    /// The number of instructions done.
+    pub done: u64,
+    /// The order of the card reader, if it has one.
+    pub reader: Option<Order>,
+    /// The order of the line printer, if it has one.
+    pub printer: Option<Order>,
+}
+
+impl Model for State {
+    ghost use Rattle.st_state.specs.Machine.{Machine, IsMachine};
+
+    ghost Value = { Machine };
+
+    ghost use Rattle.st_state.specs.View.{machine};
+
+    ghost view = { machine };
+
+    ghost invariant = { λ a. IsMachine (machine a) };
+}
+
+/// The address of the boundary register.
+const BOUNDS: usize = 3;
+
+/// The address of the indicator register.
+const INDICATORS: usize = 11;
+
+/// The address of the mask register.
+const MASK: usize = 12;
+
+/// The indicators that forbid an access.
+const ADDRESS_INVALID: u8 = 16;
+
+const DATA_STORE: u8 = 19;
+
+const DATA_FETCH: u8 = 20;
+
+const INSTRUCTION_FETCH: u8 = 21;
+
+impl State {
+    ghost use Rattle.st_state.specs.Machine.{IsMachine, opening, word as word_of, stored};
+    ghost use Rattle.st_state.specs.Interrupts.{applied, signalled, pending as first_pending};
+    ghost use Rattle.st_state.specs.Boundary.{forbidden, is_protected};
+    ghost use Rattle.st_state.specs.Orders.{due as first_due, next_device as next_of};
+
+    /// The state at the start: storage is the image, no register but the mask has a bit that is one, and the
+    /// counter is the half-word address `start`.
+    pub fn new(alloc: Global, image: &[u64], start: u32) -> Result<State, NoMemory>
+        requires whole { length image.now ≡ words_of_storage }
+        requires registers { (w : ℕ) → w < 32 → slice_index image.now w ≡ 0 }
+        requires counter { start < 2 ^ 19 }
+        ensures { IfOk result (λ s. s ≡ opening image.now start) }
+    {
+        let Ok(mut words) = Vec::from_slice(alloc, image) else {
+            return Err(NoMemory);
+        };
+        words[MASK] = fix_register(MASK as u8, 0);
+        Ok(State {
+            words,
+            ic: start,
+            enabled: false,
+            waiting: false,
+            done: 0,
+            reader: None,
+            printer: None,
+        })
+    }
+
+    /// What holds of each state.
+    pub fn shape(&self)
+        ensures { IsMachine self.now }
+    {
+        let _ = &self.ic;
+    }
+
+    /// The word at the word address `w`, below WORDS.
+    pub fn word(&self, w: u32) -> u64
+        requires { w < words_of_storage }
+        ensures value { result ≡ word_of self.now w }
+        ensures bound { result < 2 ^ 64 }
+    {
+        self.words[w as usize]
+    }
+
+    /// Writes `value` to the word at the word address `w`, below WORDS: a register keeps its fixed bits.
+    pub fn store(&mut self, w: u32, value: u64)
+        requires { w < words_of_storage }
+        ensures { self.new ≡ stored self.old w value }
+    {
+        self.words[w as usize] = fixed_word(w, value);
+    }
+
+    /// The indicator that forbids the access to the word address `w`, None where it is allowed.
+    pub fn may(&self, access: Access, w: u32) -> Option<u8>
+        ensures { result ≡ forbidden self.now access w }
+    {
+        let lowest = match access {
+            Access::Fetch => 32,
+            Access::Read | Access::Write => 0,
+        };
+        if w < lowest || w >= WORDS {
+            return Some(ADDRESS_INVALID);
+        }
+        if !self.protects(w) {
+            return None;
+        }
+        Some(match access {
+            Access::Write => DATA_STORE,
+            Access::Read => DATA_FETCH,
+            Access::Fetch => INSTRUCTION_FETCH,
+        })
+    }
+
+    /// Whether the boundary register protects the word.
+    fn protects(&self, w: u32) -> bool
+        ensures { result ≡ is_protected self.now w }
+    {
+        let bounds = self.words[BOUNDS];
+        let w = u64::from(w);
+        let between = part(bounds, 32, 18) <= w && w < part(bounds, 0, 18);
+        self.enabled && 32 <= w && between == (part(bounds, 57, 1) == 0)
+    }
+
+    /// The leftmost indicator that is on and whose mask bit is one, 0 to 63; None where there is none.
+    pub fn pending(&self) -> Option<u8>
+        ensures value { result ≡ first_pending self.now }
+        ensures bound { IfSome result (λ i. i < 64) }
+    {
+        leftmost(self.words[INDICATORS], self.words[MASK])
+    }
+
+    /// Turns on the indicator `i`, at most 13, as a signal from outside does.
+    pub fn signal(&mut self, i: u8)
+        requires { i ≤ 13 }
+        ensures { self.new ≡ signalled self.old i }
+    {
+        self.apply(Ind {
+            on: 1 << (63 - i),
+            off: 0,
+        });
+    }
+
+    /// Turns indicators on and off; one that is named for both is on.
+    pub fn apply(&mut self, ind: Ind)
+        ensures { self.new ≡ applied ind self.old }
+    {
+        self.words[INDICATORS] = turned(self.words[INDICATORS], ind.on, ind.off);
+    }
+
+    /// The device whose order takes effect first of those that are due; None where none is due.
+    pub fn due(&self) -> Option<Device>
+        ensures { result ≡ first_due self.now }
+    {
+        if is_due(self.reader, self.done) {
+            Some(Device::Reader)
+        } else if is_due(self.printer, self.done) {
+            Some(Device::Printer)
+        } else {
+            None
+        }
+    }
+
+    /// The device whose order takes effect first while the machine waits; None where no order is given.
+    pub fn next_device(&self) -> Option<Device>
+        ensures { result ≡ next_of self.now }
+    {
+        match (self.reader, self.printer) {
+            (None, None) => None,
+            (Some(_), None) => Some(Device::Reader),
+            (None, Some(_)) => Some(Device::Printer),
+            (Some(reader), Some(printer)) => {
+                if reader.due <= printer.due {
+                    Some(Device::Reader)
+                } else {
+                    Some(Device::Printer)
+                }
+            }
+        }
+    }
+}
+
+/// What stands in word `w` after `value` is written to it.
+fn fixed_word(w: u32, value: u64) -> u64
+    ensures { result ≡ fixed w value }
+{
+    if w < 32 {
+        fix_register(w as u8, value)
+    } else {
+        value
+    }
+}

@@ -1,0 +1,5 @@
+pub mod Command
+pub mod Print
+pub mod Report
+pub mod Output
+pub mod Answers

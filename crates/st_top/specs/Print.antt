@@ -1,0 +1,21 @@
+-- What the printer prints of eight words.
+use Rattle.std.specs.Prelude.{ℕ, zero, suc, ◌+◌, ◌*◌, ◌&&◌, nat_le, if◌then◌else◌, List, [], ◌∷◌, ◌++◌, map}
+use Rattle.st_bits.specs.Bits.{part}
+use Rattle.st_report.specs.Listing.{without_end_blanks}
+
+-- the bytes of a word, the leftmost first
+abbrev pub bytes_of : ℕ → List ℕ
+bytes_of x =
+    part x 0 8 ∷ part x 8 8 ∷ part x 16 8 ∷ part x 24 8 ∷ part x 32 8 ∷ part x 40 8 ∷ part x 48 8 ∷ part x 56 8 ∷ []
+
+-- a byte that has no character is a blank
+abbrev pub character : ℕ → ℕ
+character b = if nat_le 32 b && nat_le b 126 then b else 32
+
+abbrev pub characters : List ℕ → List ℕ
+characters [] = []
+characters (x ∷ xs) = map character (bytes_of x) ++ characters xs
+
+-- the words as text, without blanks at the end
+abbrev pub printed : List ℕ → List ℕ
+printed words = without_end_blanks (characters words)
