@@ -19,3 +19,6 @@ pub use state_block::{line_dump, line_en, line_ic, line_mem, line_reg};
 
 /// One line with its line end, of at most 128 bytes.
 pub type Line = ArrayString<128>;
+
+#[cfg(test)]
+mod tests;
