@@ -52,7 +52,7 @@ pub record Program : Type 0 where
   pub start : ℕ
 
 -- the program that a job spells
-abbrev pub program : List ℕ → Option Program
+unfoldable pub program : List ℕ → Option Program
 program text =
     option_map (λ loads. record { image = image_of loads; start = 64 }) (loads_of text)
 

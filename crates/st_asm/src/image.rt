@@ -8,10 +8,10 @@ use crate::job::{Load, read_loads};
 use arrayvec::ArrayString;
 use std::alloc::{AllocError, Global};
 
-/// The half-word address at which the program is laid and starts: the left half of word 32.
+// The half-word address of the first instruction: the left half of word 32.
 const START: u32 = 64;
-// How many values a half-word has.
-const RIGHT_HALF: u64 = 1 << 32;
+// A half-word times this stands in the left half of a word.
+const LEFT_HALF: u64 = 1 << 32;
 
 const LOAD_VALUE_IMMEDIATE: u32 = 16;
 
@@ -56,6 +56,7 @@ pub enum AsmError {
 /// The image that `job` spells.
 ///
 /// A job that is not of the form that is built so far is refused at its first card.
+#[tactic(auto, unfolding(crate::specs::Image::program))]
 pub fn assemble(alloc: Global, job: &[u8]) -> Result<Assembled, AsmError>
     ensures ok { IfOk result (λ a. program job.now ≡ Some (record { image = a.image.items; start = a.start })) }
     ensures err { IfErr result (Explains job.now) }
@@ -120,9 +121,9 @@ fn with_half(at: u32, half: u32, word: u64) -> u64
     ensures { result ≡ with_half at half word }
 {
     if at % 2 == 0 {
-        u64::from(half) * RIGHT_HALF + word % RIGHT_HALF
+        u64::from(half) * LEFT_HALF + word % LEFT_HALF
     } else {
-        word / RIGHT_HALF * RIGHT_HALF + u64::from(half)
+        word / LEFT_HALF * LEFT_HALF + u64::from(half)
     }
 }
 

@@ -21,7 +21,7 @@ const END_CARD: &[u8] = b"         END,32.0";
 /// How many loads a job has at most.
 pub const MOST_LOADS: usize = 6;
 
-/// A load of an index word's value from the address of the instruction itself.
+/// A load of an index word's value with the address that stands in the instruction.
 #[derive(Clone, Copy, Debug, Default, PartialEq, Eq)]
 pub struct Load {
     /// The index register, 0 to 15.
