@@ -8,6 +8,8 @@ mod sink;
 mod source;
 mod standard;
 mod sure;
+#[cfg(test)]
+mod tests;
 
 pub use mem::{MemSink, MemSource};
 pub use sink::{Sink, write_all};

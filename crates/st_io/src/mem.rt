@@ -60,8 +60,12 @@ impl Model for MemSource {
 impl MemSource {
     /// All of the bytes are still to come, and no call was made.
     pub fn new(bytes: Vec<u8>, fails: Vec<u32>) -> MemSource
-        ensures { result ≡ record { left = bytes.items; taken = 0; faults = 0;
-            calls = record { made = 0; fails = fails.items } } }
+        ensures { result ≡ record {
+          left = bytes.items;
+          taken = 0;
+          faults = 0;
+          calls = record { made = 0; fails = fails.items };
+        } }
     {
         MemSource {
             source: SureSource::new(bytes),
@@ -116,8 +120,12 @@ impl Model for MemSink {
 impl MemSink {
     /// The buffer's own bytes count as written, and no call was made.
     pub fn new(buffer: Vec<u8>, fails: Vec<u32>) -> MemSink
-        ensures { result ≡ record { written = buffer.items; room = vec_capacity buffer - vec_len buffer;
-            faults = 0; calls = record { made = 0; fails = fails.items } } }
+        ensures { result ≡ record {
+          written = buffer.items;
+          room = vec_capacity buffer - vec_len buffer;
+          faults = 0;
+          calls = record { made = 0; fails = fails.items };
+        } }
     {
         MemSink {
             buffer: Buffer::new(buffer),
