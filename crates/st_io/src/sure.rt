@@ -1,7 +1,7 @@
 //! A source and a sink in memory that never fail.
-ghost use Rattle.std.specs.Prelude.{◌≡◌, ◌≤◌, ◌-◌, ◌↔◌, ◌++◌, min, length, take, drop, vec_len, vec_capacity, MatchResult, IfOk, IsSome, IfSome, Ok, Some, option_map, option_copied, vec_items};
-ghost use Rattle.st_io.specs.Input.{Gave, GaveNothing};
-ghost use Rattle.st_io.specs.Output.{Appends, Wrote, WroteNothing};
+ghost use Rattle.std.specs.Prelude.{◌≡◌, ◌≤◌, ◌-◌, ◌↔◌, ◌++◌, min, length, take, drop, vec_len, vec_capacity, IfOk, IsSome, IfSome, Ok, Some, option_map, option_copied, vec_items};
+ghost use Rattle.st_io.specs.Input.{Gave};
+ghost use Rattle.st_io.specs.Output.{Wrote};
 ghost use Rattle.st_io.specs.Memory.{SureInput, SureOutput, sure_input, sure_output};
 
 use crate::buffer::Buffer;
@@ -71,7 +71,10 @@ impl Model for SureSink {
 impl SureSink {
     /// The buffer's own bytes count as written.
     pub fn new(buffer: Vec<u8>) -> SureSink
-        ensures all { result ≡ record { written = Some buffer.items; room = vec_capacity buffer - vec_len buffer } }
+        ensures all { result ≡ record {
+          written = Some buffer.items;
+          room = vec_capacity buffer - vec_len buffer;
+        } }
         ensures no_faults { (k : SureOutput) → (⟦<SureSink as Sink>⟧.output k).faults ≡ 0 }
     {
         SureSink {
@@ -101,7 +104,8 @@ impl Sink for SureSink {
     fn write(&mut self, piece: &[u8]) -> Result<usize, Failed>
         ensures whole { result ≡ Ok (length piece.now) }
         ensures written { Wrote (sure_output self.old) (sure_output self.new) piece.now }
-        ensures told { IsSome self.new.written ↔ IsSome self.old.written × (length piece.now ≤ self.old.room) }
+        ensures told { IsSome self.new.written
+            ↔ (IsSome self.old.written × (length piece.now ≤ self.old.room)) }
         ensures room { self.new.room ≡ self.old.room - length piece.now }
     {
         self.buffer = self

@@ -1,7 +1,6 @@
 //! What no clause says: that calls succeed where memory is ample, how much each read asks for, and that the
 //! readers and writers of the standard library are reached.
-ghost use Rattle.std.specs.Prelude.{◌≡◌, ◌<◌, ◌≤◌, length, MatchResult, IfOk, IsErrOf};
-ghost use Rattle.st_io.specs.Input.{Gave, GaveNothing};
+ghost use Rattle.std.specs.Prelude.{◌≡◌, ◌<◌, length, IfOk, IsErrOf};
 ghost use Rattle.st_io.specs.Output.{Wrote};
 ghost use Rattle.st_io.specs.Memory.{sure_input, sure_output};
 
