@@ -1,12 +1,14 @@
 -- Runs to which nothing comes from outside: no signals, no orders, no cards.
-use Rattle.std.proofs.Common.{◌≡◌, ℕ, zero, suc, ◌+◌, ◌/◌, ◌%◌, ◌^◌, List, [], ◌∷◌, ◌++◌, Bool, true, false, refl, sym, ◌∙◌, ap, subst}
+use Rattle.std.proofs.Common.{◌≡◌, ◌≢◌, ℕ, zero, suc, ◌+◌, ◌-◌, arith, ◌/◌, ◌%◌, ◌^◌, List, [], ◌∷◌, ◌++◌, Bool, true, false, refl, sym, ◌∙◌, ap, subst}
 use Rattle.std.specs.Prelude.{Option, None, Some, if◌then◌else◌}
 use Rattle.st_state.specs.Machine.{Machine}
 use Rattle.st_state.specs.Boundary.{forbidden}
 use Rattle.st_state.specs.declared.protection.Access.TheVariants.{Fetch}
 use Rattle.st_exec.specs.Instructions.{instruction_of, half_at}
-use Rattle.st_exec.specs.Step.{performed, unless, executed, taken_off, table_address, interrupt, step_by, step, rests}
+use Rattle.st_exec.specs.Step.{performed, unless, executed, taken_off, table_address, interrupt, step_by, step, rests, IsStep}
 use Rattle.st_exec.specs.Run.{Scene, Reached, Ran, Happening, Ends, nothing, with_due_orders, with_order_at_rest, with_wait, settled, ended, interrupts_by, goes_on, run}
+use Rattle.st_exec.specs.declared.step.Step.{Step}
+use Rattle.st_exec.specs.declared.step.Step.TheVariants.{Plain, Interrupt, Waits}
 use Rattle.st_exec.specs.declared.instruction.Instruction.{Instruction}
 use Rattle.st_exec.specs.declared.instruction.Instruction.TheVariants.{LoadValue, Wait, NotBuilt}
 
@@ -91,11 +93,23 @@ run-rests zero s q r = rw (settled-quiet s q, r)
 run-rests (suc n) s q r = rw (settled-quiet s q, r)
 
 -- the run ends where nothing is left
-pub run-budget : (s : Machine) → IsQuiet s → rests s ≡ false → run 0 (alone s) ≡ record { happened = Ends s false ∷ []; last = s }
+pub run-budget : (n : ℕ) (s : Machine) → n ≡ 0 → IsQuiet s → rests s ≡ false → run n (alone s) ≡ record { happened = Ends s false ∷ []; last = s }
 unfolding run
-run-budget s q r = rw (settled-quiet s q, r)
+run-budget zero s e q r = rw (settled-quiet s q, r)
+run-budget (suc n) s e q r = absurd (omega arith)
 
 -- else it goes on by a step
 pub run-step : (n : ℕ) (s : Machine) → IsQuiet s → rests s ≡ false → run (suc n) (alone s) ≡ goes_on (nothing (alone s)) (run n (alone (step s)))
 unfolding run
 run-step n s q r = rw (settled-quiet s q, r)
+
+-- the same, by what is left before the step
+pub run-goes_on : (n : ℕ) (s : Machine) → n ≢ 0 → IsQuiet s → rests s ≡ false → run n (alone s) ≡ goes_on (nothing (alone s)) (run (n - 1) (alone (step s)))
+run-goes_on zero s p q r = absurd (p refl)
+run-goes_on (suc n) s p q r = let e : n ≡ suc n - 1 = omega arith in run-step n s q r ∙ ap (λ k. goes_on (nothing (alone s)) (run k (alone (step s)))) e
+
+-- a call of `one` that finds the machine not at rest makes a step
+pub step_made : (old new : Machine) (r : Step) → rests old ≡ false → IsStep old new r → new ≡ step old
+step_made old new Waits f h = absurd (cc)
+step_made old new Plain f h = h.2
+step_made old new (Interrupt i) f h = h.2

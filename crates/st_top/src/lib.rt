@@ -5,7 +5,9 @@
 mod answer;
 mod block;
 mod command;
+mod program;
+mod running;
 
 pub use answer::{Answer, Status};
-pub use block::write_block;
-pub use command::{Command, read_words};
+pub use command::Command;
+pub use program::stretch;
