@@ -1,4 +1,5 @@
 pub mod BitLists
+pub mod Windows
 pub mod WordFields
 pub mod RegisterLaws
 pub mod Shifts

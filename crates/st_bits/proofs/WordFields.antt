@@ -61,7 +61,7 @@ put-over xs ys b v w h =
     ∙ simp (append-nil, append_assoc))
 
 -- the place of the next word
-next_place : (x w b : ℕ) → 64 * suc w + b ≡ length (bits 64 x) + (64 * w + b)
+pub next_place : (x w b : ℕ) → 64 * suc w + b ≡ length (bits 64 x) + (64 * w + b)
 next_place x w b = omega (arith, length-bits 64 x)
 
 -- a field within word w

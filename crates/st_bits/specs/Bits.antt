@@ -25,6 +25,11 @@ field s a n = take n (drop a s)
 unfoldable pub put : List ℕ → ℕ → List ℕ → List ℕ
 put s a b = take a s ++ b ++ drop (a + length b) s
 
+-- the first n words that a list of bits makes
+unfoldable pub words_of : ℕ → List ℕ → List ℕ
+words_of zero s = []
+words_of (suc n) s = num (take 64 s) ∷ words_of n (drop 64 s)
+
 -- the number of the n bits of the word x from bit a on
 abbrev pub part : ℕ → ℕ → ℕ → ℕ
 part x a n = x / 2 ^ (64 - a - n) % 2 ^ n

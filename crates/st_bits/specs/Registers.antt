@@ -1,5 +1,5 @@
 -- The register words, 0 to 31, and which of their bits can be one.
-use Rattle.std.specs.Prelude.{ℕ, ◌+◌, ◌-◌, ◌*◌, ◌^◌, Bool, ◌==◌, ◌||◌, if◌then◌else◌}
+use Rattle.std.specs.Prelude.{ℕ, ◌+◌, ◌-◌, ◌*◌, ◌^◌, Bool, List, [], ◌∷◌, ◌==◌, ◌||◌, if◌then◌else◌}
 use Rattle.st_bits.specs.Bits.{kept}
 
 -- the registers that read zero
@@ -16,3 +16,8 @@ fixed w x =
     else if w == 10 then kept x 0 8
     else if w == 12 then (2 ^ 20 - 1) * 2 ^ 44 + kept x 20 28
     else x
+
+-- what stands in the words from word w on after a list of words is written there
+unfoldable pub fixed_from : ℕ → List ℕ → List ℕ
+fixed_from w [] = []
+fixed_from w (x ∷ xs) = fixed w x ∷ fixed_from (w + 1) xs

@@ -248,3 +248,6 @@ fn fixed_word(w: u32, value: u64) -> u64
         value
     }
 }
+
+#[cfg(test)]
+mod tests;
