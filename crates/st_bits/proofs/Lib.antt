@@ -1,2 +1,4 @@
+pub mod BitLists
+pub mod WordFields
 pub mod RegisterLaws
 pub mod Shifts

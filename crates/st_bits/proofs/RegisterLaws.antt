@@ -17,7 +17,7 @@ row zero two three seven ten twelve x =
 
 row-twice : (zero two three seven ten twelve : Bool) (x : ℕ)
     → row zero two three seven ten twelve (row zero two three seven ten twelve x)
-        ≡ row zero two three seven ten twelve x
+    ≡ row zero two three seven ten twelve x
 row-twice true b c d e f x = refl
 row-twice false true c d e f x = omega arith
 row-twice false false true d e f x = omega arith

@@ -1,14 +1,19 @@
 //! Words, fields, register words and index words.
 #![tactic(auto)]
 
+mod fields;
 mod index_words;
 mod operations;
 mod parts;
 mod register;
 mod storage;
 
+pub use fields::{get_field, put_field};
 pub use index_words::{count_of, refill_of, value_of, with_count, with_refill, with_value};
 pub use operations::{BranchOp, ConnKind, HalfOp, VflOp};
 pub use parts::{part, with_part};
 pub use register::fix_register;
 pub use storage::{Ind, NoMemory, WORDS};
+
+#[cfg(test)]
+mod tests;

@@ -1,12 +1,13 @@
 //! Runs of bits within one word, named by the first bit, 0 leftmost, and their number.
 ghost use Rattle.std.specs.Prelude.{◌≡◌, ◌+◌, ◌<◌, ◌≤◌, ◌^◌};
-ghost use Rattle.st_bits.specs.Bits.{part as part_of, with_part as with, kept as kept_of};
+ghost use Rattle.st_bits.specs.Bits.{bits as bits_of, field, kept as kept_of, num, part as part_of, put, with_part as with};
 
 /// The number of `count` bits of a word from bit `first` on.
 pub fn part(word: u64, first: u32, count: u32) -> u64
     requires some { 1 ≤ count }
     requires inside { first + count ≤ 64 }
     ensures value { result ≡ part_of word first count }
+    ensures field { result ≡ num (field (bits_of 64 word) first count) }
     ensures bound { result < 2 ^ count }
 {
     word << first >> (64 - count)
@@ -26,7 +27,8 @@ pub fn with_part(word: u64, first: u32, count: u32, bits: u64) -> u64
     requires some { 1 ≤ count }
     requires inside { first + count ≤ 64 }
     requires fits { bits < 2 ^ count }
-    ensures { result ≡ with word first count bits }
+    ensures value { result ≡ with word first count bits }
+    ensures put { bits_of 64 result ≡ put (bits_of 64 word) first (bits_of count bits) }
 {
     let shift = 64 - first - count;
     let mask = u64::MAX >> (64 - count) << shift;

@@ -56,9 +56,13 @@ abbrev pub cards_after : List (List ℕ) → List (List ℕ)
 cards_after [] = []
 cards_after (card ∷ cards) = cards
 
+-- a scene where nothing happens
+abbrev pub nothing : Scene → Reached
+nothing c = record { scene = c; happened = [] }
+
 -- an order of the reader takes effect
 abbrev pub with_reader : Option Order → Scene → Reached
-with_reader None c = record { scene = c; happened = [] }
+with_reader None c = nothing c
 with_reader (Some order) c = record {
   scene = record c { machine = read_in c.machine order.word c.cards; cards = cards_after c.cards };
   happened = []
@@ -66,7 +70,7 @@ with_reader (Some order) c = record {
 
 -- an order of the printer takes effect: eight words are printed, and EOP is turned on
 abbrev pub with_printer : Option Order → Scene → Reached
-with_printer None c = record { scene = c; happened = [] }
+with_printer None c = nothing c
 with_printer (Some order) c = record {
   scene = record c { machine = signalled (record c.machine { printer = None }) 12 };
   happened = Prints c.machine (words_from c.machine order.word 8) ∷ []
@@ -81,19 +85,19 @@ abbrev pub if_due : ℕ → Option Order → Option Order
 if_due done order = if is_due done order then order else None
 
 -- the orders that are due take effect, the reader's first
-abbrev pub with_due_orders : Scene → Reached
+unfoldable pub with_due_orders : Scene → Reached
 with_due_orders c =
     and_then (with_reader (if_due c.machine.done c.machine.reader) c)
         (λ d. with_printer (if_due d.machine.done d.machine.printer) d)
 
 -- the order that is given takes effect where the machine rests; the reader's where both are due at once
 abbrev pub with_device : Option Device → Scene → Reached
-with_device None c = record { scene = c; happened = [] }
+with_device None c = nothing c
 with_device (Some Reader) c = with_reader c.machine.reader c
 with_device (Some Printer) c = with_printer c.machine.printer c
 
-abbrev pub with_order_at_rest : Scene → Reached
-with_order_at_rest c = with_device (if rests c.machine then next_device c.machine else None) c
+unfoldable pub with_order_at_rest : Scene → Reached
+with_order_at_rest c = if rests c.machine then with_device (next_device c.machine) c else nothing c
 
 -- signals come one at a time as long as the machine rests
 abbrev pub with_signals_at_rest : Machine → List Signal → List (List ℕ) → Scene
@@ -102,10 +106,11 @@ with_signals_at_rest s (x ∷ xs) cards =
     if rests s then with_signals_at_rest (signalled s x.indicator) xs cards
     else record { machine = s; signals = x ∷ xs; cards = cards }
 
-abbrev pub with_wait : Scene → Reached
+-- what ends a wait: orders, then signals
+unfoldable pub with_wait : Scene → Reached
 with_wait c =
     and_then (and_then (with_order_at_rest c) with_order_at_rest)
-        (λ d. record { scene = with_signals_at_rest d.machine d.signals d.cards; happened = [] })
+        (λ d. nothing (with_signals_at_rest d.machine d.signals d.cards))
 
 -- what comes between two instructions: the due signals, the due orders, and what ends a wait
 unfoldable pub settled : Scene → Reached

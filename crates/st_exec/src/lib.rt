@@ -5,4 +5,4 @@ mod instruction;
 mod step;
 
 pub use instruction::Instruction;
-pub use step::{Step, one};
+pub use step::{Step, interrupt, is_at_rest, one};

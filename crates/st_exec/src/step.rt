@@ -2,7 +2,7 @@ ghost use Rattle.std.specs.Prelude.{◌≡◌, ◌+◌, ◌/◌, ◌%◌, ◌<�
 ghost use Rattle.st_state.specs.Interrupts.{indicator as indicator_of};
 ghost use Rattle.st_exec.specs.Instructions.{HasFields};
 ghost use Rattle.st_exec.specs.Step.{index_result as result_of, counted, suppressed, load_of, performed, executed};
-ghost use Rattle.st_exec.specs.Step.{interrupt as interrupt_of, step_by, IsStep};
+ghost use Rattle.st_exec.specs.Step.{interrupt as interrupt_of, step_by, rests, IsStep};
 
 use crate::instruction::{Instruction, decode, half_at};
 use st_bits::{Ind, count_of, part, value_of, with_value};
@@ -124,6 +124,13 @@ pub fn interrupt(state: &State) -> Option<u8>
     if state.enabled { state.pending() } else { None }
 }
 
+/// Whether the machine waits and nothing is pending that would end it.
+pub fn is_at_rest(state: &State) -> bool
+    ensures { result ≡ rests state.now }
+{
+    state.waiting && state.pending().is_none()
+}
+
 /// Takes the interrupt by the indicator `i`.
 fn take(state: &mut State, i: u8)
     requires indicator { i < 64 }
@@ -153,7 +160,7 @@ pub fn one(state: &mut State) -> Step
     requires { state.old.done < 2 ^ 63 }
     ensures { IsStep state.old state.new result }
 {
-    if state.waiting && state.pending().is_none() {
+    if is_at_rest(state) {
         return Step::Waits;
     }
     if let Some(indicator) = interrupt(state) {

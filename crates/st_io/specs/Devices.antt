@@ -1,5 +1,5 @@
 -- Sources and sinks over a reader or a writer of the standard library.
-use Rattle.std.specs.Prelude.{ℕ, None}
+use Rattle.std.specs.Prelude.{None}
 use Rattle.st_io.specs.Input.{InputState}
 use Rattle.st_io.specs.Output.{OutputState}
 use Rattle.st_io.specs.declared.standard.StdSource.{StdSource}

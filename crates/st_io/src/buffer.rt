@@ -24,7 +24,10 @@ impl Model for Buffer {
 impl Buffer {
     /// There is room for what the vector's capacity leaves.
     pub(crate) fn new(bytes: Vec<u8>) -> Buffer
-        ensures { result ≡ record { bytes = bytes.items; room = vec_capacity bytes - vec_len bytes } }
+        ensures { result ≡ record {
+          bytes = bytes.items;
+          room = vec_capacity bytes - vec_len bytes;
+        } }
     {
         let room = bytes.capacity() - bytes.len();
         Buffer { bytes, room }

@@ -2,12 +2,17 @@
 //! source and write a whole piece. `docs/edge.md` has the rules.
 #![tactic(auto)]
 
+ghost use Rattle.std.specs.Prelude.{◌≡◌};
+ghost use Rattle.st_io.specs.Count.{counted};
+
 mod buffer;
 mod mem;
 mod sink;
 mod source;
 mod standard;
 mod sure;
+#[cfg(test)]
+mod tests;
 
 pub use mem::{MemSink, MemSource};
 pub use sink::{Sink, write_all};
@@ -18,3 +23,11 @@ pub use sure::{SureSink, SureSource};
 /// A read or a write failed. The count of faults of its source or sink rose.
 #[derive(Clone, Copy, Debug, PartialEq, Eq)]
 pub struct Failed;
+
+/// Counts a fault, and is the answer to it. The count stands still at its end.
+fn count_fault(faults: &mut u64) -> Failed
+    ensures { faults.new ≡ counted faults.old 1 }
+{
+    *faults = faults.saturating_add(1);
+    Failed
+}

@@ -1,12 +1,12 @@
 //! A source and a sink in memory whose failures are planned, for tests.
-ghost use Rattle.std.specs.Prelude.{◌≡◌, ℕ, ◌+◌, ◌-◌, ◌<◌, ◌≤◌, ◌↔◌, min, length, take, vec_len, vec_capacity, MatchResult, IfOk, OnOk, OnErr, IsErr, IsTrue};
+ghost use Rattle.std.specs.Prelude.{◌≡◌, ◌+◌, ◌-◌, ◌<◌, ◌≤◌, ◌↔◌, min, length, take, vec_len, vec_capacity, MatchResult, IfOk, OnErr, IsErr, IsTrue};
 ghost use Rattle.st_io.specs.Count.{counted};
 ghost use Rattle.st_io.specs.Input.{Gave, GaveNothing};
 ghost use Rattle.st_io.specs.Output.{Wrote, WroteNothing};
 ghost use Rattle.st_io.specs.Memory.{memory_input, memory_output, IsToFail, after_call, Refuses};
 
 use crate::buffer::Buffer;
-use crate::{Failed, Sink, Source, SureSource};
+use crate::{Failed, Sink, Source, SureSource, count_fault};
 use std::marker::Model;
 
 /// Counts the calls, and knows the numbers of those that fail.
@@ -41,7 +41,8 @@ impl Calls {
     }
 }
 
-/// A source of the bytes of a vector, which it tells. The calls whose numbers, from 1 on, stand in a list fail.
+/// A source of the bytes of a vector, which it tells. The calls whose numbers, from 1 on, stand in a list
+/// fail.
 #[derive(Debug, Drop)]
 pub struct MemSource {
     source: SureSource,
@@ -60,8 +61,12 @@ impl Model for MemSource {
 impl MemSource {
     /// All of the bytes are still to come, and no call was made.
     pub fn new(bytes: Vec<u8>, fails: Vec<u32>) -> MemSource
-        ensures { result ≡ record { left = bytes.items; taken = 0; faults = 0;
-            calls = record { made = 0; fails = fails.items } } }
+        ensures { result ≡ record {
+          left = bytes.items;
+          taken = 0;
+          faults = 0;
+          calls = record { made = 0; fails = fails.items };
+        } }
     {
         MemSource {
             source: SureSource::new(bytes),
@@ -89,15 +94,14 @@ impl Source for MemSource {
         ensures count { IfOk result (λ n. n ≡ min (length buf.old) (length self.old.left)) }
     {
         if self.calls.next_fails() {
-            self.faults = self.faults.saturating_add(1);
-            return Err(Failed);
+            return Err(count_fault(&mut self.faults));
         }
         self.source.read(buf)
     }
 }
 
-/// A sink that writes into a vector's spare capacity, and tells what it wrote. The calls whose numbers, from 1
-/// on, stand in a list fail, and so does each call with bytes once the buffer is full.
+/// A sink that writes into a vector's spare capacity, and tells what it wrote. The calls whose numbers, from
+/// 1 on, stand in a list fail, and so does each call with bytes once the buffer is full.
 #[derive(Debug, Drop)]
 pub struct MemSink {
     buffer: Buffer,
@@ -116,8 +120,12 @@ impl Model for MemSink {
 impl MemSink {
     /// The buffer's own bytes count as written, and no call was made.
     pub fn new(buffer: Vec<u8>, fails: Vec<u32>) -> MemSink
-        ensures { result ≡ record { written = buffer.items; room = vec_capacity buffer - vec_len buffer;
-            faults = 0; calls = record { made = 0; fails = fails.items } } }
+        ensures { result ≡ record {
+          written = buffer.items;
+          room = vec_capacity buffer - vec_len buffer;
+          faults = 0;
+          calls = record { made = 0; fails = fails.items };
+        } }
     {
         MemSink {
             buffer: Buffer::new(buffer),
@@ -156,12 +164,12 @@ impl Sink for MemSink {
         ensures faults { OnErr result (self.new.faults ≡ counted self.old.faults 1) }
 
         ensures count { IfOk result (λ n. n ≡ min (length piece.now) self.old.room) }
-        ensures room { self.new.room + length self.new.written ≡ self.old.room + length self.old.written }
+        ensures room { self.new.room + length self.new.written
+            ≡ self.old.room + length self.old.written }
     {
         let n = piece.len().min(self.buffer.room());
         if self.calls.next_fails() || (n == 0 && !piece.is_empty()) {
-            self.faults = self.faults.saturating_add(1);
-            return Err(Failed);
+            return Err(count_fault(&mut self.faults));
         }
         self.buffer.append(&piece[..n]);
         Ok(n)

@@ -1,4 +1,4 @@
-ghost use Rattle.std.specs.Prelude.{◌≡◌, ℕ, ◌<◌, ◌≤◌, [], length, take, MatchResult, IfOk, OnOk, IsOk};
+ghost use Rattle.std.specs.Prelude.{◌≡◌, ◌<◌, ◌≤◌, [], length, take, MatchResult, IfOk, IsOk};
 ghost use Rattle.st_io.specs.Output.{OutputState, Wrote, WroteNothing, WroteFront};
 
 use crate::Failed;

@@ -1,4 +1,4 @@
-ghost use Rattle.std.specs.Prelude.{ℕ, ◌≤◌, length, MatchResult, IfOk};
+ghost use Rattle.std.specs.Prelude.{◌≤◌, length, MatchResult, IfOk};
 ghost use Rattle.st_io.specs.Input.{InputState, Gave, GaveNothing, CameWhole, IsCause};
 
 use crate::Failed;

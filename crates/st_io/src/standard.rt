@@ -6,7 +6,7 @@ ghost use Rattle.st_io.specs.Input.{Gave, GaveNothing};
 ghost use Rattle.st_io.specs.Output.{Wrote, WroteNothing};
 ghost use Rattle.st_io.specs.Devices.{device_input, device_output, reader_of, writer_of};
 
-use crate::{Failed, Sink, Source};
+use crate::{Failed, Sink, Source, count_fault};
 use std::io::{Read, Write};
 
 /// A source over a reader. It tells no bytes, only their number. Each read is one call of the reader, and each
@@ -40,15 +40,15 @@ impl<R: Read> Source for StdSource<R> {
         ensures outcome { MatchResult result
             (λ n. Gave (device_input self.old) (device_input self.new) buf.new n)
             (λ _. GaveNothing (device_input self.old) (device_input self.new)) }
-        ensures faults { OnErr result ((device_input self.new).faults ≡ counted (device_input self.old).faults 1) }
+        ensures faults { OnErr result
+            ((device_input self.new).faults ≡ counted (device_input self.old).faults 1) }
 
         // What it gives is what the reader gave, and nothing is lost.
-        ensures passes_on { ReadConsumes (R.remaining (reader_of self.old)) (R.remaining (reader_of self.new))
-            result buf.new }
+        ensures passes_on { ReadConsumes
+            (R.remaining (reader_of self.old)) (R.remaining (reader_of self.new)) result buf.new }
     {
         let Ok(n) = self.reader.read(buf) else {
-            self.faults = self.faults.saturating_add(1);
-            return Err(Failed);
+            return Err(count_fault(&mut self.faults));
         };
         self.taken = self.taken.saturating_add(n as u64);
         Ok(n)
@@ -82,18 +82,16 @@ impl<W: Write> Sink for StdSink<W> {
         ensures outcome { MatchResult result
             (λ n. Wrote (device_output self.old) (device_output self.new) (take n piece.now))
             (λ _. WroteNothing (device_output self.old) (device_output self.new)) }
-        ensures faults { OnErr result ((device_output self.new).faults ≡ counted (device_output self.old).faults 1) }
+        ensures faults { OnErr result
+            ((device_output self.new).faults ≡ counted (device_output self.old).faults 1) }
 
         // What it takes is what the writer took.
-        ensures passes_on { WriteAppends (W.contents (writer_of self.old)) (W.contents (writer_of self.new))
-            result piece.now }
+        ensures passes_on { WriteAppends
+            (W.contents (writer_of self.old)) (W.contents (writer_of self.new)) result piece.now }
     {
         match self.writer.write(piece) {
             Ok(n) if n > 0 || piece.is_empty() => Ok(n),
-            _ => {
-                self.faults = self.faults.saturating_add(1);
-                Err(Failed)
-            }
+            _ => Err(count_fault(&mut self.faults)),
         }
     }
 }

@@ -1,8 +1,8 @@
 //! A source and a sink in memory that never fail.
-ghost use Rattle.std.specs.Prelude.{◌≡◌, ◌≤◌, ◌-◌, ◌↔◌, ◌++◌, min, length, take, drop, vec_len, vec_capacity, MatchResult, IfOk, IsSome, IfSome, Ok, Some, option_map, option_copied, vec_items};
-ghost use Rattle.st_io.specs.Input.{Gave, GaveNothing};
-ghost use Rattle.st_io.specs.Output.{Appends, Wrote, WroteNothing};
-ghost use Rattle.st_io.specs.Memory.{sure_input, sure_output};
+ghost use Rattle.std.specs.Prelude.{◌≡◌, ◌≤◌, ◌-◌, ◌↔◌, ◌++◌, min, length, take, drop, vec_len, vec_capacity, IfOk, IsSome, IfSome, Ok, Some, option_map, option_copied, vec_items};
+ghost use Rattle.st_io.specs.Input.{Gave};
+ghost use Rattle.st_io.specs.Output.{Wrote};
+ghost use Rattle.st_io.specs.Memory.{SureInput, SureOutput, sure_input, sure_output};
 
 use crate::buffer::Buffer;
 use crate::{Failed, Sink, Source};
@@ -29,7 +29,8 @@ impl Model for SureSource {
 impl SureSource {
     /// All of the bytes are still to come.
     pub fn new(bytes: Vec<u8>) -> SureSource
-        ensures { result ≡ record { left = bytes.items; taken = 0 } }
+        ensures all { result ≡ record { left = bytes.items; taken = 0 } }
+        ensures no_faults { (s : SureInput) → (⟦<SureSource as Source>⟧.input s).faults ≡ 0 }
     {
         SureSource { bytes, taken: 0 }
     }
@@ -70,7 +71,11 @@ impl Model for SureSink {
 impl SureSink {
     /// The buffer's own bytes count as written.
     pub fn new(buffer: Vec<u8>) -> SureSink
-        ensures { result ≡ record { written = Some buffer.items; room = vec_capacity buffer - vec_len buffer } }
+        ensures all { result ≡ record {
+          written = Some buffer.items;
+          room = vec_capacity buffer - vec_len buffer;
+        } }
+        ensures no_faults { (k : SureOutput) → (⟦<SureSink as Sink>⟧.output k).faults ≡ 0 }
     {
         SureSink {
             buffer: Some(Buffer::new(buffer)),
@@ -99,10 +104,14 @@ impl Sink for SureSink {
     fn write(&mut self, piece: &[u8]) -> Result<usize, Failed>
         ensures whole { result ≡ Ok (length piece.now) }
         ensures written { Wrote (sure_output self.old) (sure_output self.new) piece.now }
-        ensures told { IsSome self.new.written ↔ IsSome self.old.written × (length piece.now ≤ self.old.room) }
+        ensures told { IsSome self.new.written
+            ↔ (IsSome self.old.written × (length piece.now ≤ self.old.room)) }
         ensures room { self.new.room ≡ self.old.room - length piece.now }
     {
-        self.buffer = self.buffer.take().and_then(|buffer| appended(buffer, piece));
+        self.buffer = self
+            .buffer
+            .take()
+            .and_then(|buffer| appended(buffer, piece));
         Ok(piece.len())
     }
 }

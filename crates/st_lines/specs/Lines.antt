@@ -10,7 +10,7 @@ text [] = []
 text (line ∷ lines) = line ++ text lines
 
 -- the lines that each of n numbers gives, from the first on
-abbrev pub lines_for : (ℕ → List (List ℕ)) → ℕ → ℕ → List (List ℕ)
+unfoldable pub lines_for : (ℕ → List (List ℕ)) → ℕ → ℕ → List (List ℕ)
 lines_for give zero first = []
 lines_for give (suc n) first = give first ++ lines_for give n (first + 1)
 

@@ -3,3 +3,4 @@ pub mod Print
 pub mod Report
 pub mod Output
 pub mod Answers
+pub mod Running

@@ -1,7 +1,7 @@
 -- What the program writes for a job.
 use Rattle.std.specs.Prelude.{ℕ, codes, List, [], ◌∷◌, Option, None, Some}
 use Rattle.st_asm.specs.Image.{Program, program}
-use Rattle.st_state.specs.Machine.{opening}
+use Rattle.st_state.specs.Machine.{Machine, opening}
 use Rattle.st_exec.specs.Run.{Scene, Ran, run}
 use Rattle.st_lines.specs.Event.{Event, at_moment}
 use Rattle.st_report.specs.Line.{fault_line}
@@ -20,15 +20,15 @@ pub record Output : Type 0 where
 abbrev pub budget : ℕ
 budget = 1000
 
--- the run of a program, with no signals and an empty reader
-abbrev pub run_of : Program → Ran
-run_of p = run budget (record { machine = opening p.image p.start; signals = []; cards = [] })
+-- the run from a state on, with no signals and an empty reader
+abbrev pub run_from : Machine → Ran
+run_from s = run budget (record { machine = s; signals = []; cards = [] })
 
--- the output of a job that is refused, and of one that runs
-abbrev pub refusal : Output
-refusal = record {
+-- the output of a job that is refused at a card, and of one that runs
+abbrev pub refusal : ℕ → Output
+refusal card = record {
   status = Refused;
-  events = at_moment 0 0 (fault_line 1 (codes "NOT YET BUILT") ∷ []);
+  events = at_moment 0 0 (fault_line card (codes "NOT YET BUILT") ∷ []);
   done = 0;
   ticks = 0
 }
@@ -37,8 +37,8 @@ abbrev pub output_of_run : Ran → Output
 output_of_run r = record { status = Done; events = report r.happened; done = r.last.done; ticks = 0 }
 
 abbrev pub output_of_program : Option Program → Output
-output_of_program None = refusal
-output_of_program (Some p) = output_of_run (run_of p)
+output_of_program None = refusal 1
+output_of_program (Some p) = output_of_run (run_from (opening p.image p.start))
 
 -- the output of a job
 unfoldable pub output_of : List ℕ → Output

@@ -1,5 +1,5 @@
 -- The report of a run: its lines, each with the number of instructions done when it is written.
-use Rattle.std.specs.Prelude.{ℕ, ◌==◌, if◌then◌else◌, Bool, List, [], ◌∷◌, ◌++◌}
+use Rattle.std.specs.Prelude.{ℕ, ◌==◌, if◌then◌else◌, Bool, Option, None, Some, List, [], ◌∷◌, ◌++◌}
 use Rattle.st_state.specs.Machine.{Machine, word}
 use Rattle.st_exec.specs.Run.{Happening, Prints, Interrupts, Ends}
 use Rattle.st_lines.specs.Lines.{lines_for}
@@ -20,6 +20,11 @@ abbrev pub lines_at : Happening → List (List ℕ)
 lines_at (Prints s words) = prt_line (printed words) ∷ []
 lines_at (Interrupts s i) = int_line i s.done ∷ block s
 lines_at (Ends s rests) = end_line rests ∷ done_line s.done ∷ block s
+
+-- the lines of the interrupt that the next step takes, if it takes one
+abbrev pub lines_by : Option ℕ → Machine → List (List ℕ)
+lines_by None s = []
+lines_by (Some i) s = lines_at (Interrupts s i)
 
 -- the state in which it happens
 abbrev pub state_at : Happening → Machine

@@ -1,13 +1,13 @@
-// A library with one function.
-#![tactic(auto)]
+//! The program: the words of a command line, a job's bytes in and a report's lines out. `stretch` carries what
+//! the whole program promises. `docs/machine.md` and `docs/report.md` have the rules.
+#![tactic(auto, using(st_bits::specs::Storage::words_of_storage_is))]
 
-ghost use Rattle.std.specs.Prelude.{◌≡◌};
-ghost use Rattle.st_top.specs.Echo.{echo_of};
+mod answer;
+mod block;
+mod command;
+mod program;
+mod running;
 
-// The `ensures` clause is the contract: what `echo` returns is `echo_of` of its argument, a definition
-// in `specs/Echo.antt`, which a caller's clause can cite too.
-pub fn echo(x: usize) -> usize
-    ensures { result ≡ echo_of x }
-{
-    x
-}
+pub use answer::{Answer, Status};
+pub use command::Command;
+pub use program::stretch;

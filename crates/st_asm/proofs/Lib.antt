@@ -1,0 +1,5 @@
+pub mod ListLemmas
+pub mod NumberLemmas
+pub mod PieceLemmas
+pub mod JobLemmas
+pub mod ImageLemmas

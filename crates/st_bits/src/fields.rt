@@ -1,0 +1,64 @@
+//! Fields: runs of 1 to 64 bits anywhere in a list of words, named by the address of the first bit.
+ghost use Rattle.std.specs.Prelude.{◌≡◌, ℕ, ◌+◌, ◌-◌, ◌*◌, ◌<◌, ◌≤◌, ◌^◌, length, slice_index};
+ghost use Rattle.st_bits.specs.Bits.{all_bits, bits as bits_of, field, num, put};
+
+use crate::parts::{part, with_part};
+
+/// The number of the `n` bits, 1 to 64, from the bit address `a` on, the first bit highest.
+pub fn get_field(words: &[u64], a: u32, n: u8) -> u64
+    requires some { 1 ≤ n }
+    requires few { n ≤ 64 }
+    requires inside { a + n ≤ 64 * length words.now }
+    ensures value { result ≡ num (field (all_bits words.now) a n) }
+    ensures bound { result < 2 ^ n }
+{
+    let word = (a / 64) as usize;
+    let first = a % 64;
+    let here = 64 - first;
+    let count = n as u32;
+    if count <= here {
+        part(words[word], first, count)
+    } else {
+        let rest = count - here;
+        joined(
+            part(words[word], first, here),
+            part(words[word + 1], 0, rest),
+            rest,
+        )
+    }
+}
+
+/// Puts the number `bits`, below 2^n, into the `n` bits, 1 to 64, from the bit address `a` on.
+pub fn put_field(words: &mut [u64], a: u32, n: u8, bits: u64)
+    requires some { 1 ≤ n }
+    requires few { n ≤ 64 }
+    requires inside { a + n ≤ 64 * length words.old }
+    requires fits { bits < 2 ^ n }
+    ensures put { all_bits words.new ≡ put (all_bits words.old) a (bits_of n bits) }
+
+    // A word that has no bit of the field is as it was.
+    ensures before { (w : ℕ) → 64 * w + 64 ≤ a → slice_index words.new w ≡ slice_index words.old w }
+    ensures after { (w : ℕ) → a + n ≤ 64 * w → slice_index words.new w ≡ slice_index words.old w }
+{
+    let word = (a / 64) as usize;
+    let first = a % 64;
+    let here = 64 - first;
+    let count = n as u32;
+    if count <= here {
+        words[word] = with_part(words[word], first, count, bits);
+    } else {
+        let rest = count - here;
+        words[word] = with_part(words[word], first, here, bits >> rest);
+        words[word + 1] = with_part(words[word + 1], 0, rest, part(bits, 64 - rest, rest));
+    }
+}
+
+/// The bits of `high` followed by the `count` bits of `low`.
+fn joined(high: u64, low: u64, count: u32) -> u64
+    requires few { count < 64 }
+    requires high_fits { high < 2 ^ (64 - count) }
+    requires low_fits { low < 2 ^ count }
+    ensures { result ≡ high * 2 ^ count + low }
+{
+    high << count | low
+}

@@ -1,0 +1,10 @@
+use Rattle.std.proofs.Common.{◌-◌}
+use Rattle.st_lines.specs.Lines.{lines_for}
+use Rattle.st_lines.proofs.Progress.{LinesSoFar}
+use Rattle.st_top.specs.Report.{register_lines}
+use Rattle.st_top.proofs.block.write_registers.Given as goal
+
+abbrev pub invariant-loop-w : goal.invariant-loop-w
+invariant-loop-w g l =
+    LinesSoFar (g.K.Sink.output l.fn.out) (g.K.Sink.output l.out) (lines_for (register_lines l.state) 30 2)
+    (lines_for (register_lines l.state) (32 - l.w) l.w)

@@ -1,0 +1,64 @@
+ghost use Rattle.std.specs.Prelude.{◌≡◌, ◌^◌, ◌<◌, [], ◌∷◌};
+ghost use Rattle.st_lines.specs.Lines.{WritesLines, lines_for};
+ghost use Rattle.st_report.specs.Line.{ic_line, en_line};
+ghost use Rattle.st_top.specs.Report.{block, register_lines};
+
+use st_io::{Failed, Sink};
+use st_lines::write_line;
+use st_report::{Line, line_en, line_ic, line_reg};
+use st_state::State;
+
+/// Writes a line of the report.
+pub fn put<K: Sink>(out: &mut K, line: &Line) -> Result<(), Failed>
+    ensures { WritesLines (K.output out.old) (K.output out.new) (line.now.bytes ∷ []) result }
+{
+    write_line(out, line.as_str().as_bytes())
+}
+
+/// Writes the line of register `w`, where it is not zero.
+#[tactic(auto, using(st_lines::proofs::Progress::wrote_nothing, st_bits::specs::Storage::words_of_storage_is))]
+fn write_register<K: Sink>(out: &mut K, state: &State, w: u8) -> Result<(), Failed>
+    requires { w < 32 }
+    ensures { WritesLines (K.output out.old) (K.output out.new) (register_lines state.now w) result }
+{
+    let word = state.word(u32::from(w));
+    if word == 0 {
+        return Ok(());
+    }
+    put(out, &line_reg(w, word))
+}
+
+/// Writes the lines of the registers that are not zero.
+fn write_registers<K: Sink>(out: &mut K, state: &State) -> Result<(), Failed>
+    ensures { WritesLines (K.output out.old) (K.output out.new) (lines_for (register_lines state.now) 30 2) result }
+{
+    for w in 2..32 {
+        write_register(out, state, w)?;
+    }
+    Ok(())
+}
+
+/// Writes the line of the counter.
+fn write_counter<K: Sink>(out: &mut K, state: &State) -> Result<(), Failed>
+    ensures { WritesLines (K.output out.old) (K.output out.new) (ic_line state.now.ic ∷ []) result }
+{
+    let ic = state.ic;
+    put(out, &line_ic(ic))
+}
+
+/// Writes the line that says whether interrupts are enabled.
+fn write_enabled<K: Sink>(out: &mut K, state: &State) -> Result<(), Failed>
+    ensures { WritesLines (K.output out.old) (K.output out.new) (en_line state.now.enabled ∷ []) result }
+{
+    let enabled = state.enabled;
+    put(out, &line_en(enabled))
+}
+
+/// Writes the state block.
+pub fn write_block<K: Sink>(out: &mut K, state: &State) -> Result<(), Failed>
+    ensures { WritesLines (K.output out.old) (K.output out.new) (block state.now) result }
+{
+    write_counter(out, state)?;
+    write_enabled(out, state)?;
+    write_registers(out, state)
+}
