@@ -20,26 +20,31 @@ below m x = x / 2 ^ 33 % m
 abbrev pub draw : ℕ → ℕ → ℕ → ℕ
 draw n m x = below m (after n x)
 
--- an index word, a word, a bit, an offset and a small value, each by the n-th draw after x
+-- the n-th draw after x as the number of an index word
 abbrev pub index : ℕ → ℕ → List ℕ
 index n x = decimal (1 + draw n 7 x)
 
+-- as a word
 abbrev pub word : ℕ → ℕ → List ℕ
 word n x = decimal (4096 + draw n 256 x)
 
+-- as a bit
 abbrev pub bit : ℕ → ℕ → List ℕ
 bit n x = decimal (draw n 64 x)
 
+-- as an offset
 abbrev pub offset : ℕ → ℕ → List ℕ
 offset n x = decimal (draw n 64 x)
 
+-- as a small value
 abbrev pub value : ℕ → ℕ → List ℕ
 value n x = decimal (draw n 4 x)
 
--- the length of a field, and of one that holds a byte of eight bits
+-- as the length of a field
 abbrev pub field_length : ℕ → ℕ → List ℕ
 field_length n x = decimal (1 + draw n 64 x)
 
+-- as the length of a field that holds a byte of eight bits
 abbrev pub byte_field_length : ℕ → ℕ → List ℕ
 byte_field_length n x = decimal (8 + draw n 57 x)
 
@@ -97,18 +102,20 @@ card text = replicate 9 32 ++ text ++ lf
 unfoldable pub control : List ℕ → List ℕ
 control text = text ++ lf
 
--- the drawn card after x, and the generator's number after it
+-- the card drawn after x
 abbrev pub drawn_card : ℕ → List ℕ
 drawn_card x = card (statement (form_after x) (next x))
 
+-- the generator's number after that card
 abbrev pub after_card : ℕ → ℕ
 after_card x = after (letters (form_after x)) (next x)
 
--- the generator's number after n cards, and these cards
+-- the generator's number after n cards
 abbrev pub after_cards : ℕ → ℕ → ℕ
 after_cards zero x = x
 after_cards (suc n) x = after_card (after_cards n x)
 
+-- n drawn cards
 abbrev pub drawn_cards : ℕ → ℕ → List ℕ
 drawn_cards zero x = []
 drawn_cards (suc n) x = drawn_cards n x ++ drawn_card (after_cards n x)

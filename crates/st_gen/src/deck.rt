@@ -33,12 +33,13 @@ fn push_drawn_card(deck: &mut Vec<u8>, generator: &mut Generator) -> Result<(), 
 fn push_drawn_cards(
     deck: &mut Vec<u8>,
     generator: &mut Generator,
-    cards: u32,
+    count: u32,
 ) -> Result<(), AllocError>
-    ensures drawn { OnOk result (generator.new.x ≡ after_cards cards generator.old.x) }
-    ensures ok { OnOk result (deck.new.items ≡ deck.old.items ++ drawn_cards cards generator.old.x) }
+    ensures drawn { OnOk result (generator.new.x ≡ after_cards count generator.old.x) }
+    ensures ok { OnOk result
+        (deck.new.items ≡ deck.old.items ++ drawn_cards count generator.old.x) }
 {
-    'cards: for _ in 0..cards {
+    'cards: for _ in 0..count {
         push_drawn_card(deck, generator)?;
     }
     Ok(())
