@@ -1,5 +1,5 @@
 //! The lines of the listing.
-ghost use Rattle.std.specs.Prelude.{◌≡◌, ◌+◌, ◌-◌, ◌^◌, ◌<◌, ◌≤◌, ◌++◌, length, take, slice_index, IsAscii, decimal, max};
+ghost use Rattle.std.specs.Prelude.{◌≡◌, ◌+◌, ◌^◌, ◌<◌, ◌≤◌, ◌++◌, length, take, slice_index, IsAscii, max};
 ghost use Rattle.arrayvec.specs.ArrayString.{array_string_len};
 ghost use Rattle.st_report.specs.Listing.{blanks, right_in, left_in, without_end_blanks, laid_text, location_text, IsCardText, listed_line, symbol_line};
 
@@ -28,23 +28,25 @@ fn push_blanks(line: &mut Line, count: usize)
 }
 
 // Appends a text at the right of so many places.
-fn push_right(line: &mut Line, places: usize, text: &str)
-    requires { array_string_len line.old + max places (length text.now) ≤ 128 }
-    ensures bytes { line.new.bytes ≡ line.old.bytes ++ right_in places text.now }
-    ensures room { array_string_len line.new ≡ array_string_len line.old + max places (length text.now) }
+fn push_right(line: &mut Line, width: usize, text: &str)
+    requires { array_string_len line.old + max width (length text.now) ≤ 128 }
+    ensures bytes { line.new.bytes ≡ line.old.bytes ++ right_in width text.now }
+    ensures room { let shown = max width (length text.now) in
+        array_string_len line.new ≤ array_string_len line.old + shown }
 {
-    push_blanks(line, places.saturating_sub(text.len()));
+    push_blanks(line, width.saturating_sub(text.len()));
     line.push_str(text);
 }
 
 // Appends a text at the left of so many places.
-fn push_left(line: &mut Line, places: usize, text: &str)
-    requires { array_string_len line.old + max places (length text.now) ≤ 128 }
-    ensures bytes { line.new.bytes ≡ line.old.bytes ++ left_in places text.now }
-    ensures room { array_string_len line.new ≡ array_string_len line.old + max places (length text.now) }
+fn push_left(line: &mut Line, width: usize, text: &str)
+    requires { array_string_len line.old + max width (length text.now) ≤ 128 }
+    ensures bytes { line.new.bytes ≡ line.old.bytes ++ left_in width text.now }
+    ensures room { let shown = max width (length text.now) in
+        array_string_len line.new ≤ array_string_len line.old + shown }
 {
     line.push_str(text);
-    push_blanks(line, places.saturating_sub(text.len()));
+    push_blanks(line, width.saturating_sub(text.len()));
 }
 
 // How many bytes stand before the blanks at the end.
@@ -92,10 +94,10 @@ fn shown_bits(bits: u64, length: u8) -> Line
     shown
 }
 
-/// A line of the listing: the card's number, counted from 1, right in 5 places; its location, a
-/// bit address, as word.bit right in 9; the bits that it lays in hexadecimal, left in 16, with zeros
-/// on the right to whole digits; and its text. A blank stands between two of them; the blanks at
-/// the line's end are dropped. `bits` are the laid bits as one number, `length` is how many there are.
+/// A line of the listing: the card's number, counted from 1, right in 5 places; its location, a bit
+/// address, as word.bit right in 9; the bits that it lays in hexadecimal, left in 16, with zeros on
+/// the right to whole digits; and its text. One blank parts them, and blanks at the line's end are
+/// dropped. `bits` are the laid bits as one number, and `length` says how many there are.
 pub fn line_listed(card: u32, location: Option<u32>, bits: u64, length: u8, text: &[u8]) -> Line
     requires whole { length ≤ 64 }
     requires fits { bits < 2 ^ length }

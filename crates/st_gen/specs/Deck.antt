@@ -1,0 +1,141 @@
+-- The made deck: which cards a seed and a number of cards give.
+use Rattle.std.specs.Prelude.{ℕ, suc, zero, ◌+◌, ◌*◌, ◌/◌, ◌%◌, ◌^◌, List, [], ◌∷◌, ◌++◌, replicate, slice_index_or, codes, decimal}
+use Rattle.st_gen.specs.declared.form.Form.{Form}
+use Rattle.st_gen.specs.declared.form.Form.TheVariants.{LoadValue, AddValue, LoadWord, Add, Store, AddOne, Connect, Multiply}
+
+-- the generator's next number
+unfoldable pub next : ℕ → ℕ
+next x = (x * 6364136223846793005 + 1442695040888963407) % 2 ^ 64
+
+-- its number after n steps
+abbrev pub after : ℕ → ℕ → ℕ
+after zero x = x
+after (suc n) x = next (after n x)
+
+-- what a number gives of the first m numbers: its high bits, reduced
+abbrev pub below : ℕ → ℕ → ℕ
+below m x = x / 2 ^ 33 % m
+
+-- the n-th draw after x, of the first m numbers
+abbrev pub draw : ℕ → ℕ → ℕ → ℕ
+draw n m x = below m (after n x)
+
+-- the n-th draw after x as the number of an index word
+abbrev pub index : ℕ → ℕ → List ℕ
+index n x = decimal (1 + draw n 7 x)
+
+-- as a word
+abbrev pub word : ℕ → ℕ → List ℕ
+word n x = decimal (4096 + draw n 256 x)
+
+-- as a bit
+abbrev pub bit : ℕ → ℕ → List ℕ
+bit n x = decimal (draw n 64 x)
+
+-- as an offset
+abbrev pub offset : ℕ → ℕ → List ℕ
+offset n x = decimal (draw n 64 x)
+
+-- as a small value
+abbrev pub value : ℕ → ℕ → List ℕ
+value n x = decimal (draw n 4 x)
+
+-- as the length of a field
+abbrev pub field_length : ℕ → ℕ → List ℕ
+field_length n x = decimal (1 + draw n 64 x)
+
+-- as the length of a field that holds a byte of eight bits
+abbrev pub byte_field_length : ℕ → ℕ → List ℕ
+byte_field_length n x = decimal (8 + draw n 57 x)
+
+-- the operands of an operation on an unsigned binary field: its length is drawn first
+abbrev pub field_operands : ℕ → List ℕ
+field_operands x =
+    codes "(BU," ++ field_length 1 x ++ codes ")," ++ word 2 x ++ codes "." ++ bit 3 x
+    ++ codes "," ++ offset 4 x
+
+-- a form's statement, its letters drawn after x
+abbrev pub statement : Form → ℕ → List ℕ
+statement LoadValue x = codes "LVI,$X" ++ index 1 x ++ codes "," ++ word 2 x ++ codes ".0"
+statement AddValue x = codes "V+I,$X" ++ index 1 x ++ codes "," ++ value 2 x ++ codes ".0"
+statement LoadWord x = codes "L(BU,64)," ++ word 1 x ++ codes ".0"
+statement Add x = codes "+" ++ field_operands x
+statement Store x = codes "ST" ++ field_operands x
+statement AddOne x =
+    codes "M+1(B," ++ byte_field_length 1 x ++ codes ",8)," ++ word 2 x ++ codes "." ++ bit 3 x
+statement Connect x = codes "C0110" ++ field_operands x
+statement Multiply x =
+    codes "*(BU," ++ field_length 1 x ++ codes ")(V+I),0.32($X" ++ index 2 x ++ codes ")"
+
+-- how many letters its statement has
+abbrev pub letters : Form → ℕ
+letters LoadValue = 2
+letters AddValue = 2
+letters LoadWord = 1
+letters Add = 4
+letters Store = 4
+letters AddOne = 3
+letters Connect = 4
+letters Multiply = 2
+
+-- the forms in the order of their numbers
+abbrev pub forms : List Form
+forms = LoadValue ∷ AddValue ∷ LoadWord ∷ Add ∷ Store ∷ AddOne ∷ Connect ∷ Multiply ∷ []
+
+-- the form with this number
+abbrev pub form_of : ℕ → Form
+form_of number = slice_index_or forms number Multiply
+
+-- the form that is drawn first for a card
+abbrev pub form_after : ℕ → Form
+form_after x = form_of (draw 1 8 x)
+
+-- the line end
+abbrev pub lf : List ℕ
+lf = 10 ∷ []
+
+-- a statement card: the statement stands from column 10 on
+unfoldable pub card : List ℕ → List ℕ
+card text = replicate 9 32 ++ text ++ lf
+
+-- a control card: it stands from column 1 on
+unfoldable pub control : List ℕ → List ℕ
+control text = text ++ lf
+
+-- the card drawn after x
+abbrev pub drawn_card : ℕ → List ℕ
+drawn_card x = card (statement (form_after x) (next x))
+
+-- the generator's number after that card
+abbrev pub after_card : ℕ → ℕ
+after_card x = after (letters (form_after x)) (next x)
+
+-- the generator's number after n cards
+abbrev pub after_cards : ℕ → ℕ → ℕ
+after_cards zero x = x
+after_cards (suc n) x = after_card (after_cards n x)
+
+-- n drawn cards
+abbrev pub drawn_cards : ℕ → ℕ → List ℕ
+drawn_cards zero x = []
+drawn_cards (suc n) x = drawn_cards n x ++ drawn_card (after_cards n x)
+
+-- a delay of 1 to 20, by this number
+abbrev pub delay_card : ℕ → List ℕ
+delay_card x = control (codes "/DELAYS " ++ decimal (1 + below 20 x))
+
+-- n cards with a delay each
+unfoldable pub delay_cards : ℕ → ℕ → List ℕ
+delay_cards zero x = []
+delay_cards (suc n) x = delay_cards n x ++ delay_card (next (after n x))
+
+-- the cards behind the drawn ones: the end of the program, and the control cards
+abbrev pub closing_cards : ℕ → ℕ → List ℕ
+closing_cards cards x =
+    card (codes "BEW") ++ card (codes "END,32.0") ++ control (codes "/BUDGET " ++ decimal (cards + 2))
+    ++ delay_cards 16 x ++ control (codes "/TIME")
+
+-- the deck
+abbrev pub made_deck : ℕ → ℕ → List ℕ
+made_deck number cards =
+    drawn_cards cards number ++ closing_cards cards (after_cards cards number)

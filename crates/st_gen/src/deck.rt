@@ -1,0 +1,117 @@
+//! The cards of the deck.
+ghost use Rattle.std.specs.Prelude.{◌≡◌, ◌++◌, OnOk, IfOk};
+ghost use Rattle.st_gen.specs.Deck.{next, after_card, after_cards, card, drawn_card, drawn_cards, control, delay_card, delay_cards, closing_cards, made_deck};
+
+use crate::form::form_of;
+use crate::generator::Generator;
+use crate::statement::{begun, draw_statement, push_decimal};
+use itoa::Buffer;
+use st_bits::NoMemory;
+use std::alloc::{AllocError, Global};
+
+// Appends a statement card.
+#[tactic(auto, unfolding(crate::specs::Deck::card))]
+fn push_card(deck: &mut Vec<u8>, text: &str) -> Result<(), AllocError>
+    ensures { OnOk result (deck.new.items ≡ deck.old.items ++ card text.now) }
+{
+    deck.extend_from_slice(b"         ")?;
+    deck.extend_from_slice(text.as_bytes())?;
+    deck.extend_from_slice(b"\n")
+}
+
+// Appends the next drawn card.
+fn push_drawn_card(deck: &mut Vec<u8>, generator: &mut Generator) -> Result<(), AllocError>
+    ensures drawn { generator.new.x ≡ after_card generator.old.x }
+    ensures ok { OnOk result (deck.new.items ≡ deck.old.items ++ drawn_card generator.old.x) }
+{
+    let form = form_of(generator.draw(8));
+    let text = draw_statement(form, generator);
+    push_card(deck, text.as_str())
+}
+
+// Appends so many drawn cards.
+fn push_drawn_cards(
+    deck: &mut Vec<u8>,
+    generator: &mut Generator,
+    count: u32,
+) -> Result<(), AllocError>
+    ensures drawn { OnOk result (generator.new.x ≡ after_cards count generator.old.x) }
+    ensures ok { OnOk result
+        (deck.new.items ≡ deck.old.items ++ drawn_cards count generator.old.x) }
+{
+    'cards: for _ in 0..count {
+        push_drawn_card(deck, generator)?;
+    }
+    Ok(())
+}
+
+// Appends a control card.
+#[tactic(auto, unfolding(crate::specs::Deck::control))]
+fn push_control(deck: &mut Vec<u8>, text: &str) -> Result<(), AllocError>
+    ensures { OnOk result (deck.new.items ≡ deck.old.items ++ control text.now) }
+{
+    deck.extend_from_slice(text.as_bytes())?;
+    deck.extend_from_slice(b"\n")
+}
+
+// Appends a card with the next delay.
+fn push_delay_card(deck: &mut Vec<u8>, generator: &mut Generator) -> Result<(), AllocError>
+    ensures drawn { generator.new.x ≡ next generator.old.x }
+    ensures ok { OnOk result (deck.new.items ≡ deck.old.items ++ delay_card generator.new.x) }
+{
+    let mut text = begun("/DELAYS ");
+    push_decimal(&mut text, 1 + generator.draw(20));
+    push_control(deck, text.as_str())
+}
+
+// Appends so many cards with a delay each.
+#[tactic(auto, unfolding(crate::specs::Deck::delay_cards))]
+fn push_delay_cards(
+    deck: &mut Vec<u8>,
+    generator: &mut Generator,
+    count: u32,
+) -> Result<(), AllocError>
+    ensures { OnOk result (deck.new.items ≡ deck.old.items ++ delay_cards count generator.old.x) }
+{
+    'delays: for _ in 0..count {
+        push_delay_card(deck, generator)?;
+    }
+    Ok(())
+}
+
+// Appends the cards behind the drawn ones.
+fn push_closing_cards(
+    deck: &mut Vec<u8>,
+    generator: &mut Generator,
+    cards: u32,
+) -> Result<(), AllocError>
+    ensures { OnOk result (deck.new.items ≡ deck.old.items ++ closing_cards cards generator.old.x) }
+{
+    let mut budget = begun("/BUDGET ");
+    budget.push_str(Buffer::new().format(u64::from(cards) + 2));
+    push_card(deck, "BEW")?;
+    push_card(deck, "END,32.0")?;
+    push_control(deck, budget.as_str())?;
+    push_delay_cards(deck, generator, 16)?;
+    push_control(deck, "/TIME")
+}
+
+// Appends the whole deck.
+fn push_deck(deck: &mut Vec<u8>, number: u64, cards: u32) -> Result<(), AllocError>
+    ensures { OnOk result (deck.new.items ≡ deck.old.items ++ made_deck number cards) }
+{
+    let mut generator = Generator { x: number };
+    push_drawn_cards(deck, &mut generator, cards)?;
+    push_closing_cards(deck, &mut generator, cards)
+}
+
+/// The deck that the seed `number` makes: `cards` drawn cards, the end of the program, and control
+/// cards that give a budget of two more than `cards`, sixteen delays of 1 to 20 ticks, and ask for
+/// ticks. The one error is that memory ran out.
+pub fn make_deck(alloc: Global, number: u64, cards: u32) -> Result<Vec<u8>, NoMemory>
+    ensures { IfOk result (λ deck. deck.items ≡ made_deck number cards) }
+{
+    let mut deck = Vec::new(alloc);
+    push_deck(&mut deck, number, cards).map_err(|_| NoMemory)?;
+    Ok(deck)
+}

@@ -1,0 +1,27 @@
+//! The generator of numbers.
+ghost use Rattle.std.specs.Prelude.{◌≡◌, ◌<◌};
+ghost use Rattle.st_gen.specs.Deck.{next, below};
+
+const MULTIPLIER: u64 = 6_364_136_223_846_793_005;
+
+const INCREMENT: u64 = 1_442_695_040_888_963_407;
+
+// A linear congruential generator with the number that it stands at.
+#[derive(Drop)]
+pub(crate) struct Generator {
+    pub(crate) x: u64,
+}
+
+impl Generator {
+    // The next number below the bound, by the high bits.
+    #[tactic(auto, unfolding(crate::specs::Deck::next))]
+    pub(crate) fn draw(&mut self, bound: u32) -> u32
+        requires { 0 < bound }
+        ensures step { self.new.x ≡ next self.old.x }
+        ensures value { result ≡ below bound self.new.x }
+        ensures in_range { result < bound }
+    {
+        self.x = self.x.wrapping_mul(MULTIPLIER).wrapping_add(INCREMENT);
+        ((self.x >> 33) % u64::from(bound)) as u32
+    }
+}

@@ -1,0 +1,16 @@
+//! The deck that `soak` runs: cards made from a seed.
+#![tactic(auto)]
+
+mod deck;
+mod form;
+mod generator;
+mod statement;
+
+use arrayvec::ArrayString;
+pub use deck::make_deck;
+
+/// The text of a statement, or of a control card.
+type Text = ArrayString<80>;
+
+#[cfg(test)]
+mod tests;
