@@ -1,5 +1,5 @@
 -- Words that are read from a list, changed as a short list and stored back.
-use Rattle.std.proofs.Common.{◌≡◌, ℕ, zero, suc, ◌+◌, ◌*◌, ◌%◌, ◌^◌, ◌<◌, ◌≤◌, List, [], ◌∷◌, ◌++◌, length, take, drop, get_or, refl, sym, ◌∙◌, ap, arith, length-append, append_assoc}
+use Rattle.std.proofs.Common.{◌≡◌, ℕ, zero, suc, ◌+◌, ◌*◌, ◌^◌, ◌<◌, ◌≤◌, List, [], ◌∷◌, ◌++◌, length, take, drop, get_or, refl, sym, ◌∙◌, ap, arith, length-append, append_assoc}
 use Rattle.std.proofs.Math.ListN.{set}
 use Rattle.std.proofs.Math.Nat.{mod-eq_of_lt}
 use Rattle.std.proofs.lemmas.List.{append-nil, take_at, drop_at}
@@ -17,15 +17,15 @@ field-window (x ∷ []) w b n h le = absurd (omega arith)
 field-window (x ∷ x' ∷ ws) zero b n h le =
     let first : 64 * 0 + b ≡ b = omega arith in
     let size : length (bits 64 x ++ bits 64 x') ≡ 128 =
-        omega (arith, length-append (bits 64 x) (bits 64 x'), length-bits 64 x, length-bits 64 x') in
+    omega (arith, length-append (bits 64 x) (bits 64 x'), length-bits 64 x, length-bits 64 x') in
     ap (λ a. field (bits 64 x ++ (bits 64 x' ++ all_bits ws)) a n) first
-        ∙ ap (λ bs. field bs b n) (sym (append_assoc (bits 64 x) (bits 64 x') (all_bits ws)))
-        ∙ field-within (bits 64 x ++ bits 64 x') (all_bits ws) b n (omega arith)
-        ∙ ap (λ bs. field (bits 64 x ++ bs) b n) (sym (append-nil (bits 64 x')))
+    ∙ ap (λ bs. field bs b n) (sym (append_assoc (bits 64 x) (bits 64 x') (all_bits ws)))
+    ∙ field-within (bits 64 x ++ bits 64 x') (all_bits ws) b n (omega arith)
+    ∙ ap (λ bs. field (bits 64 x ++ bs) b n) (sym (append-nil (bits 64 x')))
 field-window (x ∷ x' ∷ ws) (suc w) b n h le =
     ap (λ a. field (bits 64 x ++ (bits 64 x' ++ all_bits ws)) a n) (next_place x w b)
-        ∙ field-beyond (bits 64 x) (bits 64 x' ++ all_bits ws) (64 * w + b) n
-        ∙ field-window (x' ∷ ws) w b n (omega arith) le
+    ∙ field-beyond (bits 64 x) (bits 64 x' ++ all_bits ws) (64 * w + b) n
+    ∙ field-window (x' ∷ ws) w b n (omega arith) le
 
 -- one word stored back, the bits put into it alone, is the put on all
 pub put-stored : (ws : List ℕ) (w b : ℕ) (v : List ℕ) (y : ℕ) → w < length ws → b + length v ≤ 64
@@ -34,7 +34,7 @@ pub put-stored : (ws : List ℕ) (w b : ℕ) (v : List ℕ) (y : ℕ) → w < le
 unfolding all_bits
 put-stored ws w b v y h le e =
     put-in_word ws w b v y h le
-        (ap (λ bs. put bs b v) (sym (append-nil (bits 64 (get_or ws w 0)))) ∙ e ∙ append-nil (bits 64 y))
+    (ap (λ bs. put bs b v) (sym (append-nil (bits 64 (get_or ws w 0)))) ∙ e ∙ append-nil (bits 64 y))
 
 -- two words stored back, the bits put into those two alone, is the put on all
 pub put-stored_two : (ws : List ℕ) (w b : ℕ) (v : List ℕ) (y z : ℕ) → suc w < length ws → b + length v ≤ 128
@@ -46,18 +46,18 @@ put-stored_two (x ∷ []) w b v y z h le e = absurd (omega arith)
 put-stored_two (x ∷ x' ∷ ws) zero b v y z h le e =
     let first : 64 * 0 + b ≡ b = omega arith in
     let size : length (bits 64 x ++ bits 64 x') ≡ 128 =
-        omega (arith, length-append (bits 64 x) (bits 64 x'), length-bits 64 x, length-bits 64 x') in
+    omega (arith, length-append (bits 64 x) (bits 64 x'), length-bits 64 x, length-bits 64 x') in
     ap (λ a. put (bits 64 x ++ (bits 64 x' ++ all_bits ws)) a v) first
-        ∙ ap (λ bs. put bs b v) (sym (append_assoc (bits 64 x) (bits 64 x') (all_bits ws)))
-        ∙ put-within (bits 64 x ++ bits 64 x') (all_bits ws) b v (omega arith)
-        ∙ ap (λ bs. put (bits 64 x ++ bs) b v ++ all_bits ws) (sym (append-nil (bits 64 x')))
-        ∙ ap (λ bs. bs ++ all_bits ws) e
-        ∙ ap (λ bs. bits 64 y ++ bs ++ all_bits ws) (append-nil (bits 64 z))
-        ∙ append_assoc (bits 64 y) (bits 64 z) (all_bits ws)
+    ∙ ap (λ bs. put bs b v) (sym (append_assoc (bits 64 x) (bits 64 x') (all_bits ws)))
+    ∙ put-within (bits 64 x ++ bits 64 x') (all_bits ws) b v (omega arith)
+    ∙ ap (λ bs. put (bits 64 x ++ bs) b v ++ all_bits ws) (sym (append-nil (bits 64 x')))
+    ∙ ap (λ bs. bs ++ all_bits ws) e
+    ∙ ap (λ bs. bits 64 y ++ bs ++ all_bits ws) (append-nil (bits 64 z))
+    ∙ append_assoc (bits 64 y) (bits 64 z) (all_bits ws)
 put-stored_two (x ∷ x' ∷ ws) (suc w) b v y z h le e =
     ap (λ a. put (bits 64 x ++ (bits 64 x' ++ all_bits ws)) a v) (next_place x w b)
-        ∙ put-beyond (bits 64 x) (bits 64 x' ++ all_bits ws) (64 * w + b) v
-        ∙ ap (λ bs. bits 64 x ++ bs) (put-stored_two (x' ∷ ws) w b v y z (omega arith) le e)
+    ∙ put-beyond (bits 64 x) (bits 64 x' ++ all_bits ws) (64 * w + b) v
+    ∙ ap (λ bs. bits 64 x ++ bs) (put-stored_two (x' ∷ ws) w b v y z (omega arith) le e)
 
 -- the words of the bits of a list of words are that list
 pub words_of-all_bits : (ws : List ℕ) → ((w : ℕ) → get_or ws w 0 < 2 ^ 64) → words_of (length ws) (all_bits ws) ≡ ws
@@ -66,12 +66,12 @@ words_of-all_bits [] below = refl
 words_of-all_bits (x ∷ ws) below =
     let here : x < 2 ^ 64 = below 0 in
     let number : num (take 64 (bits 64 x ++ all_bits ws)) ≡ x =
-        ap num (take_at (bits 64 x) (all_bits ws) 64 (length-bits 64 x)) ∙ num-bits 64 x ∙ mod-eq_of_lt here in
+    ap num (take_at (bits 64 x) (all_bits ws) 64 (length-bits 64 x)) ∙ num-bits 64 x ∙ mod-eq_of_lt here in
     let rest : drop 64 (bits 64 x ++ all_bits ws) ≡ all_bits ws =
-        drop_at (bits 64 x) (all_bits ws) 64 (length-bits 64 x) in
+    drop_at (bits 64 x) (all_bits ws) 64 (length-bits 64 x) in
     ap (λ y. y ∷ words_of (length ws) (drop 64 (bits 64 x ++ all_bits ws))) number
-        ∙ ap (λ bs. x ∷ words_of (length ws) bs) rest
-        ∙ ap (λ xs. x ∷ xs) (words_of-all_bits ws (λ w. below (suc w)))
+    ∙ ap (λ bs. x ∷ words_of (length ws) bs) rest
+    ∙ ap (λ xs. x ∷ xs) (words_of-all_bits ws (λ w. below (suc w)))
 
 -- words that have their fixed bits keep each bit
 pub fixed_from-kept : (k : ℕ) (ws : List ℕ) → ((w : ℕ) → fixed (k + w) (get_or ws w 0) ≡ get_or ws w 0)
@@ -81,11 +81,11 @@ fixed_from-kept k [] keeps = refl
 fixed_from-kept k (x ∷ ws) keeps =
     let start : k ≡ k + 0 = omega arith in
     ap (λ y. y ∷ fixed_from (k + 1) ws) (ap (λ w. fixed w x) start ∙ keeps 0)
-        ∙ ap (λ xs. x ∷ xs)
-            (fixed_from-kept (k + 1) ws
-                (λ w.
-                    let next : k + 1 + w ≡ k + suc w = omega arith in
-                    ap (λ m. fixed m (get_or ws w 0)) next ∙ keeps (suc w)))
+    ∙ ap (λ xs. x ∷ xs)
+    (fixed_from-kept (k + 1) ws
+    (λ w.
+    let next : k + 1 + w ≡ k + suc w = omega arith in
+    ap (λ m. fixed m (get_or ws w 0)) next ∙ keeps (suc w)))
 
 -- the fixed bits of a list with one word changed
 pub fixed_from-set : (k : ℕ) (ws : List ℕ) (w y : ℕ)
@@ -98,4 +98,4 @@ fixed_from-set k (x ∷ ws) zero y =
 fixed_from-set k (x ∷ ws) (suc w) y =
     let next : k + 1 + w ≡ k + suc w = omega arith in
     ap (λ xs. fixed k x ∷ xs)
-        (fixed_from-set (k + 1) ws w y ∙ ap (λ m. set (fixed_from (k + 1) ws) w (fixed m y)) next)
+    (fixed_from-set (k + 1) ws w y ∙ ap (λ m. set (fixed_from (k + 1) ws) w (fixed m y)) next)

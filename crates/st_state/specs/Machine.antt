@@ -1,6 +1,7 @@
 -- The state of the machine between two instructions.
 use Rattle.std.specs.Prelude.{ℕ, ◌≡◌, ◌+◌, ◌<◌, ◌≤◌, ◌^◌, Bool, false, List, length, slice_index, slice_set, Option, None, Some}
-use Rattle.st_bits.specs.Registers.{fixed}
+use Rattle.st_bits.specs.Bits.{all_bits, put, words_of}
+use Rattle.st_bits.specs.Registers.{fixed, fixed_from}
 use Rattle.st_bits.specs.Storage.{words_of_storage}
 use Rattle.st_state.specs.declared.devices.Order.{Order}
 
@@ -25,6 +26,10 @@ with_word s w x = record s { words = slice_set s.words w x }
 -- the state after x is written to word w
 abbrev pub stored : Machine → ℕ → ℕ → Machine
 stored s w x = with_word s w (fixed w x)
+
+-- the state after the bits b are put into storage from bit a on; the fixed bits stand
+abbrev pub placed : Machine → ℕ → List ℕ → Machine
+placed s a b = record s { words = fixed_from 0 (words_of (length s.words) (put (all_bits s.words) a b)) }
 
 -- the state at the start: the image with the fixed bits of the mask, and the counter at the start address
 abbrev pub opening : List ℕ → ℕ → Machine

@@ -31,13 +31,13 @@
 //! ```
 #![tactic(auto, using(st_bits::specs::Storage::words_of_storage_is))]
 
-ghost use Rattle.std.specs.Prelude.{◌≡◌, ℕ, ◌<◌, ◌≤◌, ◌^◌, length, slice_index, IfOk, IfSome};
+ghost use Rattle.std.specs.Prelude.{◌≡◌, ℕ, ◌+◌, ◌*◌, ◌<◌, ◌≤◌, ◌^◌, length, slice_index, IfOk, IfSome, IsNone};
 ghost use Rattle.st_bits.specs.Registers.{fixed};
 ghost use Rattle.st_bits.specs.Storage.{words_of_storage};
 
 use devices::is_due;
 use indicators::{leftmost, turned};
-use st_bits::{Ind, NoMemory, WORDS, fix_register, part};
+use st_bits::{Ind, NoMemory, WORDS, fix_register, part, put_field};
 use std::alloc::Global;
 use std::marker::Model;
 
@@ -97,7 +97,8 @@ const DATA_FETCH: u8 = 20;
 const INSTRUCTION_FETCH: u8 = 21;
 
 impl State {
-    ghost use Rattle.st_state.specs.Machine.{IsMachine, opening, word as word_of, stored};
+    ghost use Rattle.st_state.specs.Machine.{IsMachine, opening, placed, stored, word as word_of};
+    ghost use Rattle.st_bits.specs.Bits.{bits as bits_of};
     ghost use Rattle.st_state.specs.Interrupts.{applied, signalled, pending as first_pending};
     ghost use Rattle.st_state.specs.Boundary.{forbidden, is_protected};
     ghost use Rattle.st_state.specs.Orders.{due as first_due, next_device as next_of};
@@ -149,9 +150,35 @@ impl State {
         self.words[w as usize] = fixed_word(w, value);
     }
 
+    /// Puts the number `bits`, below 2^n, into the `n` bits, 1 to 64, of storage from the bit address `a` on: a
+    /// register keeps its fixed bits, and no other bit changes.
+    pub fn put_field(&mut self, a: u32, n: u8, bits: u64)
+        requires some { 1 ≤ n }
+        requires few { n ≤ 64 }
+        requires inside { a + n ≤ 64 * words_of_storage }
+        requires fits { bits < 2 ^ n }
+        ensures { self.new ≡ placed self.old a (bits_of n bits) }
+    {
+        self.shape();
+        let w = a / 64;
+        let first = a % 64;
+        if first + n as u32 <= 64 {
+            let mut words = [self.word(w)];
+            put_field(&mut words, first, n, bits);
+            self.store(w, words[0]);
+        } else {
+            let mut words = [self.word(w), self.word(w + 1)];
+            put_field(&mut words, first, n, bits);
+            self.store(w, words[0]);
+            self.store(w + 1, words[1]);
+        }
+    }
+
     /// The indicator that forbids the access to the word address `w`, None where it is allowed.
     pub fn may(&self, access: Access, w: u32) -> Option<u8>
-        ensures { result ≡ forbidden self.now access w }
+        ensures value { result ≡ forbidden self.now access w }
+        ensures bound { IfSome result (λ i. i < 64) }
+        ensures inside { IsNone result → w < words_of_storage }
     {
         let lowest = match access {
             Access::Fetch => 32,

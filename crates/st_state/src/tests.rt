@@ -50,6 +50,21 @@ fn a_store_keeps_the_fixed_bits(rt: HostRuntime) -> Result<(), Fail> {
 }
 
 #[test]
+fn a_field_is_put_over_the_border_of_the_registers(rt: HostRuntime) -> Result<(), Fail> {
+    let mut state = opened(rt.alloc())?;
+    state.store(32, 0xFFFF_FFFF_0000_0000);
+    state.put_field(2016, 64, 4_294_967_296);
+    assert_eq!(rt; state.word(31), 1);
+    assert_eq!(rt; state.word(32), 0);
+    state.put_field(192, 4, 9);
+    assert_eq!(rt; state.word(3), 0x9000_0000_0000_0000);
+    state.put_field(250, 10, 0x3FF);
+    assert_eq!(rt; state.word(3), 0x9000_0000_0000_0000);
+    assert_eq!(rt; state.word(4), 0);
+    Ok(())
+}
+
+#[test]
 fn a_signal_is_pending_and_an_indicator_is_taken_off(rt: HostRuntime) -> Result<(), Fail> {
     let mut state = opened(rt.alloc())?;
     assert_eq!(rt; state.pending(), None);
