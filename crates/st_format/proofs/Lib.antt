@@ -1,0 +1,3 @@
+pub mod Shifts
+pub mod Tables
+pub mod Windows

@@ -1,0 +1,12 @@
+-- What the shifts of the code come to in arithmetic.
+use Rattle.std.proofs.Common.{◌≡◌, ℕ, ◌+◌, ◌-◌, ◌*◌, ◌/◌, ◌%◌, ◌^◌, ◌≤◌, ◌∙◌, ap, arith}
+use Rattle.st_bits.proofs.Shifts.{run_by_shifts}
+
+-- a run of n bits of a half-word by a shift to the left and one back
+pub run_of_half : (x a n : ℕ) → a + n ≤ 32 → x * 2 ^ a % 2 ^ 32 / 2 ^ (32 - n) ≡ x / 2 ^ (32 - a - n) % 2 ^ n
+run_of_half x a n h =
+    let back : 32 - n ≡ a + (32 - a - n) = omega arith in
+    let whole : 32 ≡ n + (a + (32 - a - n)) = omega arith in
+    ap (λ m. x * 2 ^ a % 2 ^ m / 2 ^ (32 - n)) whole
+    ∙ ap (λ m. x * 2 ^ a % 2 ^ (n + (a + (32 - a - n))) / 2 ^ m) back
+    ∙ run_by_shifts x a n (32 - a - n)

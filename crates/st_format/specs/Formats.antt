@@ -1,0 +1,168 @@
+-- The instruction that bits spell, and the bits of an instruction.
+use Rattle.std.specs.Prelude.{ℕ, ◌≡◌, ◌+◌, ◌*◌, ◌%◌, ◌^◌, ◌<◌, ◌≤◌, Bool, true, false, IsTrue, IsFalse, not, ◌==◌, ◌&&◌, Option, None, Some, if◌then◌else◌}
+use Rattle.st_format.specs.declared.operations.FullOp.{FullOp}
+use Rattle.st_format.specs.declared.operations.FullOp.TheVariants.{Variable, Connective, Transmission, BitTest, IndicatorTest, Order, CounterStore}
+use Rattle.st_format.specs.declared.instruction.Instr.{Instr}
+use Rattle.st_format.specs.declared.instruction.Instr.TheVariants.{Half, Branch, Floating, Vfl, Connect, Move, BitBranch, IndBranch, StoreCounter, Transfer, Invalid}
+use Rattle.st_format.specs.declared.instruction.Decoded.{Decoded}
+use Rattle.st_bits.specs.declared.operations.HalfOp.{HalfOp}
+use Rattle.st_bits.specs.declared.operations.BranchOp.{BranchOp}
+use Rattle.st_format.specs.Halves.{later, is_one, is_full, i_of, address_of, j_of, operation_of, bit_address_of, second_address_of, p_of, length_of, byte_of, offset_of, count_of, half_bits, first_bits, field_bits, second_bits}
+use Rattle.st_format.specs.Operations.{half_op, branch_op, full_op, half_number, branch_number, full_number, writes_field}
+use Rattle.st_format.specs.Validity.{is_invalid_half, breaks_rules, is_invalid, misfits, misuses_p, miscounts}
+
+-- a branch, where J names one
+abbrev pub branch_word : Option BranchOp → ℕ → Instr
+branch_word (Some op) first = Branch op (address_of first) (i_of first)
+branch_word None first = Invalid first 0 false
+
+-- another operation of the half-word format, where the number names one
+abbrev pub index_word : Option HalfOp → ℕ → Instr
+index_word (Some op) first = Half op (address_of first) (j_of first) (i_of first)
+index_word None first = Invalid first 0 false
+
+-- a half-word instruction: operation 0 is the floating group, 23 the branch group
+unfoldable pub half_word : ℕ → Instr
+half_word first =
+    if operation_of first == 0 then Floating (j_of first) (address_of first) (i_of first)
+    else if operation_of first == 23 then branch_word (branch_op (j_of first)) first
+    else index_word (half_op (operation_of first)) first
+
+-- a full-word instruction with a known operation
+unfoldable pub word_of : FullOp → ℕ → ℕ → Instr
+word_of (Variable op) first second =
+    Vfl op (is_one second 52) (is_one second 53) (is_one second 54) (p_of second) (length_of second)
+    (byte_of second) (offset_of second) (bit_address_of first) (i_of first)
+word_of (Connective kind) first second =
+    Connect kind (later second 52 4) (p_of second) (length_of second) (byte_of second)
+    (offset_of second) (bit_address_of first) (i_of first)
+word_of (Transmission swap) first second =
+    Move swap (bit_address_of first) (i_of first) (second_address_of second) (count_of second)
+word_of BitTest first second =
+    BitBranch (is_one second 52) (later second 53 2) (bit_address_of first) (i_of first)
+    (second_address_of second)
+word_of IndicatorTest first second =
+    IndBranch (is_one second 52) (is_one second 53) (bit_address_of first) (i_of first)
+    (second_address_of second)
+word_of (Order write) first second =
+    Transfer write (bit_address_of first) (i_of first) (second_address_of second)
+word_of CounterStore first second =
+    StoreCounter (bit_address_of first) (i_of first) (second_address_of second)
+
+-- a full-word instruction, where the operation is one of the list and breaks no rule
+abbrev pub full_word : Option FullOp → ℕ → ℕ → Instr
+full_word None first second = Invalid first second true
+full_word (Some op) first second =
+    if breaks_rules op first second then Invalid first second true else word_of op first second
+
+-- the instruction that the bits spell
+unfoldable pub instruction_of : ℕ → ℕ → Instr
+instruction_of first second =
+    if is_full first then full_word (full_op second) first second else half_word first
+
+-- the same with the number of its half-words
+abbrev pub decoded : ℕ → ℕ → Decoded
+decoded first second = record {
+  instr = instruction_of first second;
+  halves = if is_full first then 2 else 1;
+}
+
+-- a bit
+abbrev pub bit_of : Bool → ℕ
+bit_of b = if b then 1 else 0
+
+-- the first half-word of an instruction
+abbrev pub first_half : Instr → ℕ
+first_half (Half op address j i) = half_bits address j (half_number op) i
+first_half (Branch op address i) = half_bits address (branch_number op) 23 i
+first_half (Floating number address i) = half_bits address number 0 i
+first_half (Vfl op d u n p length byte offset address i) = first_bits address i
+first_half (Connect kind table p length byte offset address i) = first_bits address i
+first_half (Move swap address i second count) = first_bits address i
+first_half (BitBranch sense change address i second) = first_bits address i
+first_half (IndBranch sense off address i second) = first_bits address i
+first_half (StoreCounter address i second) = first_bits address i
+first_half (Transfer write address i count) = first_bits address i
+first_half (Invalid first second full) = first
+
+-- the second half-word, where the instruction is a full word
+abbrev pub second_half : Instr → Option ℕ
+second_half (Half op address j i) = None
+second_half (Branch op address i) = None
+second_half (Floating number address i) = None
+second_half (Vfl op d u n p length byte offset address i) =
+    Some (field_bits p length byte offset
+    (bit_of d * 2 ^ 7 + bit_of u * 2 ^ 6 + bit_of n * 2 ^ 5 + full_number (Variable op)))
+second_half (Connect kind table p length byte offset address i) =
+    Some (field_bits p length byte offset
+    (table * 2 ^ 4 + full_number (Connective kind)))
+second_half (Move swap address i second count) =
+    Some (second_bits second (full_number (Transmission swap)) (count % 16))
+second_half (BitBranch sense change address i second) =
+    Some (second_bits second (bit_of sense * 2 ^ 7 + change * 2 ^ 5 + full_number BitTest) 0)
+second_half (IndBranch sense off address i second) =
+    Some (second_bits second (bit_of sense * 2 ^ 7 + bit_of off * 2 ^ 6 + full_number IndicatorTest) 0)
+second_half (StoreCounter address i second) =
+    Some (second_bits second (full_number CounterStore) 0)
+second_half (Transfer write address i count) =
+    Some (second_bits count (full_number (Order write)) 0)
+second_half (Invalid first second full) = if full then Some second else None
+
+-- the address and the index field of a half-word instruction
+pub record FitsHalf (address i : ℕ) : Type 0 where
+  pub address_fits : address < 2 ^ 19
+  pub i_fits : i < 16
+
+-- the address and the index field of a full-word instruction
+pub record FitsFull (address i : ℕ) : Type 0 where
+  pub address_fits : address < 2 ^ 24
+  pub i_fits : i < 16
+
+-- the fields of an operation on a field
+pub record FitsField (p length byte offset : ℕ) : Type 0 where
+  pub p_fits : p < 8
+  pub some_bits : 1 ≤ length
+  pub length_fits : length ≤ 64
+  pub some_byte : 1 ≤ byte
+  pub byte_fits : byte ≤ 8
+  pub offset_fits : offset < 128
+
+-- bits that spell no instruction; where they are one half-word, there is no second one
+pub record IsRefusal (first second : ℕ) (full : Bool) : Type 0 where
+  pub first_fits : first < 2 ^ 32
+  pub second_fits : second < 2 ^ 32
+  pub format : is_full first ≡ full
+  pub refused : IsTrue (is_invalid first second)
+  pub alone : full ≡ false → second ≡ 0
+
+-- a value that some bits spell
+abbrev pub IsShape : Instr → Type 0
+IsShape (Half op address j i) = FitsHalf address i × (j < 16)
+IsShape (Branch op address i) = FitsHalf address i
+IsShape (Floating number address i) = FitsHalf address i × (number < 16)
+IsShape (Vfl op d u n p length byte offset address i) =
+    FitsFull address i × FitsField p length byte offset
+    × IsFalse (misfits d u length byte)
+    × IsFalse (misuses_p (writes_field (Variable op)) p length i)
+IsShape (Connect kind table p length byte offset address i) =
+    FitsFull address i × FitsField p length byte offset × (table < 16)
+    × IsFalse (misuses_p (writes_field (Connective kind)) p length i)
+IsShape (Move swap address i second count) =
+    FitsFull address i × (second < 2 ^ 19) × (1 ≤ count) × (count ≤ 16)
+IsShape (BitBranch sense change address i second) =
+    FitsFull address i × (change < 4) × (second < 2 ^ 19)
+IsShape (IndBranch sense off address i second) = FitsFull address i × (second < 2 ^ 19)
+IsShape (StoreCounter address i second) = FitsFull address i × (second < 2 ^ 19)
+IsShape (Transfer write address i count) = FitsFull address i × (1 ≤ count) × (count ≤ 1000)
+IsShape (Invalid first second full) = IsRefusal first second full
+
+-- whether the machine has the instruction: not the floating group, nor bits that spell none
+abbrev pub is_valid : Instr → Bool
+is_valid (Floating number address i) = false
+is_valid (Invalid first second full) = false
+is_valid _ = true
+
+-- whether the bits spell none
+abbrev pub is_no_instruction : Instr → Bool
+is_no_instruction (Invalid first second full) = true
+is_no_instruction _ = false

@@ -1,0 +1,4 @@
+pub mod Halves
+pub mod Operations
+pub mod Validity
+pub mod Formats

@@ -1,0 +1,152 @@
+-- The numbers of the operations.
+use Rattle.std.specs.Prelude.{ℕ, ◌+◌, ◌*◌, ◌^◌, Bool, true, false, ◌==◌, List, [], ◌∷◌, Option, None, Some, slice_index_or, if◌then◌else◌}
+use Rattle.std.specs.Option.{option_map}
+use Rattle.st_bits.specs.declared.operations.HalfOp.{HalfOp}
+use Rattle.st_bits.specs.declared.operations.HalfOp.TheVariants.{Lx, Lv, Lc, Lr, Sx, Sv, Sc, Sr, Sva, VPlus, VPlusC, Kv, Lvs, Lvi, Lci, Lri, VPlusI, VMinusI, VPlusIC, VPlusICR, Kvi, Kc, Kci, Cb, Cbr, R, Ex}
+use Rattle.st_bits.specs.declared.operations.BranchOp.{BranchOp}
+use Rattle.st_bits.specs.declared.operations.BranchOp.TheVariants.{B, Br, Be, Bd, Bew, Nop}
+use Rattle.st_bits.specs.declared.operations.VflOp.{VflOp}
+use Rattle.st_bits.specs.declared.operations.VflOp.TheVariants.{L, Lwf, Ltrs, Lft, St, Add, AddMg, MAdd, MAddMg, MAdd1, K, Kf, Ke, Kfe, Kr, Kfr, Mul, MulAdd, Div, Lcv}
+use Rattle.st_bits.specs.declared.operations.ConnKind.{ConnKind}
+use Rattle.st_bits.specs.declared.operations.ConnKind.TheVariants.{C, Cm, Ct}
+use Rattle.st_format.specs.declared.operations.FullOp.{FullOp}
+use Rattle.st_format.specs.declared.operations.FullOp.TheVariants.{Variable, Connective, Transmission, BitTest, IndicatorTest, Order, CounterStore}
+use Rattle.st_format.specs.Halves.{later, is_one}
+
+-- the operations of the half-word format by number: 0 is the floating group, 23 the branch group,
+-- 12 is not used, and 15 and 31 mark a full word
+unfoldable pub half_ops : List (Option HalfOp)
+half_ops =
+    None ∷ Some Lx ∷ Some Lv ∷ Some Lc ∷ Some Lr ∷ Some Sx ∷ Some Sv ∷ Some Sc ∷ Some Sr
+    ∷ Some Sva ∷ Some VPlus ∷ Some VPlusC ∷ None ∷ Some Kv ∷ Some Lvs ∷ None
+    ∷ Some Lvi ∷ Some Lci ∷ Some Lri ∷ Some VPlusI ∷ Some VMinusI ∷ Some VPlusIC ∷ Some VPlusICR
+    ∷ None ∷ Some Kvi ∷ Some Kc ∷ Some Kci ∷ Some Cb ∷ Some Cbr ∷ Some R ∷ Some Ex ∷ None ∷ []
+
+-- the branch group by its number, which stands in J
+unfoldable pub branch_ops : List (Option BranchOp)
+branch_ops = Some B ∷ Some Br ∷ Some Be ∷ Some Bd ∷ Some Bew ∷ Some Nop ∷ []
+
+-- the operations of the full-word format by number, the connectives apart
+unfoldable pub full_ops : List (Option FullOp)
+full_ops =
+    None ∷ Some (Variable L) ∷ Some (Variable Lwf) ∷ Some (Variable Ltrs) ∷ Some (Variable Lft)
+    ∷ Some (Variable St) ∷ None ∷ Some (Variable Add) ∷ Some (Variable AddMg)
+    ∷ Some (Variable MAdd) ∷ Some (Variable MAddMg) ∷ Some (Variable MAdd1)
+    ∷ Some (Variable K) ∷ Some (Variable Kf) ∷ Some (Variable Ke) ∷ Some (Variable Kfe)
+    ∷ Some (Variable Kr) ∷ Some (Variable Kfr) ∷ Some (Variable Mul) ∷ Some (Variable MulAdd)
+    ∷ Some (Variable Div) ∷ Some (Variable Lcv) ∷ None ∷ None
+    ∷ Some (Transmission false) ∷ Some (Transmission true) ∷ Some BitTest ∷ Some IndicatorTest
+    ∷ Some (Order false) ∷ Some (Order true) ∷ Some CounterStore ∷ None ∷ []
+
+-- the kinds of connectives by number
+unfoldable pub kinds : List (Option ConnKind)
+kinds = Some C ∷ Some Cm ∷ Some Ct ∷ None ∷ []
+
+-- the row of a table
+abbrev pub row : {A : Type 0} → List (Option A) → ℕ → Option A
+row table n = slice_index_or table n None
+
+unfoldable pub half_op : ℕ → Option HalfOp
+half_op n = row half_ops n
+
+unfoldable pub branch_op : ℕ → Option BranchOp
+branch_op n = row branch_ops n
+
+unfoldable pub kind : ℕ → Option ConnKind
+kind n = row kinds n
+
+-- the operation of a full word: bit 51 marks a connective, with its kind in bits 56-57;
+-- another one has its number in bits 55-59
+unfoldable pub full_op : ℕ → Option FullOp
+full_op second =
+    if is_one second 51 then option_map Connective (kind (later second 56 2))
+    else row full_ops (later second 55 5)
+
+-- the number of a half-word operation
+abbrev pub half_number : HalfOp → ℕ
+half_number Lx = 1
+half_number Lv = 2
+half_number Lc = 3
+half_number Lr = 4
+half_number Sx = 5
+half_number Sv = 6
+half_number Sc = 7
+half_number Sr = 8
+half_number Sva = 9
+half_number VPlus = 10
+half_number VPlusC = 11
+half_number Kv = 13
+half_number Lvs = 14
+half_number Lvi = 16
+half_number Lci = 17
+half_number Lri = 18
+half_number VPlusI = 19
+half_number VMinusI = 20
+half_number VPlusIC = 21
+half_number VPlusICR = 22
+half_number Kvi = 24
+half_number Kc = 25
+half_number Kci = 26
+half_number Cb = 27
+half_number Cbr = 28
+half_number R = 29
+half_number Ex = 30
+
+-- the number of a branch
+abbrev pub branch_number : BranchOp → ℕ
+branch_number B = 0
+branch_number Br = 1
+branch_number Be = 2
+branch_number Bd = 3
+branch_number Bew = 4
+branch_number Nop = 5
+
+-- the number of an operation on a field
+abbrev pub vfl_number : VflOp → ℕ
+vfl_number L = 1
+vfl_number Lwf = 2
+vfl_number Ltrs = 3
+vfl_number Lft = 4
+vfl_number St = 5
+vfl_number Add = 7
+vfl_number AddMg = 8
+vfl_number MAdd = 9
+vfl_number MAddMg = 10
+vfl_number MAdd1 = 11
+vfl_number K = 12
+vfl_number Kf = 13
+vfl_number Ke = 14
+vfl_number Kfe = 15
+vfl_number Kr = 16
+vfl_number Kfr = 17
+vfl_number Mul = 18
+vfl_number MulAdd = 19
+vfl_number Div = 20
+vfl_number Lcv = 21
+
+-- the number of a kind of connective
+abbrev pub kind_number : ConnKind → ℕ
+kind_number C = 0
+kind_number Cm = 1
+kind_number Ct = 2
+
+-- the number that bits 51-59 spell for an operation of the full-word format, where its marks and its table are zero
+abbrev pub full_number : FullOp → ℕ
+full_number (Variable op) = vfl_number op
+full_number (Connective kind) = 2 ^ 8 + kind_number kind * 2 ^ 2
+full_number (Transmission false) = 24
+full_number (Transmission true) = 25
+full_number BitTest = 26
+full_number IndicatorTest = 27
+full_number (Order false) = 28
+full_number (Order true) = 29
+full_number CounterStore = 30
+
+-- the operations that write their field
+abbrev pub writes_field : FullOp → Bool
+writes_field (Variable St) = true
+writes_field (Variable MAdd) = true
+writes_field (Variable MAddMg) = true
+writes_field (Variable MAdd1) = true
+writes_field (Connective Cm) = true
+writes_field _ = false

@@ -1,0 +1,77 @@
+-- Which bits spell no instruction.
+use Rattle.std.specs.Prelude.{ℕ, ◌+◌, ◌%◌, Bool, true, false, not, ◌==◌, ◌&&◌, ◌||◌, nat_lt, nat_le, Option, None, Some, if◌then◌else◌}
+use Rattle.st_format.specs.declared.operations.FullOp.{FullOp}
+use Rattle.st_format.specs.declared.operations.FullOp.TheVariants.{Variable, Connective, Transmission, BitTest, IndicatorTest, Order, CounterStore}
+use Rattle.st_format.specs.Halves.{later, is_one, is_full, i_of, j_of, operation_of, p_of, length_of, byte_of, k_of, second_address_of}
+use Rattle.st_format.specs.Operations.{full_op, writes_field}
+
+-- operation 12, and a branch with J from 6 up
+unfoldable pub is_invalid_half : ℕ → Bool
+is_invalid_half first = operation_of first == 12 || (operation_of first == 23 && nat_le 6 (j_of first))
+
+-- bits 58-59, which a connective does not use
+abbrev pub unused_in_kind : FullOp → ℕ → ℕ
+unused_in_kind (Connective _) second = later second 58 2
+unused_in_kind _ second = 0
+
+-- K, which only a transmission uses
+abbrev pub unused_k : FullOp → ℕ → ℕ
+unused_k (Transmission _) second = 0
+unused_k _ second = k_of second
+
+-- those of bits 52-54 that an operation does not use
+abbrev pub unused_marks : FullOp → ℕ → ℕ
+unused_marks (Transmission _) second = later second 52 3
+unused_marks CounterStore second = later second 52 3
+unused_marks (Order _) second = later second 52 3
+unused_marks IndicatorTest second = later second 54 1
+unused_marks _ second = 0
+
+-- a decimal field has bytes of four bits at least, and is made of whole bytes; a signed field has room for
+-- its sign byte
+abbrev pub misfits : Bool → Bool → ℕ → ℕ → Bool
+misfits decimal unsigned length byte =
+    (decimal && (nat_lt byte 4 || not (length % byte == 0))) || (not unsigned && nat_lt length byte)
+
+abbrev pub has_misfit : FullOp → ℕ → Bool
+has_misfit (Variable _) second = misfits (is_one second 52) (is_one second 53) (length_of second) (byte_of second)
+has_misfit _ second = false
+
+-- an operand in the address is not written and has at most 24 bits; a progressive form needs an index word
+abbrev pub misuses_p : Bool → ℕ → ℕ → ℕ → Bool
+misuses_p writes p length i = (p == 1 && (writes || nat_lt 24 length)) || (nat_le 2 p && i == 0)
+
+abbrev pub has_misused_p : FullOp → ℕ → ℕ → Bool
+has_misused_p (Variable op) first second =
+    misuses_p (writes_field (Variable op)) (p_of second) (length_of second) (i_of first)
+has_misused_p (Connective kind) first second =
+    misuses_p (writes_field (Connective kind)) (p_of second) (length_of second) (i_of first)
+has_misused_p _ first second = false
+
+-- an order comes 1 to 1,000 instructions later
+abbrev pub miscounts : ℕ → Bool
+miscounts count = count == 0 || nat_lt 1000 count
+
+abbrev pub has_miscount : FullOp → ℕ → Bool
+has_miscount (Order _) second = miscounts (second_address_of second)
+has_miscount _ second = false
+
+-- an operation of the list breaks one of the rules
+unfoldable pub breaks_rules : FullOp → ℕ → ℕ → Bool
+breaks_rules op first second =
+    not (unused_in_kind op second == 0)
+    || not (unused_k op second == 0)
+    || not (unused_marks op second == 0)
+    || has_misfit op second
+    || has_misused_p op first second
+    || has_miscount op second
+
+-- the operation is not of the list, or breaks one of the rules
+abbrev pub is_refused : Option FullOp → ℕ → ℕ → Bool
+is_refused None first second = true
+is_refused (Some op) first second = breaks_rules op first second
+
+-- whether the bits spell no instruction; those of the second half-word count only in a full word
+abbrev pub is_invalid : ℕ → ℕ → Bool
+is_invalid first second =
+    if is_full first then is_refused (full_op second) first second else is_invalid_half first

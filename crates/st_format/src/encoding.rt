@@ -1,0 +1,177 @@
+ghost use Rattle.std.specs.Prelude.{◌≡◌, ◌+◌, ◌*◌, ◌<◌, ◌≤◌, ◌^◌, ℕ, unwrap_or};
+ghost use Rattle.st_format.specs.Halves.{half_bits as half_of, first_bits as first_of, field_bits as field_of, second_bits as second_of};
+ghost use Rattle.st_format.specs.Operations.{full_number as number_of};
+ghost use Rattle.st_format.specs.Formats.{first_half, second_half, IsShape, bit_of};
+
+use crate::instruction::Instr;
+use crate::operations::{FullOp, branch_number, half_number, kind_number, vfl_number};
+
+/// The bits of an instruction: the first half-word, and the second one of a full word.
+#[tactic(auto)]
+pub fn encode(instr: &Instr) -> (u32, Option<u32>)
+    requires { IsShape instr.now }
+    ensures first { result.0 ≡ first_half instr.now }
+    ensures second { result.1 ≡ second_half instr.now }
+{
+    match *instr {
+        Instr::Half { op, address, j, i } => (half_bits(address, j, half_number(op), i), None),
+        Instr::Branch { op, address, i } => {
+            (half_bits(address, branch_number(op) as u8, 23, i), None)
+        }
+        Instr::Floating { number, address, i } => (half_bits(address, number, 0, i), None),
+        Instr::Vfl {
+            op,
+            decimal,
+            unsigned,
+            negated,
+            p,
+            length,
+            byte,
+            offset,
+            address,
+            i,
+        } => {
+            let operation = marks(decimal, unsigned, negated) + full_number(FullOp::Variable(op));
+            let second = field_bits(p, length, byte, offset, operation);
+            (first_bits(address, i), Some(second))
+        }
+        Instr::Connect {
+            kind,
+            table,
+            p,
+            length,
+            byte,
+            offset,
+            address,
+            i,
+        } => {
+            let operation = (u32::from(table) << 4) + full_number(FullOp::Connective(kind));
+            let second = field_bits(p, length, byte, offset, operation);
+            (first_bits(address, i), Some(second))
+        }
+        Instr::Move {
+            swap,
+            address,
+            i,
+            second,
+            count,
+        } => {
+            let operation = full_number(FullOp::Transmission { swap });
+            let second = second_bits(second, operation, count % 16);
+            (first_bits(address, i), Some(second))
+        }
+        Instr::BitBranch {
+            sense,
+            change,
+            address,
+            i,
+            second,
+        } => {
+            let operation = marks(sense, false, false)
+                + (u32::from(change) << 5)
+                + full_number(FullOp::BitTest);
+            let second = second_bits(second, operation, 0);
+            (first_bits(address, i), Some(second))
+        }
+        Instr::IndBranch {
+            sense,
+            off,
+            address,
+            i,
+            second,
+        } => {
+            let operation = marks(sense, off, false) + full_number(FullOp::IndicatorTest);
+            let second = second_bits(second, operation, 0);
+            (first_bits(address, i), Some(second))
+        }
+        Instr::StoreCounter { address, i, second } => {
+            let second = second_bits(second, full_number(FullOp::CounterStore), 0);
+            (first_bits(address, i), Some(second))
+        }
+        Instr::Transfer {
+            write,
+            address,
+            i,
+            count,
+        } => {
+            let second = second_bits(count, full_number(FullOp::Order { write }), 0);
+            (first_bits(address, i), Some(second))
+        }
+        Instr::Invalid {
+            first,
+            second,
+            full,
+        } => (first, if full { Some(second) } else { None }),
+    }
+}
+
+// A half-word instruction.
+#[tactic(auto, unfolding(crate::specs::Halves::half_bits))]
+fn half_bits(address: u32, j: u8, operation: u32, i: u8) -> u32
+    requires address_fits { address < 2 ^ 19 }
+    requires j_fits { j < 16 }
+    requires operation_fits { operation < 32 }
+    requires i_fits { i < 16 }
+    ensures { result ≡ half_of address j operation i }
+{
+    (address << 13) + (u32::from(j) << 9) + (operation << 4) + u32::from(i)
+}
+
+// The first half-word of a full word.
+#[tactic(auto, unfolding(crate::specs::Halves::first_bits))]
+fn first_bits(address: u32, i: u8) -> u32
+    requires address_fits { address < 2 ^ 24 }
+    requires i_fits { i < 16 }
+    ensures { result ≡ first_of address i }
+{
+    (address << 8) + (15 << 4) + u32::from(i)
+}
+
+// The second half-word of an operation on a field.
+#[tactic(auto, unfolding(crate::specs::Halves::field_bits))]
+fn field_bits(p: u8, length: u8, byte: u8, offset: u8, operation: u32) -> u32
+    requires p_fits { p < 8 }
+    requires offset_fits { offset < 128 }
+    requires operation_fits { operation < 512 }
+    ensures { result ≡ field_of p length byte offset operation }
+{
+    (u32::from(p) << 29)
+        + (u32::from(length % 64) << 23)
+        + (u32::from(byte % 8) << 20)
+        + (u32::from(offset) << 13)
+        + (operation << 4)
+}
+
+// The second half-word of an instruction with two addresses.
+#[tactic(auto, unfolding(crate::specs::Halves::second_bits))]
+fn second_bits(second: u32, operation: u32, k: u8) -> u32
+    requires second_fits { second < 2 ^ 19 }
+    requires operation_fits { operation < 512 }
+    requires k_fits { k < 16 }
+    ensures { result ≡ second_of second operation k }
+{
+    (second << 13) + (operation << 4) + u32::from(k)
+}
+
+// Bits 52-54 of an operation.
+fn marks(first: bool, second: bool, third: bool) -> u32
+    ensures value { result ≡ bit_of first * 2 ^ 7 + bit_of second * 2 ^ 6 + bit_of third * 2 ^ 5 }
+    ensures bound { result < 256 }
+{
+    (u32::from(first) << 7) + (u32::from(second) << 6) + (u32::from(third) << 5)
+}
+
+// The number of an operation of the full-word format in bits 51-59.
+fn full_number(op: FullOp) -> u32
+    ensures value { result ≡ number_of op }
+{
+    match op {
+        FullOp::Variable(op) => vfl_number(op),
+        FullOp::Connective(kind) => 256 + (kind_number(kind) << 2),
+        FullOp::Transmission { swap } => 24 + u32::from(swap),
+        FullOp::BitTest => 26,
+        FullOp::IndicatorTest => 27,
+        FullOp::Order { write } => 28 + u32::from(write),
+        FullOp::CounterStore => 30,
+    }
+}

@@ -1,0 +1,152 @@
+//! The fields of an instruction, named by their bits. Bits 32-63 are those of the second half-word.
+ghost use Rattle.std.specs.Prelude.{◌≡◌, ◌+◌, ◌-◌, ◌<◌, ◌≤◌, ◌^◌};
+ghost use Rattle.st_format.specs.Halves.{part as part_of, later as later_of, is_full as has_ones, i_of, address_of, j_of, operation_of, bit_address_of, second_address_of, p_of, length_of, byte_of, offset_of, k_of, count_of, or_greatest as greatest_for_zero};
+
+/// The number of `count` bits of a half-word from bit `first` on.
+pub fn part(half: u32, first: u32, count: u32) -> u32
+    requires some { 1 ≤ count }
+    requires inside { first + count ≤ 32 }
+    ensures value { result ≡ part_of half first count }
+    ensures bound { result < 2 ^ count }
+{
+    half << first >> (32 - count)
+}
+
+/// The number of `count` bits of a second half-word from bit `first` on.
+pub fn later(second: u32, first: u32, count: u32) -> u32
+    requires some { 1 ≤ count }
+    requires behind { 32 ≤ first }
+    requires inside { first + count ≤ 64 }
+    ensures value { result ≡ later_of second first count }
+    ensures bound { result < 2 ^ count }
+{
+    part(second, first - 32, count)
+}
+
+/// Whether a first half-word is that of a full word.
+#[tactic(auto, unfolding(crate::specs::Halves::is_full))]
+pub fn is_full(first: u32) -> bool
+    ensures { result ≡ has_ones first }
+{
+    part(first, 24, 4) == 15
+}
+
+/// The number of the index word of the address, 0 to 15.
+#[tactic(auto, unfolding(crate::specs::Halves::i_of))]
+pub fn index_field(first: u32) -> u8
+    ensures value { result ≡ i_of first }
+    ensures bound { result < 16 }
+{
+    part(first, 28, 4) as u8
+}
+
+/// The half-word address of a half-word instruction, below 2^19.
+#[tactic(auto, unfolding(crate::specs::Halves::address_of))]
+pub fn half_address(first: u32) -> u32
+    ensures value { result ≡ address_of first }
+    ensures bound { result < 2 ^ 19 }
+{
+    part(first, 0, 19)
+}
+
+/// The number of the index word that a half-word instruction works on, 0 to 15.
+#[tactic(auto, unfolding(crate::specs::Halves::j_of))]
+pub fn register_field(first: u32) -> u8
+    ensures value { result ≡ j_of first }
+    ensures bound { result < 16 }
+{
+    part(first, 19, 4) as u8
+}
+
+/// The number of a half-word operation, 0 to 31.
+#[tactic(auto, unfolding(crate::specs::Halves::operation_of))]
+pub fn operation_field(first: u32) -> u8
+    ensures value { result ≡ operation_of first }
+    ensures bound { result < 32 }
+{
+    part(first, 23, 5) as u8
+}
+
+/// The bit address of a full-word instruction, below 2^24.
+#[tactic(auto, unfolding(crate::specs::Halves::bit_address_of))]
+pub fn bit_address(first: u32) -> u32
+    ensures value { result ≡ bit_address_of first }
+    ensures bound { result < 2 ^ 24 }
+{
+    part(first, 0, 24)
+}
+
+/// The second address of a full-word instruction, a half-word address below 2^19.
+#[tactic(auto, unfolding(crate::specs::Halves::second_address_of))]
+pub fn second_address(second: u32) -> u32
+    ensures value { result ≡ second_address_of second }
+    ensures bound { result < 2 ^ 19 }
+{
+    later(second, 32, 19)
+}
+
+/// The progressive form, 0 to 7.
+#[tactic(auto, unfolding(crate::specs::Halves::p_of))]
+pub fn progressive_form(second: u32) -> u8
+    ensures value { result ≡ p_of second }
+    ensures bound { result < 8 }
+{
+    later(second, 32, 3) as u8
+}
+
+/// The length of a field, 1 to 64.
+#[tactic(auto, unfolding(crate::specs::Halves::length_of))]
+pub fn field_length(second: u32) -> u8
+    ensures value { result ≡ length_of second }
+    ensures some { 1 ≤ result }
+    ensures bound { result ≤ 64 }
+{
+    or_greatest(64, later(second, 35, 6) as u8)
+}
+
+/// The size of a field's bytes, 1 to 8.
+#[tactic(auto, unfolding(crate::specs::Halves::byte_of))]
+pub fn byte_size(second: u32) -> u8
+    ensures value { result ≡ byte_of second }
+    ensures some { 1 ≤ result }
+    ensures bound { result ≤ 8 }
+{
+    or_greatest(8, later(second, 41, 3) as u8)
+}
+
+/// The offset in the accumulator, 0 to 127.
+#[tactic(auto, unfolding(crate::specs::Halves::offset_of))]
+pub fn offset(second: u32) -> u8
+    ensures value { result ≡ offset_of second }
+    ensures bound { result < 128 }
+{
+    later(second, 44, 7) as u8
+}
+
+/// The last four bits.
+#[tactic(auto, unfolding(crate::specs::Halves::k_of))]
+pub fn last_field(second: u32) -> u8
+    ensures value { result ≡ k_of second }
+    ensures bound { result < 16 }
+{
+    later(second, 60, 4) as u8
+}
+
+/// The number of words that are moved, 1 to 16.
+#[tactic(auto, unfolding(crate::specs::Halves::count_of))]
+pub fn word_count(second: u32) -> u8
+    ensures value { result ≡ count_of second }
+    ensures some { 1 ≤ result }
+    ensures bound { result ≤ 16 }
+{
+    or_greatest(16, last_field(second))
+}
+
+// A field in which zero stands for the greatest number.
+fn or_greatest(greatest: u8, number: u8) -> u8
+    ensures value { result ≡ greatest_for_zero greatest number }
+    ensures some { 1 ≤ greatest → 1 ≤ result }
+    ensures bound { number ≤ greatest → result ≤ greatest }
+{
+    if number == 0 { greatest } else { number }
+}

@@ -1,0 +1,107 @@
+//! Which bits spell no instruction.
+ghost use Rattle.std.specs.Prelude.{◌≡◌, ◌<◌, ◌≤◌};
+ghost use Rattle.st_format.specs.Validity.{breaks_rules as breaks, unused_in_kind as kind_rest, unused_k as k_rest, unused_marks as marks_rest, misfits, has_misfit as misfit, misuses_p, has_misused_p as misused_p, miscounts, has_miscount as miscount};
+
+use crate::fields::{
+    byte_size, field_length, index_field, last_field, later, progressive_form, second_address,
+};
+use crate::operations::{FullOp, writes_field};
+
+/// Whether the bits of a full word with this operation break a rule.
+#[tactic(auto, unfolding(crate::specs::Validity::breaks_rules))]
+pub fn breaks_rules(op: FullOp, first: u32, second: u32) -> bool
+    ensures { result ≡ breaks op first second }
+{
+    unused_in_kind(op, second) != 0
+        || unused_k(op, second) != 0
+        || unused_marks(op, second) != 0
+        || has_misfit(op, second)
+        || has_misused_p(op, first, second)
+        || has_miscount(op, second)
+}
+
+fn unused_in_kind(op: FullOp, second: u32) -> u32
+    ensures { result ≡ kind_rest op second }
+{
+    match op {
+        FullOp::Connective(_) => later(second, 58, 2),
+        _ => 0,
+    }
+}
+
+fn unused_k(op: FullOp, second: u32) -> u8
+    ensures { result ≡ k_rest op second }
+{
+    match op {
+        FullOp::Transmission { .. } => 0,
+        _ => last_field(second),
+    }
+}
+
+fn unused_marks(op: FullOp, second: u32) -> u32
+    ensures { result ≡ marks_rest op second }
+{
+    match op {
+        FullOp::Transmission { .. } | FullOp::CounterStore | FullOp::Order { .. } => {
+            later(second, 52, 3)
+        }
+        FullOp::IndicatorTest => later(second, 54, 1),
+        _ => 0,
+    }
+}
+
+fn has_misfit(op: FullOp, second: u32) -> bool
+    ensures { result ≡ misfit op second }
+{
+    match op {
+        FullOp::Variable(_) => misfits_field(
+            later(second, 52, 1) == 1,
+            later(second, 53, 1) == 1,
+            field_length(second),
+            byte_size(second),
+        ),
+        _ => false,
+    }
+}
+
+fn misfits_field(decimal: bool, unsigned: bool, length: u8, byte: u8) -> bool
+    requires { 1 ≤ byte }
+    ensures { result ≡ misfits decimal unsigned length byte }
+{
+    (decimal && (byte < 4 || length % byte != 0)) || (!unsigned && length < byte)
+}
+
+fn has_misused_p(op: FullOp, first: u32, second: u32) -> bool
+    ensures { result ≡ misused_p op first second }
+{
+    match op {
+        FullOp::Variable(_) | FullOp::Connective(_) => misuses_form(
+            writes_field(op),
+            progressive_form(second),
+            field_length(second),
+            index_field(first),
+        ),
+        _ => false,
+    }
+}
+
+fn misuses_form(writes: bool, p: u8, length: u8, i: u8) -> bool
+    ensures { result ≡ misuses_p writes p length i }
+{
+    (p == 1 && (writes || length > 24)) || (p >= 2 && i == 0)
+}
+
+fn has_miscount(op: FullOp, second: u32) -> bool
+    ensures { result ≡ miscount op second }
+{
+    match op {
+        FullOp::Order { .. } => is_miscount(second_address(second)),
+        _ => false,
+    }
+}
+
+fn is_miscount(count: u32) -> bool
+    ensures { result ≡ miscounts count }
+{
+    count == 0 || count > 1000
+}
