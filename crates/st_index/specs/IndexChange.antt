@@ -1,0 +1,110 @@
+-- What instructions make of index words: the effective address, changes of value and count, and the indicators.
+use Rattle.std.specs.Prelude.{ℕ, zero, suc, ◌+◌, ◌-◌, ◌%◌, ◌^◌, ◌<◌, ℤ, pos, negsuc, ◌+ℤ◌, neg_ℤ, Bool, ◌==◌, ◌||◌, ◌&&◌, nat_lt, if◌then◌else◌, List, [], ◌∷◌}
+use Rattle.std.specs.declared.cmp.Ordering.{Ordering}
+use Rattle.std.specs.declared.cmp.Ordering.TheVariants.{Less, Equal, Greater}
+use Rattle.std.specs.Ordering.{int_cmp}
+use Rattle.st_bits.specs.Bits.{bits, part}
+use Rattle.st_bits.specs.IndexWord.{value_of, count_of, with_value, with_count}
+use Rattle.st_bits.specs.declared.Ind.{Ind}
+use Rattle.st_index.specs.declared.change.Changed.{Changed}
+
+-- a whole number modulo n, from 0 up
+abbrev pub modulo : ℤ → ℕ → ℕ
+modulo (pos r) n = r % n
+modulo (negsuc r) n = n - 1 - r % n
+
+-- the effective address: the address plus the value of the index word, modulo 2 ^ 24
+abbrev pub effective_address : ℕ → ℕ → ℕ
+effective_address a x = modulo (pos a +ℤ value_of x) (2 ^ 24)
+
+-- the index word with d added to its value
+abbrev pub with_added : ℕ → ℤ → ℕ
+with_added x d = with_value x (value_of x +ℤ d)
+
+-- one less, modulo 2 ^ 18
+abbrev pub one_less : ℕ → ℕ
+one_less zero = 2 ^ 18 - 1
+one_less (suc n) = n
+
+-- the index word with its count one less
+abbrev pub with_lower_count : ℕ → ℕ
+with_lower_count x = with_count x (one_less (count_of x))
+
+-- the value of an index word, where its bit of the list is one
+abbrev pub selected_value : ℕ → ℕ → ℤ
+selected_value b x = if b == 1 then value_of x else pos 0
+
+-- the sum of the values of the index words that a list of bits selects
+unfoldable pub selected_sum : List ℕ → List ℕ → ℤ
+selected_sum [] xs = pos 0
+selected_sum (b ∷ bs) [] = pos 0
+selected_sum (b ∷ bs) (x ∷ xs) = selected_value b x +ℤ selected_sum bs xs
+
+-- the word with indicator n on and no other
+abbrev pub indicator : ℕ → ℕ
+indicator n = 2 ^ (63 - n)
+
+-- the indicator of a comparison: XL below, XE equal, XH above
+abbrev pub order_indicator : Ordering → ℕ
+order_indicator Less = indicator 52
+order_indicator Equal = indicator 53
+order_indicator Greater = indicator 54
+
+-- what a comparison of a with b turns on and off: exactly one of XL, XE and XH is on after it
+abbrev pub comparison : ℤ → ℤ → Ind
+comparison a b = record {
+  on = order_indicator (int_cmp a b);
+  off = indicator 52 + indicator 53 + indicator 54
+}
+
+-- the indicators that an index result sets by the sign of the value: XVLZ, XVZ, XVGZ
+abbrev pub sign_indicator : ℤ → ℕ
+sign_indicator (negsuc _) = indicator 49
+sign_indicator (pos zero) = indicator 50
+sign_indicator (pos (suc _)) = indicator 51
+
+-- XCZ, where the count is zero
+abbrev pub count_indicator : ℕ → ℕ
+count_indicator zero = indicator 48
+count_indicator (suc _) = 0
+
+-- XF, where the flag in bit 25 is one
+abbrev pub flag_indicator : ℕ → ℕ
+flag_indicator zero = 0
+flag_indicator (suc _) = indicator 38
+
+-- what an index word turns on and off: XCZ, one of XVLZ, XVZ and XVGZ, and XF, which only goes on
+abbrev pub index_result : ℕ → Ind
+index_result y = record {
+  on = count_indicator (count_of y) + sign_indicator (value_of y) + flag_indicator (part y 25 1);
+  off = indicator 48 + indicator 49 + indicator 50 + indicator 51
+}
+
+-- what a progressive form adds to the value: V+I, V+IC and V+ICR are 2 to 4, and V-I, V-IC and V-ICR 5 to 7
+abbrev pub increment_of : ℕ → ℕ → ℤ
+increment_of form e = if nat_lt form 5 then pos e else neg_ℤ (pos e)
+
+-- the forms that count: V+IC, V+ICR, V-IC, V-ICR
+abbrev pub is_counting : ℕ → Bool
+is_counting form = form == 3 || form == 4 || form == 6 || form == 7
+
+-- the forms that refill where the count became zero: V+ICR, V-ICR
+abbrev pub is_refilling : ℕ → Bool
+is_refilling form = form == 4 || form == 7
+
+-- the index word after a progressive form, before a refill
+abbrev pub progressed : ℕ → ℕ → ℕ → ℕ
+progressed form x e =
+    let y = with_added x (increment_of form e) in if is_counting form then with_lower_count y else y
+
+-- the index word that a progressive form leaves, whether a refill follows, and the indicators
+abbrev pub change_of : ℕ → ℕ → Changed
+change_of form y = record {
+  word = y;
+  refill = is_refilling form && count_of y == 0;
+  ind = index_result y
+}
+
+-- the whole change by a progressive form
+abbrev pub progression : ℕ → ℕ → ℕ → Changed
+progression form x e = change_of form (progressed form x e)

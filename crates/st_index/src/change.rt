@@ -1,0 +1,109 @@
+ghost use Rattle.std.specs.Prelude.{◌≡◌, ◌<◌, ◌≤◌, ◌^◌, ◌+◌, unsigned_abs, ◌==◌, ◌&&◌};
+ghost use Rattle.st_bits.specs.Bits.{part};
+ghost use Rattle.st_bits.specs.IndexWord.{value_of as value, count_of as count};
+ghost use Rattle.st_index.specs.IndexChange.{effective_address, with_added, one_less, with_lower_count};
+ghost use Rattle.st_index.specs.IndexChange.{increment_of, is_counting, is_refilling, progressed, progression};
+
+use crate::results::index_result;
+use st_bits::{Ind, count_of, value_of, with_count, with_value};
+
+/// What a progressive form makes of an index word.
+#[derive(Clone, Copy, Debug, PartialEq, Eq)]
+pub struct Changed {
+    /// The index word after the change and before a refill.
+    pub word: u64,
+    /// Whether a refill follows: the word at the refill address of `word` then replaces the whole of it.
+    pub refill: bool,
+    /// The index result of `word`.
+    pub ind: Ind,
+}
+
+/// The effective address, a bit address below 2^24: the address part plus the value of the index word `x`, modulo
+/// 2^24. Without an index `x` is zero.
+pub fn effective(address: u32, x: u64) -> u32
+    requires { address < 2 ^ 24 }
+    ensures value { result ≡ effective_address address x }
+    ensures bound { result < 2 ^ 24 }
+{
+    (address as i32 + value_of(x)).rem_euclid(1 << 24) as u32
+}
+
+/// The index word with `d` added to its value. The magnitude of the sum is taken modulo 2^24, and the sign is minus
+/// where the sum is below zero, so that -2^24 becomes a minus zero.
+pub fn add_value(x: u64, d: i32) -> u64
+    requires { unsigned_abs d < 2 ^ 25 }
+    ensures word { result ≡ with_added x d }
+    ensures rest { part result 25 39 ≡ part x 25 39 }
+    ensures bound { result < 2 ^ 64 }
+{
+    with_value(x, value_of(x) + d)
+}
+
+/// One less than a count, modulo 2^18: zero becomes 262,143.
+fn lower(count: u32) -> u32
+    requires { count < 2 ^ 18 }
+    ensures value { result ≡ one_less count }
+    ensures bound { result < 2 ^ 18 }
+{
+    if count == 0 { (1 << 18) - 1 } else { count - 1 }
+}
+
+/// The index word with its count one less, modulo 2^18.
+pub fn count_down(x: u64) -> u64
+    ensures word { result ≡ with_lower_count x }
+    ensures count { count result ≡ one_less (count x) }
+    ensures value { value result ≡ value x }
+    ensures bound { result < 2 ^ 64 }
+{
+    with_count(x, lower(count_of(x)))
+}
+
+/// What a progressive form adds to the value: the increment, or less than nothing in the V- forms.
+fn signed(form: u8, increment: u32) -> i32
+    requires { increment < 2 ^ 24 }
+    ensures value { result ≡ increment_of form increment }
+    ensures bound { unsigned_abs result < 2 ^ 24 }
+{
+    if form < 5 { increment as i32 } else { -(increment as i32) }
+}
+
+/// Whether a progressive form counts.
+fn counts(form: u8) -> bool
+    ensures { result ≡ is_counting form }
+{
+    matches!(form, 3 | 4 | 6 | 7)
+}
+
+/// Whether a refill follows a progressive form that left the count `count`.
+fn refills(form: u8, count: u32) -> bool
+    ensures { result ≡ (is_refilling form && count == 0) }
+{
+    matches!(form, 4 | 7) && count == 0
+}
+
+/// The index word `x` after a progressive form, before a refill.
+fn advance(form: u8, x: u64, increment: u32) -> u64
+    requires { increment < 2 ^ 24 }
+    ensures { result ≡ progressed form x increment }
+{
+    let word = add_value(x, signed(form, increment));
+    if counts(form) { count_down(word) } else { word }
+}
+
+/// The change of the index word `x` by a progressive form: 2 to 7 are V+I, V+IC, V+ICR, V-I, V-IC and V-ICR. The
+/// increment, below 2^24, is added to the value or taken from it; then the C forms count down; where the count
+/// became zero, a refill follows the R forms.
+pub fn progress(form: u8, x: u64, increment: u32) -> Changed
+    requires low { 2 ≤ form }
+    requires high { form ≤ 7 }
+    requires increment { increment < 2 ^ 24 }
+    ensures change { result ≡ progression form x increment }
+    ensures bound { result.word < 2 ^ 64 }
+{
+    let word = advance(form, x, increment);
+    Changed {
+        word,
+        refill: refills(form, count_of(word)),
+        ind: index_result(word),
+    }
+}

@@ -1,0 +1,14 @@
+//! Index arithmetic: effective addresses, changed index words, and the indicators that they set.
+//! `docs/index-words.md` has the rules.
+#![tactic(auto)]
+
+mod change;
+mod results;
+mod selection;
+
+pub use change::{Changed, add_value, count_down, effective, progress};
+pub use results::{compare, index_result};
+pub use selection::sum_values;
+
+#[cfg(test)]
+mod tests;
