@@ -65,7 +65,7 @@ abbrev pub with_reader : Option Order → Scene → Reached
 with_reader None c = nothing c
 with_reader (Some order) c = record {
   scene = record c { machine = read_in c.machine order.word c.cards; cards = cards_after c.cards };
-  happened = []
+  happened = [];
 }
 
 -- an order of the printer takes effect: eight words are printed, and EOP is turned on
@@ -73,7 +73,7 @@ abbrev pub with_printer : Option Order → Scene → Reached
 with_printer None c = nothing c
 with_printer (Some order) c = record {
   scene = record c { machine = signalled (record c.machine { printer = None }) 12 };
-  happened = Prints c.machine (words_from c.machine order.word 8) ∷ []
+  happened = Prints c.machine (words_from c.machine order.word 8) ∷ [];
 }
 
 -- one thing after another
@@ -88,7 +88,7 @@ if_due done order = if is_due done order then order else None
 unfoldable pub with_due_orders : Scene → Reached
 with_due_orders c =
     and_then (with_reader (if_due c.machine.done c.machine.reader) c)
-        (λ d. with_printer (if_due d.machine.done d.machine.printer) d)
+    (λ d. with_printer (if_due d.machine.done d.machine.printer) d)
 
 -- the order that is given takes effect where the machine rests; the reader's where both are due at once
 abbrev pub with_device : Option Device → Scene → Reached
@@ -110,7 +110,7 @@ with_signals_at_rest s (x ∷ xs) cards =
 unfoldable pub with_wait : Scene → Reached
 with_wait c =
     and_then (and_then (with_order_at_rest c) with_order_at_rest)
-        (λ d. nothing (with_signals_at_rest d.machine d.signals d.cards))
+    (λ d. nothing (with_signals_at_rest d.machine d.signals d.cards))
 
 -- what comes between two instructions: the due signals, the due orders, and what ends a wait
 unfoldable pub settled : Scene → Reached
@@ -125,7 +125,7 @@ pub record Ran : Type 0 where
 abbrev pub ended : Reached → Ran
 ended r = record {
   happened = r.happened ++ Ends r.scene.machine (rests r.scene.machine) ∷ [];
-  last = r.scene.machine
+  last = r.scene.machine;
 }
 
 -- the interrupt that the next step takes, if it takes one
@@ -141,7 +141,7 @@ stepped c = record c { machine = step c.machine }
 abbrev pub goes_on : Reached → Ran → Ran
 goes_on r rest = record {
   happened = r.happened ++ (interrupts_by (interrupt r.scene.machine) r.scene.machine ++ rest.happened);
-  last = rest.last
+  last = rest.last;
 }
 
 -- the run from a scene on, in which so many instructions may still be done; a rest is tried before the budget

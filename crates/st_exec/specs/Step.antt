@@ -33,7 +33,7 @@ flag_indicator (suc _) = indicator 38
 abbrev pub index_result : ℕ → Ind
 index_result y = record {
   on = count_indicator (count_of y) + sign_indicator (value_of y) + flag_indicator (part y 25 1);
-  off = indicator 48 + indicator 49 + indicator 50 + indicator 51
+  off = indicator 48 + indicator 49 + indicator 50 + indicator 51;
 }
 
 -- an instruction is done, and the counter is h

@@ -31,7 +31,7 @@ pub lines_more : (s t u : OutputState) (all xs rest : List (List ℕ)) → Lines
 lines_more s t u all xs rest h w = record {
   front = h.front ++ xs;
   wrote = wrote_more s t u h.front xs h.wrote w;
-  order = h.order ∙ sym (append_assoc h.front xs rest)
+  order = h.order ∙ sym (append_assoc h.front xs rest);
 }
 
 pub lines_stopped : (s t u : OutputState) (all xs rest : List (List ℕ)) → LinesSoFar s t all (xs ++ rest) → StoppedIn t u xs → StoppedIn s u all
@@ -57,7 +57,7 @@ pub events_more : (s t u : OutputState) (all xs rest : List Event) → EventsSoF
 events_more s t u all xs rest h w = record {
   front = h.front ++ xs;
   wrote = wrote_events s t u h.front xs h.wrote w;
-  order = h.order ∙ sym (append_assoc h.front xs rest)
+  order = h.order ∙ sym (append_assoc h.front xs rest);
 }
 
 pub events_stopped : (s t u : OutputState) (all xs rest : List Event) (d k : ℕ) → EventsSoFar s t all (xs ++ rest) → StoppedAt t u xs d k → StoppedAt s u all d k

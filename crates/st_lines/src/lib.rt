@@ -14,3 +14,6 @@ pub fn write_line<K: Sink>(out: &mut K, line: &[u8]) -> Result<(), Failed>
 {
     write_all(out, line)
 }
+
+#[cfg(test)]
+mod tests;

@@ -21,14 +21,14 @@ ends_run s t u all rest m b (Ok x) e h l w =
     record {
       whole = events_whole s u (report all.happened) (events_more s t u (report all.happened) (at_moment m.done 0 (lines_at (Ends m b))) [] so_far (wrote_at_moment t u m.done 0 (lines_at (Ends m b)) w.ok));
       last = sym (ap (λ k. k.last) e) ∙ l;
-      stopped = tt
+      stopped = tt;
     }
 ends_run s t u all rest m b (Err x) e h l w =
     let so_far : EventsSoFar s t (report all.happened) (at_moment m.done 0 (lines_at (Ends m b)) ++ []) = subst (λ k. EventsSoFar s t (report all.happened) (report k.happened)) e h in
     record {
       whole = tt;
       last = tt;
-      stopped = events_stopped s t u (report all.happened) (at_moment m.done 0 (lines_at (Ends m b))) [] m.done 0 so_far (stopped_at_moment t u m.done 0 (lines_at (Ends m b)) w.err)
+      stopped = events_stopped s t u (report all.happened) (at_moment m.done 0 (lines_at (Ends m b))) [] m.done 0 so_far (stopped_at_moment t u m.done 0 (lines_at (Ends m b)) w.err);
     }
 
 -- the events of the interrupt that a step takes, and then the others
@@ -49,5 +49,5 @@ stops_run s t u all rest more m x (Ok y) f e h w = absurd (cc)
 stops_run s t u all rest more m x (Err y) f e h w = record {
   whole = tt;
   last = tt;
-  stopped = events_stopped s t u (report all.happened) (at_moment m.done 0 (lines_by (interrupt m) m)) (report more.happened) m.done 0 (next_lines s t all rest more m e h) (stopped_at_moment t u m.done 0 (lines_by (interrupt m) m) w.err)
+  stopped = events_stopped s t u (report all.happened) (at_moment m.done 0 (lines_by (interrupt m) m)) (report more.happened) m.done 0 (next_lines s t all rest more m e h) (stopped_at_moment t u m.done 0 (lines_by (interrupt m) m) w.err);
 }

@@ -30,7 +30,7 @@ refusal card = record {
   status = Refused;
   events = at_moment 0 0 (fault_line card (codes "NOT YET BUILT") ∷ []);
   done = 0;
-  ticks = 0
+  ticks = 0;
 }
 
 abbrev pub output_of_run : Ran → Output

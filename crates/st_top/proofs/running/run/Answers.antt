@@ -35,8 +35,8 @@ running-preserved g c =
     let on = run-goes_on c.running.left s c.if-left-eq0.false i.quiet (sym c.if-is_at_rest.ensures) in
     record {
       so_far = subst (λ m. EventsSoFar (g.K.Sink.output c.args.out.now) (g.K.Sink.output c.write_next_interrupt.new.out) (report (run_from c.args.state.now).happened) (report (run n (alone m)).happened)) (sym made)
-        (goes_on_run _ _ _ (run_from c.args.state.now) (run c.running.left (alone s)) (run n (alone (step s))) s _ on i.so_far c.in_ok-write_next_interrupt.ensures);
+          (goes_on_run _ _ _ (run_from c.args.state.now) (run c.running.left (alone s)) (run n (alone (step s))) s _ on i.so_far c.in_ok-write_next_interrupt.ensures);
       last = ap (λ m. (run n (alone m)).last) made ∙ (sym (ap (λ k. k.last) on) ∙ i.last);
       quiet = subst IsQuiet (sym made) (step-quiet s i.quiet);
-      counted = omega (arith, ap (λ m. m.done) made, step-done s, i.counted, c.if-left-eq0.false)
+      counted = omega (arith, ap (λ m. m.done) made, step-done s, i.counted, c.if-left-eq0.false);
     }

@@ -12,7 +12,7 @@ invariant-running g l = record {
   so_far : EventsSoFar (g.K.Sink.output l.fn.out) (g.K.Sink.output l.out) (report (run_from l.fn.state).happened) (report (run l.left (alone l.state)).happened);
   last : (run l.left (alone l.state)).last ≡ (run_from l.fn.state).last;
   quiet : IsQuiet l.state;
-  counted : l.state.done + l.left ≡ budget
+  counted : l.state.done + l.left ≡ budget;
 }
 
 abbrev pub decreases-running : goal.decreases-running
