@@ -1,3 +1,5 @@
 pub mod Shifts
 pub mod Tables
 pub mod Windows
+pub mod Numbers
+pub mod Spelled
