@@ -3,3 +3,5 @@ pub mod Tables
 pub mod Windows
 pub mod Numbers
 pub mod Spelled
+pub mod Shapes
+pub mod RoundTrip

@@ -1,5 +1,7 @@
 -- Each operation has a number of its own, and each number that is used names its operation.
 use Rattle.std.proofs.Common.{◌≡◌, ℕ, ◌+◌, ◌*◌, ◌/◌, ◌%◌, ◌^◌, ◌<◌, ◌≤◌, ◌==◌, ◌||◌, Bool, true, false, List, Option, None, Some, length, refl, sym, ◌∙◌, ap, lit<, arith}
+use Rattle.std.specs.Prelude.{nat_le}
+use Rattle.std.proofs.lemmas.Bool.{leb-false}
 use Rattle.st_bits.specs.declared.operations.HalfOp.{HalfOp}
 use Rattle.st_bits.specs.declared.operations.HalfOp.TheVariants.{Lx}
 use Rattle.st_bits.specs.declared.operations.BranchOp.{BranchOp}
@@ -57,10 +59,26 @@ pub kind_number-bound : (op : ConnKind) → kind_number op < 3
 kind_number-bound C = lit< tt
 kind_number-bound _ = lit< tt
 
--- half-word operations are neither of the floating nor of the branch group, nor the unused one
-pub half_number-other : (op : HalfOp) → (half_number op == 0 || half_number op == 12 || half_number op == 23) ≡ false
-half_number-other Lx = refl
-half_number-other _ = refl
+pub swap-bound : (b : Bool) → full_number (Transmission b) < 32
+swap-bound true = lit< tt
+swap-bound false = lit< tt
+
+pub order-bound : (b : Bool) → full_number (Order b) < 32
+order-bound true = lit< tt
+order-bound false = lit< tt
+
+-- a half-word operation is neither of the floating nor of the branch group, nor the unused one
+pub half_number-floating : (op : HalfOp) → (half_number op == 0) ≡ false
+half_number-floating Lx = refl
+half_number-floating _ = refl
+
+pub half_number-unused : (op : HalfOp) → (half_number op == 12) ≡ false
+half_number-unused Lx = refl
+half_number-unused _ = refl
+
+pub half_number-branch : (op : HalfOp) → (half_number op == 23) ≡ false
+half_number-branch Lx = refl
+half_number-branch _ = refl
 
 -- ---- the number of a number's operation
 
@@ -92,3 +110,34 @@ half_op-none n lt e =
     let same : n + 0 ≡ n = omega arith in
     let test : ℕ → Bool = λ m. m == 0 || m == 12 || m == 23 || m % 16 == 15 in
     sym (ap test same) ∙ hole-row test 0 half_ops n refl lt e
+
+branch_op-within : (n : ℕ) → n < 6 → branch_op n ≡ None → ⊥
+unfolding branch_op branch_ops
+branch_op-within n lt e =
+    let test : ℕ → Bool = λ m. false in
+    let no : false ≡ true = hole-row test 0 branch_ops n refl lt e in cc
+
+from_six : (n : ℕ) (b : Bool) → nat_le 6 n ≡ b → branch_op n ≡ None → nat_le 6 n ≡ true
+from_six n true le e = le
+from_six n false le e =
+    let lt : n < 6 = leb-false 6 n le in absurd (branch_op-within n lt e)
+
+branch_number-below : (op : BranchOp) → nat_le 6 (branch_number op) ≡ false
+branch_number-below B = refl
+branch_number-below _ = refl
+
+pub branch_op-none : (n : ℕ) → branch_op n ≡ None → nat_le 6 n ≡ true
+branch_op-none n e = from_six n (nat_le 6 n) refl e
+
+pub branch_op-some : (n : ℕ) (op : BranchOp) → branch_op n ≡ Some op → nat_le 6 n ≡ false
+branch_op-some n op e =
+    let same : branch_number op ≡ n = number-branch_op n op e in
+    ap (nat_le 6) (sym same) ∙ branch_number-below op
+
+pub branch_op-late : (n : ℕ) (op : Option BranchOp) → branch_op n ≡ op → nat_le 6 n ≡ true → branch_op n ≡ None
+branch_op-late n None e late = e
+branch_op-late n (Some op) e late = let no : true ≡ false = sym late ∙ branch_op-some n op e in cc
+
+pub half_op-unused : half_op 12 ≡ None
+unfolding half_op half_ops
+half_op-unused = refl

@@ -14,7 +14,7 @@ use Rattle.st_format.specs.Operations.{full_ops, row, half_op, branch_op, kind, 
 use Rattle.st_format.specs.Validity.{is_invalid_half, unused_in_kind, unused_k, unused_marks, has_misfit, has_misused_p, has_miscount, breaks_rules, is_invalid, is_refused}
 use Rattle.st_format.specs.Formats.{branch_word, index_word, half_word, word_of, full_word, instruction_of, first_half, second_half, bit_of, FitsHalf, FitsFull, FitsField, IsRefusal, IsShape, is_no_instruction}
 use Rattle.st_format.proofs.Windows.{half_bits-fields, first_bits-fields, field_bits-fields, second_bits-fields, count_of-mod}
-use Rattle.st_format.proofs.Numbers.{number-half_op, number-branch_op, number-kind, number-row_full, vfl_number-bound, kind_number-bound, half_op-none}
+use Rattle.st_format.proofs.Numbers.{number-half_op, number-branch_op, number-kind, number-row_full, vfl_number-bound, kind_number-bound, half_op-none, swap-bound, order-bound}
 
 -- what holds of both choices holds of the chosen one
 pub of_choice : {A : Type 0} (P : A → Type 0) (b : Bool) (x y : A) → (b ≡ true → P x) → (b ≡ false → P y)
@@ -78,11 +78,11 @@ pub record KeepsRules (op : FullOp) (f s : ℕ) : Type 0 where
   pub progress : has_misused_p op f s ≡ false
   pub count : has_miscount op s ≡ false
 
-or-left : (a b : Bool) → (a || b) ≡ false → a ≡ false
+pub or-left : (a b : Bool) → (a || b) ≡ false → a ≡ false
 or-left true b h = h
 or-left false b h = refl
 
-or-right : (a b : Bool) → (a || b) ≡ false → b ≡ false
+pub or-right : (a b : Bool) → (a || b) ≡ false → b ≡ false
 or-right true b h = cc
 or-right false b h = h
 
@@ -155,14 +155,6 @@ pub connective-full_op : (s : ℕ) (k : ConnKind) → full_op s ≡ Some (Connec
     → (later s 51 1 ≡ 1) × (kind_number k ≡ later s 56 2)
 unfolding full_op
 connective-full_op s k e = connective-by (is_one s 51) s k refl e
-
-swap-bound : (b : Bool) → full_number (Transmission b) < 32
-swap-bound true = lit< tt
-swap-bound false = lit< tt
-
-order-bound : (b : Bool) → full_number (Order b) < 32
-order-bound true = lit< tt
-order-bound false = lit< tt
 
 -- ---- the second half-word
 

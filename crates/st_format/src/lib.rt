@@ -50,9 +50,14 @@ mod decoding;
 mod encoding;
 mod fields;
 mod instruction;
+mod laws;
 mod operations;
 mod rules;
 
 pub use decoding::decode;
 pub use encoding::encode;
 pub use instruction::{Decoded, Instr};
+pub use laws::{bits_spell_instruction, instruction_keeps_bits};
+
+#[cfg(test)]
+mod tests;
