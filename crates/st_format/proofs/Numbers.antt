@@ -1,5 +1,5 @@
 -- Each operation has a number of its own, and each number that is used names its operation.
-use Rattle.std.proofs.Common.{◌≡◌, ℕ, ◌+◌, ◌*◌, ◌/◌, ◌%◌, ◌^◌, ◌<◌, ◌≤◌, ◌==◌, ◌||◌, Bool, true, false, List, Option, None, Some, length, refl, sym, ◌∙◌, ap, lit<, arith}
+use Rattle.std.proofs.Common.{◌≡◌, ℕ, ◌+◌, ◌%◌, ◌<◌, ◌==◌, ◌||◌, Bool, true, false, Option, None, Some, refl, sym, ◌∙◌, ap, lit<, arith}
 use Rattle.std.specs.Prelude.{nat_le}
 use Rattle.std.proofs.lemmas.Bool.{leb-false}
 use Rattle.st_bits.specs.declared.operations.HalfOp.{HalfOp}
@@ -11,7 +11,7 @@ use Rattle.st_bits.specs.declared.operations.VflOp.TheVariants.{L}
 use Rattle.st_bits.specs.declared.operations.ConnKind.{ConnKind}
 use Rattle.st_bits.specs.declared.operations.ConnKind.TheVariants.{C}
 use Rattle.st_format.specs.declared.operations.FullOp.{FullOp}
-use Rattle.st_format.specs.declared.operations.FullOp.TheVariants.{Variable, Connective, Transmission, BitTest, IndicatorTest, Order, CounterStore}
+use Rattle.st_format.specs.declared.operations.FullOp.TheVariants.{Variable, Transmission, Order}
 use Rattle.st_format.specs.Operations.{half_ops, branch_ops, full_ops, kinds, row, half_op, branch_op, kind, half_number, branch_number, vfl_number, kind_number, full_number}
 use Rattle.st_format.proofs.Tables.{number-row, hole-row}
 

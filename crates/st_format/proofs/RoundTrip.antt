@@ -1,6 +1,6 @@
 -- The bits of a shape spell that shape.
-use Rattle.std.proofs.Common.{◌≡◌, ℕ, ◌+◌, ◌-◌, ◌*◌, ◌/◌, ◌%◌, ◌^◌, ◌<◌, ◌≤◌, ◌==◌, ◌&&◌, ◌||◌, not, Bool, true, false, if◌then◌else◌, Option, None, Some, refl, sym, ◌∙◌, ap, lit<, arith}
-use Rattle.std.specs.Prelude.{IsTrue, IsFalse, nat_lt, nat_le, unwrap_or, is_some}
+use Rattle.std.proofs.Common.{◌≡◌, ℕ, ◌+◌, ◌*◌, ◌%◌, ◌^◌, ◌<◌, ◌≤◌, ◌==◌, ◌&&◌, ◌||◌, Bool, true, false, if◌then◌else◌, Option, None, Some, refl, sym, ◌∙◌, ap, lit<, arith}
+use Rattle.std.specs.Prelude.{nat_lt, nat_le, unwrap_or, is_some}
 use Rattle.std.specs.Option.{option_map}
 use Rattle.std.proofs.lemmas.Bool.{eqb-true, ne_eqb, le-ltb}
 use Rattle.st_bits.specs.declared.operations.BranchOp.{BranchOp}
@@ -11,7 +11,7 @@ use Rattle.st_format.specs.declared.operations.FullOp.{FullOp}
 use Rattle.st_format.specs.declared.operations.FullOp.TheVariants.{Variable, Connective, Transmission, BitTest, IndicatorTest, Order, CounterStore}
 use Rattle.st_format.specs.declared.instruction.Instr.{Instr}
 use Rattle.st_format.specs.declared.instruction.Instr.TheVariants.{Half, Branch, Floating, Vfl, Connect, Move, BitBranch, IndBranch, StoreCounter, Transfer, Invalid}
-use Rattle.st_format.specs.Halves.{part, later, is_one, is_full, i_of, address_of, j_of, operation_of, bit_address_of, second_address_of, p_of, length_of, byte_of, offset_of, k_of, count_of, or_greatest, half_bits, first_bits, field_bits, second_bits}
+use Rattle.st_format.specs.Halves.{later, is_one, is_full, i_of, address_of, j_of, operation_of, bit_address_of, second_address_of, p_of, length_of, byte_of, offset_of, k_of, count_of, half_bits, first_bits, field_bits, second_bits}
 use Rattle.st_format.specs.Operations.{full_ops, row, half_op, branch_op, kind, full_op, half_number, branch_number, kind_number, vfl_number, full_number, writes_field}
 use Rattle.st_format.specs.Validity.{is_invalid_half, breaks_rules, is_invalid, is_refused, misfits, misuses_p, miscounts}
 use Rattle.st_format.specs.Formats.{branch_word, index_word, half_word, word_of, full_word, instruction_of, first_half, second_half, bit_of, FitsHalf, FitsFull, FitsField, IsRefusal, IsShape}
@@ -168,8 +168,10 @@ vfl-back op d u n p l b o a i fits field good used =
     let eu : is_one s 53 ≡ u = flag s 53 u (omega arith) in
     let en : is_one s 54 ≡ n = flag s 54 n (omega arith) in
     let ep : p_of s ≡ p = p-field_bits p l b o code field.p_fits field.offset_fits hc in
-    let el : length_of s ≡ l = length-field_bits p l b o code field.p_fits field.some_bits field.length_fits field.offset_fits hc in
-    let eb : byte_of s ≡ b = byte-field_bits p l b o code field.p_fits field.some_byte field.byte_fits field.offset_fits hc in
+    let el : length_of s ≡ l =
+    length-field_bits p l b o code field.p_fits field.some_bits field.length_fits field.offset_fits hc in
+    let eb : byte_of s ≡ b =
+    byte-field_bits p l b o code field.p_fits field.some_byte field.byte_fits field.offset_fits hc in
     let eo : offset_of s ≡ o = offset-field_bits p l b o code field.p_fits field.offset_fits hc in
     let ea : bit_address_of f ≡ a = address-first_bits a i fits.address_fits fits.i_fits in
     let ei : i_of f ≡ i = i-first_bits a i fits.i_fits in
@@ -192,8 +194,10 @@ connect-back k t p l b o a i fits field ht used =
     let same : later s 51 9 ≡ code = operation-field_bits p l b o code field.p_fits field.offset_fits hc in
     let et : later s 52 4 ≡ t = omega arith in
     let ep : p_of s ≡ p = p-field_bits p l b o code field.p_fits field.offset_fits hc in
-    let el : length_of s ≡ l = length-field_bits p l b o code field.p_fits field.some_bits field.length_fits field.offset_fits hc in
-    let eb : byte_of s ≡ b = byte-field_bits p l b o code field.p_fits field.some_byte field.byte_fits field.offset_fits hc in
+    let el : length_of s ≡ l =
+    length-field_bits p l b o code field.p_fits field.some_bits field.length_fits field.offset_fits hc in
+    let eb : byte_of s ≡ b =
+    byte-field_bits p l b o code field.p_fits field.some_byte field.byte_fits field.offset_fits hc in
     let eo : offset_of s ≡ o = offset-field_bits p l b o code field.p_fits field.offset_fits hc in
     let ea : bit_address_of f ≡ a = address-first_bits a i fits.address_fits fits.i_fits in
     let ei : i_of f ≡ i = i-first_bits a i fits.i_fits in
@@ -378,7 +382,8 @@ late-word f number none =
 refused-by : (f : ℕ) (unused group late : Bool) → (operation_of f == 12) ≡ unused → (operation_of f == 23) ≡ group
     → nat_le 6 (j_of f) ≡ late → (unused || (group && late)) ≡ true → half_word f ≡ Invalid f 0 false
 refused-by f true group late eu eg el h = unused-word f (eqb-true _ _ eu)
-refused-by f false true true eu eg el h = late-word f (eqb-true _ _ eg) (branch_op-late (j_of f) (branch_op (j_of f)) refl el)
+refused-by f false true true eu eg el h =
+    late-word f (eqb-true _ _ eg) (branch_op-late (j_of f) (branch_op (j_of f)) refl el)
 refused-by f false true false eu eg el h = cc
 refused-by f false false late eu eg el h = cc
 

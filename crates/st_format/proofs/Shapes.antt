@@ -1,13 +1,13 @@
 -- What some bits spell has the shape of an instruction, and is none exactly where they break a rule.
-use Rattle.std.proofs.Common.{◌≡◌, ℕ, ◌+◌, ◌-◌, ◌*◌, ◌/◌, ◌%◌, ◌^◌, ◌<◌, ◌≤◌, ◌==◌, ◌&&◌, ◌||◌, not, Bool, true, false, if◌then◌else◌, Option, None, Some, refl, sym, ◌∙◌, ap, lit<, arith}
-use Rattle.std.specs.Prelude.{IsTrue, IsFalse, nat_lt, nat_le}
-use Rattle.std.proofs.lemmas.Bool.{eqb-true, eqb-false, ne_eqb, ltb-true, ltb-false, leb-true, leb-false}
+use Rattle.std.proofs.Common.{◌≡◌, ℕ, ◌%◌, ◌^◌, ◌<◌, ◌≤◌, ◌==◌, ◌&&◌, ◌||◌, Bool, true, false, if◌then◌else◌, Option, None, Some, refl, sym, ◌∙◌, ap, lit<, arith}
+use Rattle.std.specs.Prelude.{nat_lt, nat_le}
+use Rattle.std.proofs.lemmas.Bool.{eqb-true, eqb-false, ltb-false}
 use Rattle.st_bits.specs.declared.operations.BranchOp.{BranchOp}
 use Rattle.st_bits.specs.declared.operations.HalfOp.{HalfOp}
 use Rattle.st_format.specs.declared.operations.FullOp.{FullOp}
 use Rattle.st_format.specs.declared.operations.FullOp.TheVariants.{Variable, Connective, Transmission, BitTest, IndicatorTest, Order, CounterStore}
 use Rattle.st_format.specs.declared.instruction.Instr.{Instr}
-use Rattle.st_format.specs.Halves.{part, later, is_one, is_full, i_of, address_of, j_of, operation_of, bit_address_of, second_address_of, p_of, length_of, byte_of, offset_of, k_of, count_of, or_greatest}
+use Rattle.st_format.specs.Halves.{part, later, is_full, i_of, address_of, j_of, operation_of, bit_address_of, second_address_of, p_of, length_of, byte_of, offset_of, k_of, count_of, or_greatest}
 use Rattle.st_format.specs.Operations.{half_op, branch_op, full_op, half_number}
 use Rattle.st_format.specs.Validity.{is_invalid_half, breaks_rules, is_invalid, is_refused, miscounts}
 use Rattle.st_format.specs.Formats.{branch_word, index_word, half_word, word_of, full_word, instruction_of, FitsHalf, FitsFull, FitsField, IsRefusal, IsShape, is_no_instruction}
@@ -144,7 +144,8 @@ unfolding is_invalid_half
 refused-branch f group none =
     ap (λ o. o == 12 || (o == 23 && nat_le 6 (j_of f))) group ∙ branch_op-none (j_of f) none
 
-allowed-branch : (f : ℕ) (op : BranchOp) → operation_of f ≡ 23 → branch_op (j_of f) ≡ Some op → is_invalid_half f ≡ false
+allowed-branch : (f : ℕ) (op : BranchOp) → operation_of f ≡ 23 → branch_op (j_of f) ≡ Some op
+    → is_invalid_half f ≡ false
 unfolding is_invalid_half
 allowed-branch f op group e =
     ap (λ o. o == 12 || (o == 23 && nat_le 6 (j_of f))) group ∙ branch_op-some (j_of f) op e

@@ -1,20 +1,19 @@
 -- What the instruction that some bits spell is encoded in, and that it is a shape.
-use Rattle.std.proofs.Common.{◌≡◌, ℕ, ◌+◌, ◌-◌, ◌*◌, ◌/◌, ◌%◌, ◌^◌, ◌<◌, ◌≤◌, ◌==◌, ◌&&◌, ◌||◌, not, Bool, true, false, if◌then◌else◌, Option, None, Some, refl, sym, ◌∙◌, ap, lit<, arith}
-use Rattle.std.specs.Prelude.{IsTrue, IsFalse, nat_lt, nat_le}
+use Rattle.std.proofs.Common.{◌≡◌, ℕ, ◌^◌, ◌<◌, ◌==◌, ◌||◌, not, Bool, true, false, if◌then◌else◌, Option, None, Some, refl, sym, ◌∙◌, ap, lit<, arith}
 use Rattle.std.specs.Option.{option_map}
-use Rattle.std.proofs.lemmas.Bool.{eqb-true, eqb-false, ne_eqb, ltb-true}
+use Rattle.std.proofs.lemmas.Bool.{eqb-true, eqb-false}
 use Rattle.st_bits.specs.declared.operations.BranchOp.{BranchOp}
 use Rattle.st_bits.specs.declared.operations.HalfOp.{HalfOp}
 use Rattle.st_bits.specs.declared.operations.ConnKind.{ConnKind}
 use Rattle.st_format.specs.declared.operations.FullOp.{FullOp}
 use Rattle.st_format.specs.declared.operations.FullOp.TheVariants.{Variable, Connective, Transmission, BitTest, IndicatorTest, Order, CounterStore}
 use Rattle.st_format.specs.declared.instruction.Instr.{Instr}
-use Rattle.st_format.specs.Halves.{part, later, is_one, is_full, i_of, address_of, j_of, operation_of, bit_address_of, second_address_of, p_of, length_of, byte_of, offset_of, k_of, count_of, or_greatest, half_bits, first_bits, field_bits, second_bits}
-use Rattle.st_format.specs.Operations.{full_ops, row, half_op, branch_op, kind, full_op, half_number, branch_number, kind_number, full_number, writes_field}
-use Rattle.st_format.specs.Validity.{is_invalid_half, unused_in_kind, unused_k, unused_marks, has_misfit, has_misused_p, has_miscount, breaks_rules, is_invalid, is_refused}
-use Rattle.st_format.specs.Formats.{branch_word, index_word, half_word, word_of, full_word, instruction_of, first_half, second_half, bit_of, FitsHalf, FitsFull, FitsField, IsRefusal, IsShape, is_no_instruction}
+use Rattle.st_format.specs.Halves.{later, is_one, is_full, i_of, address_of, j_of, operation_of, second_address_of, p_of, length_of, byte_of, offset_of, k_of, half_bits, field_bits, second_bits}
+use Rattle.st_format.specs.Operations.{full_ops, row, half_op, branch_op, kind, full_op, kind_number, full_number}
+use Rattle.st_format.specs.Validity.{unused_in_kind, unused_k, unused_marks, has_misfit, has_misused_p, has_miscount, breaks_rules}
+use Rattle.st_format.specs.Formats.{branch_word, index_word, half_word, word_of, full_word, instruction_of, first_half, second_half, bit_of}
 use Rattle.st_format.proofs.Windows.{half_bits-fields, first_bits-fields, field_bits-fields, second_bits-fields, count_of-mod}
-use Rattle.st_format.proofs.Numbers.{number-half_op, number-branch_op, number-kind, number-row_full, vfl_number-bound, kind_number-bound, half_op-none, swap-bound, order-bound}
+use Rattle.st_format.proofs.Numbers.{number-half_op, number-branch_op, number-kind, number-row_full, vfl_number-bound, swap-bound, order-bound}
 
 -- what holds of both choices holds of the chosen one
 pub of_choice : {A : Type 0} (P : A → Type 0) (b : Bool) (x y : A) → (b ≡ true → P x) → (b ≡ false → P y)

@@ -1,8 +1,8 @@
 -- Each field of packed half-words, and half-words packed again from their fields.
-use Rattle.std.proofs.Common.{◌≡◌, ℕ, zero, suc, if◌then◌else◌, ◌+◌, ◌-◌, ◌*◌, ◌/◌, ◌%◌, ◌^◌, ◌<◌, ◌≤◌, ◌==◌, Bool, true, false, refl, sym, ◌∙◌, ap, arith}
+use Rattle.std.proofs.Common.{◌≡◌, ℕ, zero, suc, if◌then◌else◌, ◌+◌, ◌*◌, ◌/◌, ◌%◌, ◌^◌, ◌<◌, ◌≤◌, ◌==◌, Bool, true, false, refl, sym, ◌∙◌, ap, arith}
 use Rattle.std.proofs.Math.Nat.{mod_self, mod-eq_of_lt}
 use Rattle.std.proofs.lemmas.Bool.{eqb-true, eqb-false, ne_eqb}
-use Rattle.st_format.specs.Halves.{part, later, is_one, is_full, i_of, address_of, j_of, operation_of, bit_address_of, second_address_of, p_of, length_of, byte_of, offset_of, k_of, count_of, or_greatest, half_bits, first_bits, field_bits, second_bits}
+use Rattle.st_format.specs.Halves.{part, later, is_full, i_of, address_of, j_of, operation_of, bit_address_of, second_address_of, p_of, length_of, byte_of, offset_of, k_of, count_of, or_greatest, half_bits, first_bits, field_bits, second_bits}
 
 -- a field that is not zero stands for itself
 greatest-some : (g n : ℕ) → 1 ≤ n → or_greatest g n ≡ n
@@ -86,14 +86,16 @@ pub length-field_bits : (p l b f o : ℕ) → p < 8 → 1 ≤ l → l ≤ 64 →
     → length_of (field_bits p l b f o) ≡ l
 unfolding length_of field_bits
 length-field_bits p l b f o hp some fits hf ho =
-    let e : later (p * 2 ^ 29 + l % 64 * 2 ^ 23 + b % 8 * 2 ^ 20 + f * 2 ^ 13 + o * 2 ^ 4) 35 6 ≡ l % 64 = omega arith in
+    let e : later (p * 2 ^ 29 + l % 64 * 2 ^ 23 + b % 8 * 2 ^ 20 + f * 2 ^ 13 + o * 2 ^ 4) 35 6 ≡ l % 64 =
+    omega arith in
     ap (or_greatest 64) e ∙ greatest-mod 64 l (omega arith) some fits
 
 pub byte-field_bits : (p l b f o : ℕ) → p < 8 → 1 ≤ b → b ≤ 8 → f < 128 → o < 512
     → byte_of (field_bits p l b f o) ≡ b
 unfolding byte_of field_bits
 byte-field_bits p l b f o hp some fits hf ho =
-    let e : later (p * 2 ^ 29 + l % 64 * 2 ^ 23 + b % 8 * 2 ^ 20 + f * 2 ^ 13 + o * 2 ^ 4) 41 3 ≡ b % 8 = omega arith in
+    let e : later (p * 2 ^ 29 + l % 64 * 2 ^ 23 + b % 8 * 2 ^ 20 + f * 2 ^ 13 + o * 2 ^ 4) 41 3 ≡ b % 8 =
+    omega arith in
     ap (or_greatest 8) e ∙ greatest-mod 8 b (omega arith) some fits
 
 pub offset-field_bits : (p l b f o : ℕ) → p < 8 → f < 128 → o < 512 → offset_of (field_bits p l b f o) ≡ f
@@ -113,8 +115,10 @@ pub field_bits-fields : (s : ℕ) → s < 2 ^ 32 → k_of s ≡ 0
     → field_bits (p_of s) (length_of s) (byte_of s) (offset_of s) (later s 51 9) ≡ s
 unfolding field_bits p_of length_of byte_of offset_of k_of
 field_bits-fields s lt none =
-    let l : or_greatest 64 (later s 35 6) % 64 ≡ later s 35 6 = mod-greatest 64 (later s 35 6) (omega arith) (omega arith) in
-    let b : or_greatest 8 (later s 41 3) % 8 ≡ later s 41 3 = mod-greatest 8 (later s 41 3) (omega arith) (omega arith) in
+    let l : or_greatest 64 (later s 35 6) % 64 ≡ later s 35 6 =
+    mod-greatest 64 (later s 35 6) (omega arith) (omega arith) in
+    let b : or_greatest 8 (later s 41 3) % 8 ≡ later s 41 3 =
+    mod-greatest 8 (later s 41 3) (omega arith) (omega arith) in
     rw (l, b) (omega arith)
 
 -- ---- the second half of an instruction with two addresses

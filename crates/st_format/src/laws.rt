@@ -1,7 +1,7 @@
 //! What holds of the two formats, whatever the bits.
-ghost use Rattle.std.specs.Prelude.{◌≡◌, Some, None, unwrap_or, is_some, if◌then◌else◌};
+ghost use Rattle.std.specs.Prelude.{◌≡◌, Some, None, is_some, if◌then◌else◌};
 ghost use Rattle.st_format.specs.Halves.{is_full};
-ghost use Rattle.st_format.specs.Formats.{decoded, first_half, second_half, IsShape};
+ghost use Rattle.st_format.specs.Formats.{instruction_of, first_half, second_half, reread, IsShape};
 
 use crate::instruction::Instr;
 
@@ -9,14 +9,13 @@ use crate::instruction::Instr;
 /// matter what stands behind it.
 pub fn bits_spell_instruction(instr: &Instr, rest: u32)
     requires { IsShape instr.now }
-    ensures instruction { (decoded (first_half instr.now) (unwrap_or (second_half instr.now) rest)).instr ≡ instr.now }
-    ensures length { (decoded (first_half instr.now) (unwrap_or (second_half instr.now) rest)).halves
-        ≡ (if is_some (second_half instr.now) then 2 else 1) }
+    ensures instruction { (reread instr.now rest).instr ≡ instr.now }
+    ensures length { (reread instr.now rest).halves ≡ (if is_some (second_half instr.now) then 2 else 1) }
 {}
 
 /// The instruction that bits spell is encoded in those bits, so no two half-words have an instruction in common.
 pub fn instruction_keeps_bits(first: u32, second: u32)
-    ensures shape { IsShape (decoded first second).instr }
-    ensures first { first_half (decoded first second).instr ≡ first }
-    ensures second { second_half (decoded first second).instr ≡ (if is_full first then Some second else None) }
+    ensures shape { IsShape (instruction_of first second) }
+    ensures first { first_half (instruction_of first second) ≡ first }
+    ensures second { second_half (instruction_of first second) ≡ (if is_full first then Some second else None) }
 {}

@@ -37,7 +37,7 @@
 //! ```text
 //!   51  52  53  54  55      59
 //!  +---+---+---+---+----------+
-//!  | 0 | D | U | N |  number  |   decimal, unsigned, negated; elsewhere the sense of a branch and what follows it
+//!  | 0 | D | U | N |  number  |   decimal, unsigned, negated; in a branch its sense
 //!  +---+---+---+---+----------+
 //!   51  52        55 56  57 58 59
 //!  +---+------------+------+-----+
