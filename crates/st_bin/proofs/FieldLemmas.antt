@@ -1,9 +1,11 @@
 -- The bits of a field and of its last byte, over plain numbers.
-use Rattle.std.proofs.Common.{lit<, ◌≡◌, ℕ, zero, suc, ◌+◌, ◌-◌, ◌*◌, ◌/◌, ◌%◌, ◌^◌, ◌<◌, ◌≤◌, Bool, true, false, refl, sym, arith, ap, subst, ◌∙◌}
+use Rattle.std.proofs.Common.{lit<, ◌||◌, ◌≡◌, ℕ, zero, suc, ◌+◌, ◌-◌, ◌*◌, ◌/◌, ◌%◌, ◌^◌, ◌<◌, ◌≤◌, Bool, true, false, refl, sym, arith, ap, subst, ◌∙◌}
 use Rattle.std.proofs.lemmas.Nat.{pow-add}
-use Rattle.std.proofs.Math.Pow.{pow_pos}
+use Rattle.std.proofs.Math.Pow.{pow_pos, mod-mod-pow}
 use Rattle.std.proofs.Math.Nat.{mod-eq_of_lt, pow-le-pow_right}
 use Rattle.st_bin.specs.declared.operand.Shape.{Shape}
+use Rattle.std.proofs.lemmas.Bool.Decides.{nat_tests}
+use Rattle.st_bin.specs.Numbers.{exceeds}
 use Rattle.st_bin.specs.BinaryOperand.{magnitude_bits, sign_byte, HasRoom}
 use Rattle.st_bin.specs.declared.operand.Field.{Field}
 
@@ -71,3 +73,15 @@ shifted_whole m n b front h few =
 -- the magnitude of a signed field
 pub magnitude_bits-signed : (h : Shape) → h.unsigned ≡ false → magnitude_bits h ≡ h.length - h.byte
 magnitude_bits-signed h is = rw is refl
+
+-- what stays of a magnitude in 128 bits tells what stays in n
+pub kept : (m t n : ℕ) → m ≡ t % 2 ^ 128 → n ≤ 64 → m % 2 ^ n ≡ t % 2 ^ n
+kept m t n is few =
+    let whole : 128 - n + n ≡ 128 = omega arith in
+    rw is (subst (λ k. t % 2 ^ k % 2 ^ n ≡ t % 2 ^ n) whole (mod-mod-pow t (128 - n) n))
+
+-- and what is lost
+pub exceeds_kept : (m t n : ℕ) → m ≡ t % 2 ^ 128 → n ≤ 64 → (exceeds t 128 || exceeds m n) ≡ exceeds t n
+exceeds_kept m t n is few =
+    let small : 2 ^ n ≤ 2 ^ 64 = pow-le-pow_right {n = 2} (lit< tt) few in
+    grind (arith, nat_tests)

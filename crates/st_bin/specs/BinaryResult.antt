@@ -1,5 +1,5 @@
 -- What each binary operation makes of the accumulator, the field and the registers, over whole numbers.
-use Rattle.std.specs.Prelude.{ℕ, zero, suc, ◌+◌, ◌-◌, ◌*◌, ◌/◌, ◌%◌, ◌^◌, ℤ, pos, negsuc, ◌+ℤ◌, neg_ℤ, unsigned_abs, Bool, true, false, nat_le, ◌==◌, if◌then◌else◌, None, Some}
+use Rattle.std.specs.Prelude.{ℕ, zero, suc, ◌+◌, ◌-◌, ◌*◌, ◌/◌, ◌%◌, ◌^◌, ℤ, pos, negsuc, ◌+ℤ◌, neg_ℤ, unsigned_abs, Bool, true, false, nat_le, ◌==◌, ◌||◌, if◌then◌else◌, None, Some}
 use Rattle.std.specs.declared.cmp.Ordering.{Ordering}
 use Rattle.std.specs.Ordering.{int_cmp}
 use Rattle.st_bits.specs.declared.operations.VflOp.{VflOp}
@@ -140,14 +140,37 @@ magnitude_added_to_field a f h =
 unfoldable pub one_added_to_field : Acc → Field → Shape → Done
 one_added_to_field a f h = sum_in_field a f h (signed f.negative f.mag +ℤ signed h.negated 1)
 
--- K and its like: the accumulator compared with the operand at the offset
+-- the accumulator compared with the operand at the offset
 unfoldable pub order_of_numbers : Acc → Field → Shape → Ordering
 order_of_numbers a f h = int_cmp (acc_number a) (signed (operand_minus f h) (placed f h))
 
--- KF and its like: as much of the accumulator as the field holds, compared with the operand
+-- as much of the accumulator from the offset on as the field holds, compared with the operand
 unfoldable pub order_of_fields : Acc → Field → Shape → Ordering
 order_of_fields a f h =
     int_cmp (signed (is_minus a) (from_offset a h % 2 ^ magnitude_bits h)) (signed (operand_minus f h) f.mag)
+
+-- K, and KF for as much as the field holds
+unfoldable pub compared : Acc → Field → Shape → Done
+compared a f h = unchanged a (by_order (order_of_numbers a f h) (placing f h))
+
+unfoldable pub field_compared : Acc → Field → Shape → Done
+field_compared a f h = unchanged a (by_order (order_of_fields a f h) (flag_indicators f.flags))
+
+-- KE and KFE, which act only if AE is on
+unfoldable pub compared_if_equal : Acc → Field → Shape → ℕ → Done
+compared_if_equal a f h ind = unchanged a (by_order_if_equal ind (order_of_numbers a f h) (placing f h))
+
+unfoldable pub field_compared_if_equal : Acc → Field → Shape → ℕ → Done
+field_compared_if_equal a f h ind =
+    unchanged a (by_order_if_equal ind (order_of_fields a f h) (flag_indicators f.flags))
+
+-- KR and KFR, which act only if AL is off
+unfoldable pub range_compared : Acc → Field → Shape → ℕ → Done
+range_compared a f h ind = unchanged a (by_range ind (order_of_numbers a f h) (placing f h))
+
+unfoldable pub field_range_compared : Acc → Field → Shape → ℕ → Done
+field_range_compared a f h ind =
+    unchanged a (by_range ind (order_of_fields a f h) (flag_indicators f.flags))
 
 -- a product or quotient put into the accumulator: minus where exactly one of both is minus
 abbrev pub multiplied : Acc → Field → Shape → ℕ → ℕ → Done
@@ -164,7 +187,7 @@ abbrev pub product_summed : Acc → Field → Shape → ℕ → Done
 product_summed a f h p =
     let r : ℤ = acc_number a +ℤ signed (operand_minus f h) (p % 2 ^ 128) in
     in_accumulator (with_number a (unsigned_abs r % 2 ^ 128) (sign_after (is_minus a) r))
-    (flag_indicators f.flags + (if exceeds p 128 then indicator 22 else lost_carry (exceeds (unsigned_abs r) 128)))
+    (flag_indicators f.flags + lost_carry (exceeds p 128 || exceeds (unsigned_abs r) 128))
 
 unfoldable pub product_added : Acc → Field → Shape → ℕ → Done
 product_added a f h ft = product_summed a f h (ft * f.mag * 2 ^ h.offset)
@@ -201,12 +224,12 @@ result_of AddMg a f h ft ind = magnitude_added a f h
 result_of MAdd a f h ft ind = added_to_field a f h
 result_of MAddMg a f h ft ind = magnitude_added_to_field a f h
 result_of MAdd1 a f h ft ind = one_added_to_field a f h
-result_of K a f h ft ind = unchanged a (by_order (order_of_numbers a f h) (placing f h))
-result_of Kf a f h ft ind = unchanged a (by_order (order_of_fields a f h) (flag_indicators f.flags))
-result_of Ke a f h ft ind = unchanged a (by_order_if_equal ind (order_of_numbers a f h) (placing f h))
-result_of Kfe a f h ft ind = unchanged a (by_order_if_equal ind (order_of_fields a f h) (flag_indicators f.flags))
-result_of Kr a f h ft ind = unchanged a (by_range ind (order_of_numbers a f h) (placing f h))
-result_of Kfr a f h ft ind = unchanged a (by_range ind (order_of_fields a f h) (flag_indicators f.flags))
+result_of K a f h ft ind = compared a f h
+result_of Kf a f h ft ind = field_compared a f h
+result_of Ke a f h ft ind = compared_if_equal a f h ind
+result_of Kfe a f h ft ind = field_compared_if_equal a f h ind
+result_of Kr a f h ft ind = range_compared a f h ind
+result_of Kfr a f h ft ind = field_range_compared a f h ind
 result_of Mul a f h ft ind = product a f h
 result_of MulAdd a f h ft ind = product_added a f h ft
 result_of Div a f h ft ind = divided a f h

@@ -1,8 +1,9 @@
 ghost use Rattle.std.specs.Prelude.{◌≡◌, ◌<◌, ◌^◌};
 ghost use Rattle.st_bin.specs.Indicators.{flag_indicators as flag_indicators_of};
-ghost use Rattle.st_bin.specs.Indicators.{by_order as by_order_of, by_order_if_equal as by_order_if_equal_of, by_range as by_range_of};
 ghost use Rattle.st_bin.specs.BinaryOperand.{IsShape, HasRoom};
-ghost use Rattle.st_bin.specs.BinaryResult.{order_of_numbers, order_of_fields, placing, unchanged as unchanged_of};
+ghost use Rattle.st_bin.specs.BinaryResult.{order_of_numbers, order_of_fields, placing};
+ghost use Rattle.st_bin.specs.BinaryResult.{compared, compared_if_equal, range_compared};
+ghost use Rattle.st_bin.specs.BinaryResult.{field_compared, field_compared_if_equal, field_range_compared};
 
 use crate::accumulator::{Acc, number};
 use crate::done::{Done, unchanged};
@@ -55,32 +56,68 @@ fn fields(acc: &Acc, f: &Field, shape: &Shape) -> Compared
     }
 }
 
-/// Compare: exactly one of AL, AE and AH comes on.
+/// Compare: exactly one of AL, AE and AH comes on by the accumulator and the operand at the offset.
+#[tactic(auto, unfolding(crate::specs::BinaryResult::compared))]
 pub fn compare(acc: &Acc, f: &Field, shape: &Shape) -> Done
     requires shape { IsShape shape.now }
     requires room { HasRoom f.now shape.now }
-    ensures { result ≡ unchanged_of acc.now (by_order_of (order_of_numbers acc.now f.now shape.now) (placing f.now shape.now)) }
+    ensures { result ≡ compared acc.now f.now shape.now }
 {
     let sides = numbers(acc, f, shape);
     unchanged(acc, by_order(sides.order, sides.on))
 }
 
-/// Compare if equal: the same, only where AE is on in `ind`.
+/// Compare field: the same by as much of the accumulator as the field holds.
+#[tactic(auto, unfolding(crate::specs::BinaryResult::field_compared))]
+pub fn compare_field(acc: &Acc, f: &Field, shape: &Shape) -> Done
+    requires shape { IsShape shape.now }
+    requires room { HasRoom f.now shape.now }
+    ensures { result ≡ field_compared acc.now f.now shape.now }
+{
+    let sides = fields(acc, f, shape);
+    unchanged(acc, by_order(sides.order, sides.on))
+}
+
+/// Compare if equal: as `compare`, only where AE is on in `ind`.
+#[tactic(auto, unfolding(crate::specs::BinaryResult::compared_if_equal))]
 pub fn compare_if_equal(acc: &Acc, f: &Field, shape: &Shape, ind: u64) -> Done
     requires shape { IsShape shape.now }
     requires room { HasRoom f.now shape.now }
-    ensures { result ≡ unchanged_of acc.now (by_order_if_equal_of ind (order_of_numbers acc.now f.now shape.now) (placing f.now shape.now)) }
+    ensures { result ≡ compared_if_equal acc.now f.now shape.now ind }
 {
     let sides = numbers(acc, f, shape);
     unchanged(acc, by_order_if_equal(ind, sides.order, sides.on))
 }
 
+/// Compare field if equal: as `compare_field`, only where AE is on in `ind`.
+#[tactic(auto, unfolding(crate::specs::BinaryResult::field_compared_if_equal))]
+pub fn compare_field_if_equal(acc: &Acc, f: &Field, shape: &Shape, ind: u64) -> Done
+    requires shape { IsShape shape.now }
+    requires room { HasRoom f.now shape.now }
+    ensures { result ≡ field_compared_if_equal acc.now f.now shape.now ind }
+{
+    let sides = fields(acc, f, shape);
+    unchanged(acc, by_order_if_equal(ind, sides.order, sides.on))
+}
+
 /// Compare for range: the operand is the upper end of a range; acts only where AL is off in `ind`.
+#[tactic(auto, unfolding(crate::specs::BinaryResult::range_compared))]
 pub fn compare_range(acc: &Acc, f: &Field, shape: &Shape, ind: u64) -> Done
     requires shape { IsShape shape.now }
     requires room { HasRoom f.now shape.now }
-    ensures { result ≡ unchanged_of acc.now (by_range_of ind (order_of_numbers acc.now f.now shape.now) (placing f.now shape.now)) }
+    ensures { result ≡ range_compared acc.now f.now shape.now ind }
 {
     let sides = numbers(acc, f, shape);
+    unchanged(acc, by_range(ind, sides.order, sides.on))
+}
+
+/// Compare field for range: as `compare_range`, by as much of the accumulator as the field holds.
+#[tactic(auto, unfolding(crate::specs::BinaryResult::field_range_compared))]
+pub fn compare_field_range(acc: &Acc, f: &Field, shape: &Shape, ind: u64) -> Done
+    requires shape { IsShape shape.now }
+    requires room { HasRoom f.now shape.now }
+    ensures { result ≡ field_range_compared acc.now f.now shape.now ind }
+{
+    let sides = fields(acc, f, shape);
     unchanged(acc, by_range(ind, sides.order, sides.on))
 }
