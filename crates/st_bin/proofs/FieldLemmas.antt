@@ -45,7 +45,7 @@ div-below : (x a d : ℕ) → 0 < d → x < a * d → x / d < a
 div-below x a d some below = grind arith
 
 -- a digit behind a number
-digit_below : (m r a d : ℕ) → m < a → r < d → m * d + r < a * d
+pub digit_below : (m r a d : ℕ) → m < a → r < d → m * d + r < a * d
 digit_below m r a d front back = grind arith
 
 -- n bits are those before the last b and the last b

@@ -3,16 +3,20 @@
 #![tactic(auto)]
 
 mod accumulator;
+mod compares;
+mod conversion;
+mod digits;
 mod done;
 mod indicators;
-mod operand;
-mod digits;
 mod loads;
+mod operand;
+mod operations;
 mod products;
 mod signed;
 mod sums;
-mod compares;
 
 pub use accumulator::Acc;
+pub use digits::{digits_value, to_digits};
 pub use done::Done;
 pub use operand::{Field, Shape, read_field, write_field};
+pub use operations::binary;
