@@ -1,0 +1,5 @@
+pub mod EarlyChange
+pub mod Entry
+pub mod Fetch
+pub mod Checks
+pub mod Plan
