@@ -1,5 +1,5 @@
 -- The checks before an instruction is executed: the first that fails suppresses it.
-use Rattle.std.specs.Prelude.{ℕ, zero, suc, ◌+◌, ◌/◌, Bool, not, ◌&&◌, ◌==◌, nat_lt, nat_le, if◌then◌else◌, List, Option, None, Some, unwrap_or, option_map}
+use Rattle.std.specs.Prelude.{ℕ, zero, suc, ◌+◌, ◌/◌, Bool, true, false, not, ◌&&◌, ◌==◌, nat_lt, nat_le, if◌then◌else◌, List, Option, None, Some, unwrap_or, option_map}
 use Rattle.std.specs.Option.{option_or}
 use Rattle.st_bits.specs.Bits.{part}
 use Rattle.st_format.specs.declared.instruction.Instr.{Instr}

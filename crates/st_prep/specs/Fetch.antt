@@ -1,12 +1,11 @@
 -- What is fetched where the next entry stands.
-use Rattle.std.specs.Prelude.{ℕ, ◌+◌, ◌*◌, ◌/◌, ◌%◌, ◌^◌, Bool, true, false, if◌then◌else◌, List, take, drop, Option, None, Some, is_none}
+use Rattle.std.specs.Prelude.{ℕ, ◌+◌, ◌*◌, ◌/◌, ◌%◌, ◌^◌, Bool, true, false, ◌==◌, if◌then◌else◌, List, take, drop, Option, None, Some, is_none}
 use Rattle.st_bits.specs.Bits.{part}
 use Rattle.st_bits.specs.declared.operations.HalfOp.{HalfOp}
 use Rattle.st_bits.specs.declared.operations.HalfOp.TheVariants.{Ex}
 use Rattle.st_format.specs.declared.instruction.Instr.{Instr}
 use Rattle.st_format.specs.declared.instruction.Instr.TheVariants.{Half, Invalid}
 use Rattle.st_format.specs.declared.instruction.Decoded.{Decoded}
-use Rattle.st_format.specs.Halves.{is_full}
 use Rattle.st_format.specs.Formats.{decoded}
 use Rattle.st_state.specs.Machine.{Machine, word}
 use Rattle.st_state.specs.Boundary.{forbidden}
@@ -53,8 +52,9 @@ found_whole None s first h = record { decoded = decoded first (half_at s h); fau
 abbrev pub found_after : Option ℕ → Machine → ℕ → Found
 found_after (Some i) s h = record { decoded = nothing; fault = Some i }
 found_after None s h =
-    if is_full (half_at s h) then found_whole (forbidden s Fetch ((h + 1) / 2)) s (half_at s h) (h + 1)
-    else record { decoded = decoded (half_at s h) 0; fault = None }
+    let own = decoded (half_at s h) 0 in
+    if own.halves == 2 then found_whole (forbidden s Fetch ((h + 1) / 2)) s (half_at s h) (h + 1)
+    else record { decoded = own; fault = None }
 
 -- the instruction at the half-word address h, and the indicator that forbids one of its words
 unfoldable pub found : Machine → ℕ → Found

@@ -5,7 +5,12 @@
 mod addresses;
 mod early;
 mod entries;
+mod faults;
+mod fetching;
 mod outcome;
+mod preparation;
 mod runs;
 
 pub use entries::{Fetched, IndexChange, Needs, Place, Prepared, Words};
+pub use fetching::{fetch, index_words, place_of};
+pub use preparation::{look, prepare};

@@ -4,6 +4,7 @@ ghost use Rattle.st_format.specs.Operations.{writes_field as writes};
 ghost use Rattle.st_format.specs.declared.operations.FullOp.{FullOp};
 ghost use Rattle.st_prep.specs.Entry.{no_words, one_run as one_run_of, two_runs as two_runs_of, field_words as field_words_of, operand_words as operand_words_of, words_read as words_read_of, words_written as words_written_of};
 ghost use Rattle.st_prep.specs.Entry.{is_index_store as is_store, reads_field as reads_it, reads as reads_of, writes as writes_of, has_register as has_register_of, is_register as is_register_of};
+ghost use Rattle.st_prep.specs.Ranges.{IsRuns};
 
 use crate::entries::Words;
 use st_bits::{ConnKind, HalfOp, VflOp};
@@ -41,14 +42,18 @@ fn two_runs(first: u32, first2: u32, len: u8) -> Words
 /// The one or two words that the `length` bits from bit `e` on touch.
 #[tactic(auto, unfolding(crate::specs::Entry::field_words))]
 fn field_words(e: u32, length: u8) -> Words
-    ensures { result ≡ field_words_of e length }
+    requires { e < 2 ^ 24 }
+    ensures value { result ≡ field_words_of e length }
+    ensures runs { IsRuns result }
 {
     let len = if e % 64 + u32::from(length) <= 64 { 1 } else { 2 };
     one_run(e / 64, len)
 }
 
 fn operand_words(p: u8, e: u32, length: u8) -> Words
-    ensures { result ≡ operand_words_of p e length }
+    requires { e < 2 ^ 24 }
+    ensures value { result ≡ operand_words_of p e length }
+    ensures runs { IsRuns result }
 {
     if p == 1 { none() } else { field_words(e, length) }
 }
@@ -109,7 +114,10 @@ fn writes_result(kind: ConnKind) -> bool
 /// The words that an instruction with the effective address `e` reads, in order.
 #[tactic(auto, unfolding(crate::specs::Entry::reads))]
 pub fn reads(instr: Instr, e: u32) -> Words
-    ensures { result ≡ reads_of instr e }
+    requires shape { IsShape instr }
+    requires address { e < 2 ^ 24 }
+    ensures value { result ≡ reads_of instr e }
+    ensures runs { IsRuns result }
 {
     match instr {
         Instr::Vfl { op, p, length, .. } if reads_field(op) => operand_words(p, e, length),
@@ -128,7 +136,10 @@ pub fn reads(instr: Instr, e: u32) -> Words
 /// The words that an instruction with the effective address `e` writes, in order.
 #[tactic(auto, unfolding(crate::specs::Entry::writes))]
 pub fn writes(instr: Instr, e: u32) -> Words
-    ensures { result ≡ writes_of instr e }
+    requires shape { IsShape instr }
+    requires address { e < 2 ^ 24 }
+    ensures value { result ≡ writes_of instr e }
+    ensures runs { IsRuns result }
 {
     match instr {
         Instr::Half { op, .. } if is_index_store(op) => one_run(e / 64, 1),
