@@ -1,0 +1,2 @@
+pub mod ForbiddenRuns
+pub mod IndexWords
