@@ -10,7 +10,7 @@ use crate::signed::{Signed, exactly_one};
 pub struct Acc {
     /// The 128 bits of the accumulator.
     pub mag: u128,
-    /// The sign byte: the zone in bits 0 to 3, the sign in bit 4, the flags T, U and V in bits 5 to 7, bit 0 leftmost.
+    /// The sign byte: zone in bits 0 to 3, sign in bit 4, flags T, U and V in bits 5 to 7; bit 0 is leftmost.
     pub sb: u8,
 }
 

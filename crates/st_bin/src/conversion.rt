@@ -11,7 +11,7 @@ use crate::fields::{Field, Shape, sign_byte};
 use crate::signed::Signed;
 
 /// Ten to the power of `n`, at most 32.
-#[tactic(auto, using(crate::proofs::DigitLemmas::power_fits, crate::proofs::DigitLemmas::power_above_zero))]
+#[tactic(auto, using(crate::proofs::DigitLemmas::power_rules))]
 fn power_of_ten(n: u8) -> u128
     requires { n ≤ 32 }
     ensures value { result ≡ 10 ^ n }
@@ -21,7 +21,7 @@ fn power_of_ten(n: u8) -> u128
 }
 
 /// A number `place` decimal digits to the left, without those past the 32nd, and whether one of these is not zero.
-#[tactic(auto, using(crate::proofs::DigitLemmas::placed, crate::proofs::DigitLemmas::lost_place))]
+#[tactic(auto, using(crate::proofs::DigitLemmas::place_rules))]
 fn place_digits(mag: u64, place: u8) -> (u128, bool)
     requires { place < 32 }
     ensures value { result.0 ≡ mag * 10 ^ place % 10 ^ 32 }
