@@ -2,3 +2,4 @@ pub mod ListLemmas
 pub mod NumberLemmas
 pub mod PieceLemmas
 pub mod CardLemmas
+pub mod TableLemmas

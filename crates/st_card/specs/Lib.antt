@@ -2,3 +2,6 @@ pub mod Number
 pub mod Pieces
 pub mod Faults
 pub mod Cards
+pub mod Tables
+pub mod Controls
+pub mod Answers

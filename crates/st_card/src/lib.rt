@@ -2,11 +2,18 @@
 #![tactic(auto)]
 
 mod cards;
+mod control_cards;
 mod faults;
+mod keywords;
 mod numbers;
 mod pieces;
+mod tables;
+mod words;
 
 pub use cards::{Card, CardKind, columns, split};
+pub use control_cards::{CardError, Controls, Signal};
 pub use faults::Fault;
 pub use numbers::{Reading, read_number};
 pub use pieces::cut;
+pub use tables::row_of;
+pub use words::first_word;

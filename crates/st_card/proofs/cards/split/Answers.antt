@@ -1,4 +1,4 @@
-use Rattle.std.proofs.Common.{◌≡◌, ◌≤◌, ◌+◌, ◌-◌, List, ℕ, length, ap, ◌∙◌, arith, length-append}
+use Rattle.std.proofs.Common.{◌≡◌, List, length, ap, arith, length-append}
 use Rattle.st_card.specs.declared.cards.Card.{Card}
 use Rattle.st_card.proofs.CardLemmas.{cards_further, cards_done, cards_full}
 use Rattle.st_card.proofs.cards.split.Goals as goal

@@ -1,0 +1,158 @@
+-- What the control cards of a job ask for.
+use Rattle.std.specs.Prelude.{ℕ, ◌+◌, ◌-◌, ◌==◌, ◌&&◌, Bool, true, false, nat_le, nat_lt, List, [], ◌∷◌, ◌++◌, length, slice_get, codes, Option, Some, None, if◌then◌else◌}
+use Rattle.std.specs.List.{list_all}
+use Rattle.std.specs.Option.{option_and_then, option_map_or}
+use Rattle.st_card.specs.Number.{reading}
+use Rattle.st_card.specs.Pieces.{words}
+use Rattle.st_card.specs.Cards.{columns}
+use Rattle.st_card.specs.Tables.{row_of}
+use Rattle.st_card.specs.declared.numbers.Reading.{Reading}
+use Rattle.st_card.specs.declared.numbers.Reading.TheVariants.{Bad, Large, Good}
+use Rattle.st_card.specs.declared.control_cards.Signal.{Signal}
+use Rattle.st_card.specs.declared.keywords.Keyword.{Keyword}
+use Rattle.st_card.specs.declared.keywords.Keyword.TheVariants.{Budget, Delays, Signals, Dump, Snap, Back, Listing, Trace, Time, Chart}
+
+-- what control cards ask for: numbers are 0, lists empty and marks off where no card asks
+pub record Asked : Type 0 where
+  pub budget : ℕ
+  pub delays : List ℕ
+  pub signals : List Signal
+  pub dumps : List (ℕ × ℕ)
+  pub snaps : List ℕ
+  pub list : Bool
+  pub trace : Bool
+  pub time : Bool
+  pub chart : Bool
+  pub back : ℕ
+
+-- what no control card asks for
+abbrev pub nothing : Asked
+nothing = record {
+  budget = 0;
+  delays = [];
+  signals = [];
+  dumps = [];
+  snaps = [];
+  list = false;
+  trace = false;
+  time = false;
+  chart = false;
+  back = 0;
+}
+
+-- the words that control cards begin with
+abbrev pub keywords : List (List ℕ × Keyword)
+keywords =
+    (codes "/BUDGET", Budget) ∷ (codes "/DELAYS", Delays) ∷ (codes "/SIGNAL", Signals) ∷ (codes "/DUMP", Dump)
+    ∷ (codes "/SNAP", Snap) ∷ (codes "/BACK", Back) ∷ (codes "/LIST", Listing) ∷ (codes "/TRACE", Trace)
+    ∷ (codes "/TIME", Time) ∷ (codes "/CHART", Chart) ∷ []
+
+-- the number that was read
+abbrev pub good : Reading → Option ℕ
+good (Good n) = Some n
+good Large = None
+good Bad = None
+
+-- the number that a word of a control card is: 1 to 12 digits
+abbrev pub number_in : List ℕ → Option ℕ
+number_in word = if nat_lt 12 (length word) then None else good (reading 999999999999 word)
+
+-- a number before numbers, where there are both
+abbrev pub before : Option ℕ → Option (List ℕ) → Option (List ℕ)
+before (Some n) (Some ns) = Some (n ∷ ns)
+before (Some n) None = None
+before None ns = None
+
+-- the numbers that words are, where each is one
+abbrev pub numbers_in : List (List ℕ) → Option (List ℕ)
+numbers_in [] = Some []
+numbers_in (word ∷ more) = before (number_in word) (numbers_in more)
+
+-- whether a number is in a range
+abbrev pub is_among : ℕ → ℕ → ℕ → Bool
+is_among least most n = nat_le least n && nat_le n most
+
+-- whether the last item, if there is any, passes
+abbrev pub last_passes : {X : Type 0} → (X → Bool) → List X → Bool
+last_passes test items = option_map_or test (slice_get items (length items - 1)) true
+
+-- `/BUDGET n`, once, n from 1 to 10,000,000
+abbrev pub with_budget : Asked → List ℕ → Option Asked
+with_budget kept (n ∷ []) =
+    if kept.budget == 0 && is_among 1 10000000 n then Some (record kept { budget = n }) else None
+with_budget kept _ = None
+
+-- `/DELAYS d d`, one delay or more, each from 1 to 255, at most 4,096 over all cards
+abbrev pub with_delays : Asked → List ℕ → Option Asked
+with_delays kept [] = None
+with_delays kept (n ∷ ns) =
+    if nat_le (length kept.delays + length (n ∷ ns)) 4096 && list_all (is_among 1 255) (n ∷ ns)
+    then Some (record kept { delays = kept.delays ++ n ∷ ns }) else None
+
+-- `/SIGNAL count indicator`, at most 4,096, counts up to 10,000,000 and not falling, indicators 0 to 13
+abbrev pub with_signal : Asked → List ℕ → Option Asked
+with_signal kept (n ∷ i ∷ []) =
+    if nat_lt (length kept.signals) 4096 && nat_le n 10000000 && nat_le i 13
+    && last_passes (λ s. nat_le s.count n) kept.signals
+    then Some (record kept { signals = kept.signals ++ record { count = n; indicator = i } ∷ [] }) else None
+with_signal kept _ = None
+
+-- `/DUMP from to`, at most 16, from <= to <= 98,303
+abbrev pub with_dump : Asked → List ℕ → Option Asked
+with_dump kept (first ∷ last ∷ []) =
+    if nat_lt (length kept.dumps) 16 && nat_le first last && nat_le last 98303
+    then Some (record kept { dumps = kept.dumps ++ (first, last) ∷ [] }) else None
+with_dump kept _ = None
+
+-- `/SNAP tick`, at most 64, rising
+abbrev pub with_snap : Asked → List ℕ → Option Asked
+with_snap kept (n ∷ []) =
+    if nat_lt (length kept.snaps) 64 && last_passes (λ tick. nat_lt tick n) kept.snaps
+    then Some (record kept { snaps = kept.snaps ++ n ∷ [] }) else None
+with_snap kept _ = None
+
+-- `/BACK k`, once, k from 1 to 64
+abbrev pub with_back : Asked → List ℕ → Option Asked
+with_back kept (k ∷ []) =
+    if kept.back == 0 && is_among 1 64 k then Some (record kept { back = k }) else None
+with_back kept _ = None
+
+-- `/LIST`, `/TRACE`, `/TIME` and `/CHART`, each once and alone
+abbrev pub with_list : Asked → List ℕ → Option Asked
+with_list kept [] = if kept.list then None else Some (record kept { list = true })
+with_list kept _ = None
+
+abbrev pub with_trace : Asked → List ℕ → Option Asked
+with_trace kept [] = if kept.trace then None else Some (record kept { trace = true })
+with_trace kept _ = None
+
+abbrev pub with_time : Asked → List ℕ → Option Asked
+with_time kept [] = if kept.time then None else Some (record kept { time = true })
+with_time kept _ = None
+
+abbrev pub with_chart : Asked → List ℕ → Option Asked
+with_chart kept [] = if kept.chart then None else Some (record kept { chart = true })
+with_chart kept _ = None
+
+-- what is asked for with a card of this keyword and these numbers
+abbrev pub with_keyword : Keyword → Asked → List ℕ → Option Asked
+with_keyword Budget = with_budget
+with_keyword Delays = with_delays
+with_keyword Signals = with_signal
+with_keyword Dump = with_dump
+with_keyword Snap = with_snap
+with_keyword Back = with_back
+with_keyword Listing = with_list
+with_keyword Trace = with_trace
+with_keyword Time = with_time
+with_keyword Chart = with_chart
+
+-- what is asked for with a card of these words
+abbrev pub with_words : Asked → List (List ℕ) → Option Asked
+with_words kept [] = None
+with_words kept (word ∷ more) = option_and_then
+    (λ keyword. option_and_then (with_keyword keyword kept) (numbers_in more)) (row_of word keywords)
+
+-- what is asked for with a further control card, where that card is good
+abbrev pub added : Asked → List ℕ → Option Asked
+added kept text = with_words kept (words (columns text))

@@ -1,0 +1,303 @@
+//! What the control cards of a job ask for.
+
+ghost use Rattle.std.specs.Prelude.{◌≡◌, ◌≤◌, [], ◌∷◌, length, Some, None, if◌then◌else◌, OnOk, OnErr, IfErr};
+ghost use Rattle.std.specs.List.{list_all};
+ghost use Rattle.std.specs.Option.{option_map};
+ghost use Rattle.st_card.specs.Controls as spec;
+ghost use Rattle.st_card.specs.Pieces.{words};
+ghost use Rattle.st_card.specs.Answers.{Settles, Appends, Marks, Explains};
+
+use crate::cards::columns;
+use crate::faults::Fault;
+use crate::keywords::{Keyword, Outcome, keyword_of, read_numbers};
+use crate::words::first_word;
+use arrayvec::ArrayVec;
+use std::alloc::Global;
+use std::marker::Model;
+
+// The most of each number that a control card gives, and how many there may be.
+const MOST_BUDGET: u64 = 10_000_000;
+
+const MOST_DELAY: u64 = 255;
+
+const MOST_DELAYS: usize = 4_096;
+
+const MOST_COUNT: u64 = 10_000_000;
+
+const MOST_INDICATOR: u64 = 13;
+
+const MOST_SIGNALS: usize = 4_096;
+
+const LAST_WORD: u64 = 98_303;
+
+const MOST_BACK: u64 = 64;
+
+/// A signal from outside: after so many instructions an indicator is turned on.
+#[derive(Clone, Copy, Debug, PartialEq, Eq)]
+pub struct Signal {
+    /// How many instructions are done when the signal comes, up to 10,000,000.
+    pub count: u64,
+    /// The indicator that it turns on, 0 to 13.
+    pub indicator: u8,
+}
+
+/// Why a control card was not added.
+#[derive(Clone, Copy, Debug, PartialEq, Eq)]
+pub enum CardError {
+    /// The card, by its number, is unknown, malformed, given twice or past a limit.
+    Refused { card: u32, fault: Fault },
+    /// There was no memory for what the card asks for.
+    NoMemory,
+}
+
+/// What the control cards of a job ask for.
+#[derive(Debug, Drop)]
+pub struct Controls {
+    /// How many instructions may be done, up to 10,000,000; 0 where no card says it.
+    pub budget: u64,
+    /// The delays of storage in ticks, 1 to 255, at most 4,096.
+    pub delays: Vec<u8>,
+    /// The signals, at most 4,096, with counts that do not fall.
+    pub signals: Vec<Signal>,
+    /// The word addresses, first and last, of the parts of storage that are to be printed.
+    pub dumps: ArrayVec<(u32, u32), 16>,
+    /// The ticks, rising, at which the machine is to be shown.
+    pub snaps: ArrayVec<u64, 64>,
+    /// Whether the listing is asked for.
+    pub list: bool,
+    /// Whether a line for each instruction is asked for.
+    pub trace: bool,
+    /// Whether ticks are asked for.
+    pub time: bool,
+    /// Whether the timetable is asked for.
+    pub chart: bool,
+    /// How many instructions are to be stepped back at the end, 1 to 64; 0 where no card asks.
+    pub back: u8,
+}
+
+impl Model for Controls {
+    ghost use Rattle.st_card.specs.Controls.{Asked};
+
+    ghost Value = { Asked };
+
+    ghost view = { λ c. record {
+      budget = c.budget;
+      delays = c.delays.items;
+      signals = c.signals.items;
+      dumps = c.dumps.items;
+      snaps = c.snaps.items;
+      list = c.list;
+      trace = c.trace;
+      time = c.time;
+      chart = c.chart;
+      back = c.back;
+    } };
+}
+
+impl Controls {
+    /// Controls that ask for nothing.
+    pub fn new(alloc: Global) -> Controls
+        ensures { result ≡ spec.nothing }
+    {
+        Controls {
+            budget: 0,
+            delays: Vec::new(alloc),
+            signals: Vec::new(alloc),
+            dumps: ArrayVec::new(),
+            snaps: ArrayVec::new(),
+            list: false,
+            trace: false,
+            time: false,
+            chart: false,
+            back: 0,
+        }
+    }
+
+    /// Adds what a control card asks for.
+    ///
+    /// `card` is the card's number, and of its `text` the first 72 characters are read. A card that
+    /// is unknown, malformed, given twice where once is allowed, or past a limit is refused as a bad
+    /// control card. After a refusal, and after want of memory, the controls are as before.
+    pub fn add(&mut self, card: u32, text: &[u8]) -> Result<(), CardError>
+        ensures ok { OnOk result (spec.added self.old text.now ≡ Some self.new) }
+        ensures err { IfErr result (Explains (spec.added self.old text.now) card) }
+        ensures unchanged { OnErr result (self.new ≡ self.old) }
+    {
+        match self.add_text(columns(text)) {
+            Outcome::Added => Ok(()),
+            Outcome::Refused => Err(CardError::Refused {
+                card,
+                fault: Fault::BadControlCard,
+            }),
+            Outcome::NoMemory => Err(CardError::NoMemory),
+        }
+    }
+
+    // Adds what the words of a control card ask for.
+    fn add_text(&mut self, text: &[u8]) -> Outcome
+        requires { length text.now ≤ 72 }
+        ensures { Settles self.old self.new (spec.with_words self.old (words text.now)) result }
+    {
+        let Some((word, rest)) = first_word(text) else {
+            return Outcome::Refused;
+        };
+        let Some(keyword) = keyword_of(word) else {
+            return Outcome::Refused;
+        };
+        let Some(numbers) = read_numbers(rest) else {
+            return Outcome::Refused;
+        };
+        self.add_numbers(keyword, numbers.as_slice())
+    }
+
+    // Adds what a keyword and its numbers ask for.
+    fn add_numbers(&mut self, keyword: Keyword, numbers: &[u64]) -> Outcome
+        requires { length numbers.now ≤ 36 }
+        ensures { Settles self.old self.new (spec.with_keyword keyword self.old numbers.now) result }
+    {
+        match keyword {
+            Keyword::Budget => self.add_budget(numbers),
+            Keyword::Delays => self.add_delays(numbers),
+            Keyword::Signals => self.add_signal(numbers),
+            Keyword::Dump => self.add_dump(numbers),
+            Keyword::Snap => self.add_snap(numbers),
+            Keyword::Back => self.add_back(numbers),
+            Keyword::Listing => set_mark(&mut self.list, numbers),
+            Keyword::Trace => set_mark(&mut self.trace, numbers),
+            Keyword::Time => set_mark(&mut self.time, numbers),
+            Keyword::Chart => set_mark(&mut self.chart, numbers),
+        }
+    }
+
+    fn add_budget(&mut self, numbers: &[u64]) -> Outcome
+        ensures { Settles self.old self.new (spec.with_budget self.old numbers.now) result }
+    {
+        match numbers {
+            [budget] if self.budget == 0 && (1..=MOST_BUDGET).contains(budget) => {
+                self.budget = *budget;
+                Outcome::Added
+            }
+            _ => Outcome::Refused,
+        }
+    }
+
+    fn add_delays(&mut self, numbers: &[u64]) -> Outcome
+        requires { length numbers.now ≤ 36 }
+        ensures { Settles self.old self.new (spec.with_delays self.old numbers.now) result }
+    {
+        if numbers.is_empty() || self.delays.len() + numbers.len() > MOST_DELAYS {
+            return Outcome::Refused;
+        }
+        match delays_in(numbers) {
+            None => Outcome::Refused,
+            Some(delays) => push_delays(&mut self.delays, delays.as_slice()),
+        }
+    }
+
+    fn add_signal(&mut self, numbers: &[u64]) -> Outcome
+        ensures { Settles self.old self.new (spec.with_signal self.old numbers.now) result }
+    {
+        match numbers {
+            [count, indicator]
+                if self.signals.len() < MOST_SIGNALS
+                    && *count <= MOST_COUNT
+                    && *indicator <= MOST_INDICATOR
+                    && self.signals.last().is_none_or(|last| last.count <= *count) => {
+                let signal = Signal {
+                    count: *count,
+                    indicator: *indicator as u8,
+                };
+                push_signal(&mut self.signals, signal)
+            }
+            _ => Outcome::Refused,
+        }
+    }
+
+    fn add_dump(&mut self, numbers: &[u64]) -> Outcome
+        ensures { Settles self.old self.new (spec.with_dump self.old numbers.now) result }
+    {
+        match numbers {
+            [first, last] if !self.dumps.is_full() && first <= last && *last <= LAST_WORD => {
+                self.dumps.push((*first as u32, *last as u32));
+                Outcome::Added
+            }
+            _ => Outcome::Refused,
+        }
+    }
+
+    fn add_snap(&mut self, numbers: &[u64]) -> Outcome
+        ensures { Settles self.old self.new (spec.with_snap self.old numbers.now) result }
+    {
+        match numbers {
+            [tick] if !self.snaps.is_full() && self.snaps.last().is_none_or(|last| last < tick) => {
+                self.snaps.push(*tick);
+                Outcome::Added
+            }
+            _ => Outcome::Refused,
+        }
+    }
+
+    fn add_back(&mut self, numbers: &[u64]) -> Outcome
+        ensures { Settles self.old self.new (spec.with_back self.old numbers.now) result }
+    {
+        match numbers {
+            [back] if self.back == 0 && (1..=MOST_BACK).contains(back) => {
+                self.back = *back as u8;
+                Outcome::Added
+            }
+            _ => Outcome::Refused,
+        }
+    }
+}
+
+// Sets a mark that is not set yet, where no numbers stand behind its word.
+fn set_mark(mark: &mut bool, numbers: &[u64]) -> Outcome
+    ensures { Marks mark.old mark.new numbers.now result }
+{
+    if *mark || !numbers.is_empty() {
+        return Outcome::Refused;
+    }
+    *mark = true;
+    Outcome::Added
+}
+
+// The delays that numbers are, where each may be one.
+fn delays_in(numbers: &[u64]) -> Option<ArrayVec<u8, 36>>
+    requires { length numbers.now ≤ 36 }
+    ensures { option_map (λ v. v.items) result
+        ≡ (if list_all (spec.is_among 1 255) numbers.now then Some numbers.now else None) }
+{
+    let mut delays = ArrayVec::new();
+    let mut rest = numbers;
+    'numbers: while let [number, after @ ..] = rest {
+        if !(1..=MOST_DELAY).contains(number) {
+            return None;
+        }
+        delays.push(*number as u8);
+        rest = after;
+    }
+    Some(delays)
+}
+
+// Appends delays.
+fn push_delays(delays: &mut Vec<u8>, more: &[u8]) -> Outcome
+    ensures { Appends delays.old.items delays.new.items more.now result }
+{
+    match delays.extend_from_slice(more) {
+        Ok(()) => Outcome::Added,
+        Err(_) => Outcome::NoMemory,
+    }
+}
+
+// Appends a signal.
+fn push_signal(signals: &mut Vec<Signal>, signal: Signal) -> Outcome
+    ensures { Appends signals.old.items signals.new.items (signal ∷ []) result }
+{
+    match signals.push(signal) {
+        Ok(()) => Outcome::Added,
+        Err(_) => Outcome::NoMemory,
+    }
+}
+
+#[cfg(test)]
+mod tests;
