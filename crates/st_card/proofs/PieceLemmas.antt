@@ -1,0 +1,42 @@
+-- Cutting a text at a byte.
+use Rattle.std.proofs.Common.{◌≡◌, ℕ, List, [], ◌∷◌, ◌++◌, Bool, true, false, refl, ap, sym, ◌∙◌, append_assoc, append-nil, if◌then◌else◌, ◌==◌, arith}
+use Rattle.st_card.specs.Pieces.{onto_first, parted}
+
+-- a text put in front of the first piece
+abbrev pub onto_front : List ℕ → List (List ℕ) → List (List ℕ)
+onto_front front [] = front ∷ []
+onto_front front (piece ∷ pieces) = (front ++ piece) ∷ pieces
+
+pub onto_front-nothing : (at : ℕ) (text : List ℕ) → onto_front [] (parted at text) ≡ parted at text
+onto_front-nothing at [] = refl
+onto_front-nothing at (c ∷ cs) =
+    let P : List (List ℕ) → Type 0 = λ p. onto_front [] p ≡ p in
+    elim (c == at) as (λ v. P (if v then [] ∷ parted at cs else onto_first c (parted at cs))) [
+      | true ↦ refl
+      | false ↦ elim (parted at cs) as (λ p. P (onto_first c p)) [ [] ↦ refl | q ∷ qs ↦ refl ]
+    ]
+
+onto_front-onto_first : (front : List ℕ) (c : ℕ) (pieces : List (List ℕ)) →
+    onto_front (front ++ c ∷ []) pieces ≡ onto_front front (onto_first c pieces)
+onto_front-onto_first front c [] = refl
+onto_front-onto_first front c (piece ∷ pieces) =
+    ap (λ (p : List ℕ). p ∷ pieces) (append_assoc front (c ∷ []) piece)
+
+-- the byte at which a text is cut is not there yet
+pub parted_on : (at c : ℕ) (front longer rest tail : List ℕ) → rest ≡ c ∷ tail → (c ≡ at → ⊥) →
+    longer ≡ front ++ c ∷ [] → onto_front longer (parted at tail) ≡ onto_front front (parted at rest)
+parted_on at c front longer rest tail parts differs more =
+    let other : (c == at) ≡ false = grind arith in
+    let onto = λ (b : Bool). onto_front front (if b then [] ∷ parted at tail else onto_first c (parted at tail)) in
+    ap (λ (f : List ℕ). onto_front f (parted at tail)) more
+    ∙ (onto_front-onto_first front c (parted at tail)
+    ∙ sym (ap (λ (s : List ℕ). onto_front front (parted at s)) parts ∙ ap onto other))
+
+-- the byte at which a text is cut is there
+pub parted_here : (at c : ℕ) (front first rest tail : List ℕ) → rest ≡ c ∷ tail → c ≡ at → first ≡ front →
+    onto_front front (parted at rest) ≡ first ∷ parted at tail
+parted_here at c front first rest tail parts is_at same =
+    let here : (c == at) ≡ true = grind arith in
+    let onto = λ (b : Bool). onto_front front (if b then [] ∷ parted at tail else onto_first c (parted at tail)) in
+    ap (λ (s : List ℕ). onto_front front (parted at s)) parts
+    ∙ (ap onto here ∙ ap (λ (f : List ℕ). f ∷ parted at tail) (append-nil front ∙ sym same))

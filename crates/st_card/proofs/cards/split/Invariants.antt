@@ -1,0 +1,16 @@
+use Rattle.std.proofs.Common.{◌≡◌, ◌+◌, ◌-◌, ◌≤◌, ◌++◌, length}
+use Rattle.st_card.specs.Cards.{cards_from}
+use Rattle.st_card.specs.Pieces.{parted}
+use Rattle.st_card.proofs.cards.split.Given as goal
+
+abbrev pub invariant-lines : goal.invariant-lines
+invariant-lines l = record {
+  so_far : l.cards.items ++ cards_from l.number (length l.job - length l.rest) (parted 10 l.rest)
+      ≡ cards_from 1 0 (parted 10 l.job);
+  counted : length l.cards.items + 1 ≡ l.number;
+  few : l.number ≤ 20001;
+  within : length l.rest ≤ length l.job;
+}
+
+abbrev pub decreases-lines : goal.decreases-lines
+decreases-lines l = length l.rest

@@ -1,0 +1,29 @@
+use Rattle.std.proofs.Common.{◌∙◌, ℕ, ◌<◌, ap, sym, refl, List, length, arith}
+use Rattle.st_card.proofs.ListLemmas.{first_and_rest, past_first}
+use Rattle.st_card.proofs.PieceLemmas.{onto_front-nothing, parted_on, parted_here}
+use Rattle.st_card.proofs.pieces.cut.Goals as goal
+
+pub bytes-init : goal.bytes-init
+bytes-init c = record {
+  rest_of_text = refl;
+  within = omega arith;
+  same_pieces = onto_front-nothing c.args.at c.args.text.now;
+}
+
+pub bytes-preserved : goal.bytes-preserved
+bytes-preserved c =
+    let parts = first_and_rest c.bytes.rest.now c.in-len1-up.len_at_least in
+    let within : c.bytes.front < length c.args.text.now = omega arith in
+    let further = past_first c.args.text.now _ _ _ _ c.bytes.invariant.rest_of_text parts within in
+    record {
+      rest_of_text = further.1;
+      within = omega (arith, ap (λ (s : List ℕ). length s) parts);
+      same_pieces =
+          parted_on _ _ _ _ _ _ parts c.if-byte-at.false further.0 ∙ c.bytes.invariant.same_pieces;
+    }
+
+pub returns-then-byte-at-clause-pieces : goal.returns-then-byte-at-clause-pieces
+returns-then-byte-at-clause-pieces c =
+    let parts = first_and_rest c.bytes.rest.now c.in-len1-up.len_at_least in
+    sym c.bytes.invariant.same_pieces
+    ∙ parted_here _ _ _ _ _ _ parts c.if-byte-at.true c.split_at.ensures.front

@@ -1,0 +1,14 @@
+use Rattle.std.proofs.Common.{◌≡◌, ◌+◌, length, take, drop}
+use Rattle.st_card.specs.Pieces.{parted}
+use Rattle.st_card.proofs.PieceLemmas.{onto_front}
+use Rattle.st_card.proofs.pieces.cut.Given as goal
+
+abbrev pub invariant-bytes : goal.invariant-bytes
+invariant-bytes l = record {
+  rest_of_text : l.rest ≡ drop l.front l.text;
+  within : l.front + length l.rest ≡ length l.text;
+  same_pieces : onto_front (take l.front l.text) (parted l.at l.rest) ≡ parted l.at l.text;
+}
+
+abbrev pub decreases-bytes : goal.decreases-bytes
+decreases-bytes l = length l.rest

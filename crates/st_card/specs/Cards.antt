@@ -1,0 +1,73 @@
+-- The cards of a job: its lines, with their kinds and the faults that a line has by itself.
+use Rattle.std.specs.Prelude.{ℕ, ◌+◌, ◌==◌, ◌&&◌, ◌||◌, Bool, not, nat_le, nat_lt, min, List, [], ◌∷◌, length, take, Option, Some, None, if◌then◌else◌}
+use Rattle.std.specs.List.{list_all}
+use Rattle.std.specs.Str.Lines.{strip_carriage_return}
+use Rattle.st_card.specs.Pieces.{parted}
+use Rattle.st_card.specs.declared.faults.Fault.{Fault}
+use Rattle.st_card.specs.declared.faults.Fault.TheVariants.{NotAscii, CardTooLong, BadName, TooManyCards}
+use Rattle.st_card.specs.declared.cards.CardKind.{CardKind}
+use Rattle.st_card.specs.declared.cards.CardKind.TheVariants.{Comment, Control, Statement}
+use Rattle.st_card.specs.declared.cards.Card.{Card}
+
+-- column 1, blank where the card has none
+abbrev pub first_column : List ℕ → ℕ
+first_column [] = 32
+first_column (c ∷ cs) = c
+
+-- the columns that are read
+abbrev pub columns : List ℕ → List ℕ
+columns text = take 72 text
+
+-- whether a text has nothing but blanks
+abbrev pub is_blank : List ℕ → Bool
+is_blank text = list_all (λ c. c == 32) text
+
+-- whether a text has only blanks and visible characters of ASCII
+abbrev pub is_printable : List ℕ → Bool
+is_printable text = list_all (λ c. nat_le 32 c && nat_le c 126) text
+
+-- the kind of a card: `*` or blank columns make a comment, `/` a control card
+abbrev pub kind_of : List ℕ → CardKind
+kind_of text =
+    if first_column text == 42 || is_blank (columns text) then Comment
+    else (if first_column text == 47 then Control else Statement)
+
+-- whether column 1 is blank, `*` or `/`
+abbrev pub is_column_1 : ℕ → Bool
+is_column_1 c = c == 32 || c == 42 || c == 47
+
+-- the first fault whose test holds
+abbrev pub first_fault : List (Bool × Fault) → Option Fault
+first_fault [] = None
+first_fault (row ∷ rows) = if row.0 then Some row.1 else first_fault rows
+
+-- the fault that the n-th card has by itself
+abbrev pub fault_of : ℕ → List ℕ → Option Fault
+fault_of n text = first_fault (
+    (nat_lt 20000 n, TooManyCards)
+    ∷ (not (is_printable text), NotAscii)
+    ∷ (nat_lt 80 (length text), CardTooLong)
+    ∷ (not (is_column_1 (first_column text)), BadName)
+    ∷ [])
+
+-- the n-th card, whose text begins at a place of the job
+abbrev pub card_at : ℕ → ℕ → List ℕ → Card
+card_at n place text = record {
+  number = n;
+  kind = kind_of text;
+  start = place;
+  len = min (length text) 80;
+  fault = fault_of n text;
+}
+
+-- the cards that lines make from the n-th on: a last line that is empty is none, and only a line that
+-- ends loses a carriage return
+abbrev pub cards_from : ℕ → ℕ → List (List ℕ) → List Card
+cards_from n place [] = []
+cards_from n place (line ∷ []) = if length line == 0 then [] else card_at n place line ∷ []
+cards_from n place (line ∷ next ∷ more) =
+    card_at n place (strip_carriage_return line) ∷ cards_from (n + 1) (place + length line + 1) (next ∷ more)
+
+-- the cards of a job, up to the 20,001st
+abbrev pub cards_of : List ℕ → List Card
+cards_of job = take 20001 (cards_from 1 0 (parted 10 job))

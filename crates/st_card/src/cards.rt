@@ -1,0 +1,175 @@
+//! A job cut into cards.
+
+ghost use Rattle.std.specs.Prelude.{◌≡◌, ◌+◌, ◌-◌, ◌^◌, ◌<◌, ℕ, length, [], ◌∷◌, ◌++◌, OnOk, MatchOption, IfSome, IfOk};
+ghost use Rattle.std.specs.Str.Lines.{strip_carriage_return};
+ghost use Rattle.st_card.specs.Cards as spec;
+ghost use Rattle.st_card.specs.Pieces.{parted};
+
+use crate::faults::Fault;
+use crate::pieces::cut;
+use st_bits::NoMemory;
+use std::alloc::Global;
+
+// How many cards a job may have.
+const MOST_CARDS: u32 = 20_000;
+
+// How many characters a card may have.
+const MOST_CHARACTERS: usize = 80;
+
+// How many columns of a card are read.
+const COLUMNS: usize = 72;
+
+/// What a card is for.
+#[derive(Clone, Copy, Debug, PartialEq, Eq)]
+pub enum CardKind {
+    /// Column 1 is `*`, or columns 1 to 72 are blank.
+    Comment,
+    /// Column 1 is `/`.
+    Control,
+    /// Any other card, also one whose column 1 is wrong.
+    Statement,
+}
+
+/// A card of a job: a line, and where it stands.
+#[derive(Clone, Copy, Debug, PartialEq, Eq)]
+pub struct Card {
+    /// The card's number, counted from 1.
+    pub number: u32,
+    /// What the card is for.
+    pub kind: CardKind,
+    /// The place of the card's first byte in the job.
+    pub start: u32,
+    /// The number of the card's bytes without the line's end, 80 where there are more.
+    pub len: u8,
+    /// The fault that the card has by itself: a byte that is not printable, too many characters,
+    /// a wrong column 1, or that the job has too many cards.
+    pub fault: Option<Fault>,
+}
+
+/// The cards of a job.
+///
+/// A line ends at a line feed, with a carriage return before it or none. The last line may lack its
+/// line feed, and is no card where it is empty. The 20,001st card has the fault of too many cards,
+/// and none follows it. The one error is that memory ran out.
+pub fn split(alloc: Global, job: &[u8]) -> Result<Vec<Card>, NoMemory>
+    requires { length job.now < 2 ^ 32 }
+    ensures { IfOk result (λ cards. cards.items ≡ spec.cards_of job.now) }
+{
+    let mut cards = Vec::new(alloc);
+    let mut number = 1;
+    let mut rest = job;
+    'lines: while let Some((line, after)) = first_line(rest) {
+        let start = (job.len() - rest.len()) as u32;
+        push_card(&mut cards, card_at(number, start, line))?;
+        if number > MOST_CARDS {
+            return Ok(cards);
+        }
+        number += 1;
+        rest = after;
+    }
+    Ok(cards)
+}
+
+// Appends a card.
+fn push_card(cards: &mut Vec<Card>, card: Card) -> Result<(), NoMemory>
+    ensures { OnOk result (cards.new.items ≡ cards.old.items ++ card ∷ []) }
+{
+    cards.push(card).map_err(|_| NoMemory)
+}
+
+/// The columns of a card that are read: all but those behind the 72nd.
+pub fn columns(text: &[u8]) -> &[u8]
+    ensures { result.now ≡ spec.columns text.now }
+{
+    text.split_at(COLUMNS.min(text.len())).0
+}
+
+// The first line of a text without its end, and what stands behind it.
+fn first_line(text: &[u8]) -> Option<(&[u8], &[u8])>
+    ensures cards { MatchOption result
+        ((n place : ℕ) → spec.cards_from n place (parted 10 text.now) ≡ [])
+        (λ p. (n place : ℕ) → spec.cards_from n place (parted 10 text.now) ≡ spec.card_at n place p.0.now
+        ∷ spec.cards_from (n + 1) (place + (length text.now - length p.1.now)) (parted 10 p.1.now)) }
+    ensures shorter { IfSome result (λ p. length p.1.now < length text.now) }
+{
+    match cut(text, b'\n') {
+        Some((line, after)) => Some((without_return(line), after)),
+        None if text.is_empty() => None,
+        None => Some((text, &[])),
+    }
+}
+
+// A line without the carriage return at its end, if it has one.
+fn without_return(line: &[u8]) -> &[u8]
+    ensures { result.now ≡ strip_carriage_return line.now }
+{
+    match line {
+        [front @ .., b'\r'] => front,
+        _ => line,
+    }
+}
+
+// The card with a number, whose text begins at a place of the job.
+fn card_at(number: u32, start: u32, text: &[u8]) -> Card
+    ensures { result ≡ spec.card_at number start text.now }
+{
+    Card {
+        number,
+        kind: kind_of(text),
+        start,
+        len: text.len().min(MOST_CHARACTERS) as u8,
+        fault: fault_of(number, text),
+    }
+}
+
+fn kind_of(text: &[u8]) -> CardKind
+    ensures { result ≡ spec.kind_of text.now }
+{
+    let first = first_column(text);
+    if first == b'*' || is_blank(columns(text)) {
+        CardKind::Comment
+    } else if first == b'/' {
+        CardKind::Control
+    } else {
+        CardKind::Statement
+    }
+}
+
+fn fault_of(number: u32, text: &[u8]) -> Option<Fault>
+    ensures { result ≡ spec.fault_of number text.now }
+{
+    if number > MOST_CARDS {
+        Some(Fault::TooManyCards)
+    } else if !is_printable(text) {
+        Some(Fault::NotAscii)
+    } else if text.len() > MOST_CHARACTERS {
+        Some(Fault::CardTooLong)
+    } else if !matches!(first_column(text), b' ' | b'*' | b'/') {
+        Some(Fault::BadName)
+    } else {
+        None
+    }
+}
+
+// Column 1, blank where the card has none.
+fn first_column(text: &[u8]) -> u8
+    ensures { result ≡ spec.first_column text.now }
+{
+    match text {
+        [] => b' ',
+        [first, ..] => *first,
+    }
+}
+
+fn is_blank(text: &[u8]) -> bool
+    ensures { result ≡ spec.is_blank text.now }
+{
+    text.iter().all(|byte| *byte == b' ')
+}
+
+// Whether a text has only blanks and visible characters of ASCII.
+fn is_printable(text: &[u8]) -> bool
+    ensures { result ≡ spec.is_printable text.now }
+{
+    text.iter().all(|byte| (32..=126).contains(byte))
+}

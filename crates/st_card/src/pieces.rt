@@ -1,0 +1,37 @@
+//! Cutting a text at a byte.
+
+ghost use Rattle.std.specs.Prelude.{◌≡◌, ◌+◌, length, [], ◌∷◌, MatchOption, IfSome};
+ghost use Rattle.st_card.specs.Pieces.{parted};
+
+/// What stands before the first byte `at` of `text`, and what stands behind it.
+///
+/// `None` where the text has no such byte.
+pub fn cut(text: &[u8], at: u8) -> Option<(&[u8], &[u8])>
+    ensures pieces { MatchOption result (parted at text.now ≡ text.now ∷ [])
+        (λ p. parted at text.now ≡ p.0.now ∷ parted at p.1.now) }
+    ensures lengths { IfSome result (λ p. length p.0.now + 1 + length p.1.now ≡ length text.now) }
+{
+    let mut front = 0;
+    let mut rest = text;
+    'bytes: while let [byte, after @ ..] = rest {
+        if *byte == at {
+            return Some((text.split_at(front).0, after));
+        }
+        front += 1;
+        rest = after;
+    }
+    None
+}
+
+#[cfg(test)]
+mod tests {
+    use super::*;
+
+    #[test]
+    fn cuts_at_the_first_byte(rt: HostRuntime) {
+        let none: (&[u8], &[u8]) = (b"", b"");
+        let wanted: (&[u8], &[u8]) = (b"a", b"b,c");
+        assert_eq!(rt; cut(b"a,b,c", b',').unwrap_or(none), wanted);
+        assert!(rt; cut(b"abc", b',').is_none());
+    }
+}
