@@ -1,5 +1,5 @@
 -- The instruction that bits spell, and the bits of an instruction.
-use Rattle.std.specs.Prelude.{ℕ, ◌≡◌, ◌+◌, ◌*◌, ◌%◌, ◌^◌, ◌<◌, ◌≤◌, Bool, true, false, IsTrue, IsFalse, ◌==◌, unwrap_or, Option, None, Some, if◌then◌else◌}
+use Rattle.std.specs.Prelude.{ℕ, ◌≡◌, ◌+◌, ◌*◌, ◌%◌, ◌^◌, ◌<◌, ◌≤◌, Bool, true, false, IsTrue, IsFalse, ◌==◌, unwrap_or, is_some, Option, None, Some, if◌then◌else◌}
 use Rattle.st_format.specs.declared.operations.FullOp.{FullOp}
 use Rattle.st_format.specs.declared.operations.FullOp.TheVariants.{Variable, Connective, Transmission, BitTest, IndicatorTest, Order, CounterStore}
 use Rattle.st_format.specs.declared.instruction.Instr.{Instr}
@@ -108,6 +108,10 @@ second_half (StoreCounter address i second) =
 second_half (Transfer write address i count) =
     Some (second_bits count (full_number (Order write)) 0)
 second_half (Invalid first second full) = if full then Some second else None
+
+-- the number of its half-words
+abbrev pub halves_of : Instr → ℕ
+halves_of instr = if is_some (second_half instr) then 2 else 1
 
 -- what the bits of an instruction spell; other bits stand behind those of a half-word
 abbrev pub reread : Instr → ℕ → Decoded

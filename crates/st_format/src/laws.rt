@@ -1,7 +1,7 @@
 //! What holds of the two formats, whatever the bits.
-ghost use Rattle.std.specs.Prelude.{◌≡◌, Some, None, is_some, if◌then◌else◌};
+ghost use Rattle.std.specs.Prelude.{◌≡◌, Some, None, if◌then◌else◌};
 ghost use Rattle.st_format.specs.Halves.{is_full};
-ghost use Rattle.st_format.specs.Formats.{instruction_of, first_half, second_half, reread, IsShape};
+ghost use Rattle.st_format.specs.Formats.{instruction_of, first_half, second_half, halves_of, reread, IsShape};
 
 use crate::instruction::Instr;
 
@@ -10,7 +10,7 @@ use crate::instruction::Instr;
 pub fn bits_spell_instruction(instr: &Instr, rest: u32)
     requires { IsShape instr.now }
     ensures instruction { (reread instr.now rest).instr ≡ instr.now }
-    ensures length { (reread instr.now rest).halves ≡ (if is_some (second_half instr.now) then 2 else 1) }
+    ensures length { (reread instr.now rest).halves ≡ halves_of instr.now }
 {}
 
 /// The instruction that bits spell is encoded in those bits, so no two half-words have an instruction in common.
