@@ -37,27 +37,33 @@ fn is_serial(place: Place, fetched: &Fetched, x: &[u64; 16], state: &State) -> b
         || has_register(writes(instr, e))
 }
 
+/// What an entry needs.
+#[tactic(auto, unfolding(crate::specs::Plan::needs))]
+fn needs(place: Place, fetched: &Fetched, x: &[u64; 16], state: &State) -> Needs
+    requires { IsFetched fetched.now }
+    ensures { result ≡ needs_of (seen place fetched.now x.now state.now) }
+{
+    if fault(place, fetched, x, state).is_some() {
+        return Needs {
+            index_read: None,
+            serial: is_alone(place, fetched, x, state),
+        };
+    }
+    let instr = executed(fetched);
+    Needs {
+        index_read: side(instr, x, effective_address(instr, x)),
+        serial: is_serial(place, fetched, x, state),
+    }
+}
+
 /// What an entry needs before it can be prepared. `fetched` is what stands at `place`, `x` are the index words, and of
 /// `state` only the boundary register and the mark for interrupts count.
-#[tactic(auto, unfolding(crate::specs::Plan::needs))]
 pub fn look(place: &Place, fetched: &Fetched, x: &[u64; 16], state: &State) -> Needs
     requires { IsFetched fetched.now }
     ensures value { result ≡ needs_of (seen place.now fetched.now x.now state.now) }
+    ensures ranges { IsNeeds result }
 {
-    let serial = is_alone(*place, fetched, x, state);
-    match fault(*place, fetched, x, state) {
-        Some(_) => Needs {
-            index_read: None,
-            serial,
-        },
-        None => {
-            let instr = executed(fetched);
-            Needs {
-                index_read: side(instr, x, effective_address(instr, x)),
-                serial: is_serial(*place, fetched, x, state),
-            }
-        }
-    }
+    needs(*place, fetched, x, state)
 }
 
 /// An entry that is suppressed by the indicator `i`.
@@ -139,6 +145,15 @@ fn make(
     }
 }
 
+/// What holds of a word that was read.
+fn read_shape(read: Option<u64>)
+    ensures { IfSome read (λ w. w < 2 ^ 64) }
+{
+    if let Some(word) = read {
+        let _ = word;
+    }
+}
+
 /// Prepares an entry: `fetched` is what stands at `place`, `x` are the index words, `read` is the word that `look`
 /// asks for, and of `state` only the boundary register and the mark for interrupts count. The index word that the
 /// entry changes is changed in `x`.
@@ -153,8 +168,10 @@ pub fn prepare(
     requires fetched { IsFetched fetched.now }
     requires asked { is_some read ≡ is_some (needs_of (seen place.now fetched.now x.old state.now)).index_read }
     ensures value { result ≡ prepared_of (seen place.now fetched.now x.old state.now) read }
+    ensures ranges { IsPrepared result }
     ensures words { x.new ≡ words_after x.old result.index }
 {
+    read_shape(read);
     let prepared = make(*place, fetched, x, read, state);
     if let Some(change) = prepared.index {
         x[change.number as usize] = change.word;
