@@ -3,11 +3,11 @@ use Rattle.std.proofs.Common.{lit<, ◌||◌, ◌≡◌, ℕ, zero, suc, ◌+◌
 use Rattle.std.proofs.lemmas.Nat.{pow-add}
 use Rattle.std.proofs.Math.Pow.{pow_pos, mod-mod-pow}
 use Rattle.std.proofs.Math.Nat.{mod-eq_of_lt, pow-le-pow_right}
-use Rattle.st_bin.specs.declared.operand.Shape.{Shape}
+use Rattle.st_bin.specs.declared.fields.Shape.{Shape}
 use Rattle.std.proofs.lemmas.Bool.Decides.{nat_tests}
 use Rattle.st_bin.specs.Numbers.{exceeds}
 use Rattle.st_bin.specs.BinaryOperand.{magnitude_bits, sign_byte, HasRoom}
-use Rattle.st_bin.specs.declared.operand.Field.{Field}
+use Rattle.st_bin.specs.declared.fields.Field.{Field}
 
 -- what holds of each size of a byte holds of all
 pub each_byte : (P : ℕ → Type 0) → P 1 → P 2 → P 3 → P 4 → P 5 → P 6 → P 7 → P 8 → (b : ℕ) → 1 ≤ b → b ≤ 8 → P b
@@ -85,3 +85,7 @@ pub exceeds_kept : (m t n : ℕ) → m ≡ t % 2 ^ 128 → n ≤ 64 → (exceeds
 exceeds_kept m t n is few =
     let small : 2 ^ n ≤ 2 ^ 64 = pow-le-pow_right {n = 2} (lit< tt) few in
     grind (arith, nat_tests)
+
+-- the magnitude of an unsigned field
+pub magnitude_bits-unsigned : (h : Shape) → h.unsigned ≡ true → magnitude_bits h ≡ h.length
+magnitude_bits-unsigned h is = rw is refl

@@ -1,7 +1,7 @@
 -- The parts of a binary field: magnitude, sign, flags and zone, as whole numbers.
 use Rattle.std.specs.Prelude.{ℕ, ◌≡◌, ◌+◌, ◌-◌, ◌*◌, ◌/◌, ◌%◌, ◌^◌, ◌<◌, ◌≤◌, Bool, true, false, ◌==◌, if◌then◌else◌}
-use Rattle.st_bin.specs.declared.operand.Field.{Field}
-use Rattle.st_bin.specs.declared.operand.Shape.{Shape}
+use Rattle.st_bin.specs.declared.fields.Field.{Field}
+use Rattle.st_bin.specs.declared.fields.Shape.{Shape}
 
 -- a shape that a binary operation can have
 pub record IsShape (h : Shape) : Type 0 where

@@ -6,9 +6,9 @@ use Rattle.st_bits.specs.declared.operations.VflOp.{VflOp}
 use Rattle.st_bits.specs.declared.operations.VflOp.TheVariants.{L, Lwf, Ltrs, Lft, St, Add, AddMg, MAdd, MAddMg, MAdd1, K, Kf, Ke, Kfe, Kr, Kfr, Mul, MulAdd, Div, Lcv}
 use Rattle.st_bits.specs.declared.storage.Ind.{Ind}
 use Rattle.st_bin.specs.declared.accumulator.Acc.{Acc}
-use Rattle.st_bin.specs.declared.done.Done.{Done}
-use Rattle.st_bin.specs.declared.operand.Field.{Field}
-use Rattle.st_bin.specs.declared.operand.Shape.{Shape}
+use Rattle.st_bin.specs.declared.outcome.Done.{Done}
+use Rattle.st_bin.specs.declared.fields.Field.{Field}
+use Rattle.st_bin.specs.declared.fields.Shape.{Shape}
 use Rattle.st_bin.specs.Indicators.{indicator, lost_carry, partial_field, flag_indicators, by_number, without_number, by_order, by_order_if_equal, by_range}
 use Rattle.st_bin.specs.BinaryOperand.{magnitude_bits, zone_of, sign_of, flags_of, sign_byte, field_of, field_bits}
 use Rattle.st_bin.specs.Numbers.{signed, exactly_one, sign_after, exceeds}

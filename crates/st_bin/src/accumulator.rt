@@ -2,7 +2,7 @@ ghost use Rattle.std.specs.Prelude.{◌≡◌, ◌<◌, ◌^◌};
 ghost use Rattle.st_bin.specs.BinaryOperand.{zone_of, flags_of};
 ghost use Rattle.st_bin.specs.BinaryResult.{is_minus as minus_of, with_number as with_number_of, from_offset as from_offset_of, addend_minus};
 
-use crate::operand::{Shape, is_minus, sign_byte};
+use crate::fields::{Shape, is_minus, sign_byte};
 use crate::signed::{Signed, exactly_one};
 
 /// The accumulator with its sign byte.

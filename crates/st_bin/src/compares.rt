@@ -6,11 +6,11 @@ ghost use Rattle.st_bin.specs.BinaryResult.{compared, compared_if_equal, range_c
 ghost use Rattle.st_bin.specs.BinaryResult.{field_compared, field_compared_if_equal, field_range_compared};
 
 use crate::accumulator::{Acc, number};
-use crate::done::{Done, unchanged};
+use crate::outcome::{Done, unchanged};
 use crate::indicators::{by_order, by_order_if_equal, by_range, flag_indicators};
-use crate::loads::{low_bits, operand, place};
-use crate::operand::{Field, Shape, magnitude_bits};
-use crate::signed::{Signed, order};
+use crate::operand::{operand, place};
+use crate::fields::{Field, Shape, magnitude_bits};
+use crate::signed::{Signed, low_bits, order};
 use std::cmp::Ordering;
 
 /// How the accumulator's side of a comparison stands to the operand, and the indicators of the operand.

@@ -4,10 +4,10 @@ ghost use Rattle.st_bin.specs.BinaryResult.{converted};
 
 use crate::accumulator::Acc;
 use crate::digits::to_digits;
-use crate::done::{Done, unchanged};
+use crate::outcome::{Done, unchanged};
 use crate::indicators::{by_number, flag_indicators, partial_field};
-use crate::loads::operand;
-use crate::operand::{Field, Shape, sign_byte};
+use crate::operand::operand;
+use crate::fields::{Field, Shape, sign_byte};
 use crate::signed::Signed;
 
 /// Ten to the power of `n`, at most 32.

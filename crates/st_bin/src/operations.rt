@@ -1,27 +1,25 @@
 ghost use Rattle.std.specs.Prelude.{◌≡◌, ◌<◌, ◌^◌, IfSome};
-ghost use Rattle.st_bin.specs.BinaryOperand.{IsShape};
-ghost use Rattle.st_bin.specs.BinaryResult.{result as result_of};
+ghost use Rattle.st_bin.specs.BinaryOperand.{IsShape, HasRoom};
+ghost use Rattle.st_bin.specs.BinaryResult.{result as binary_result, result_of};
 
 use crate::accumulator::Acc;
 use crate::compares::{compare, compare_field, compare_field_if_equal};
 use crate::compares::{compare_field_range, compare_if_equal, compare_range};
 use crate::conversion::load_converted;
-use crate::done::Done;
-use crate::loads::{load, load_factor, load_transit, load_with_flags, store};
-use crate::operand::{Shape, read_field};
+use crate::outcome::Done;
+use crate::loads::{load, load_factor, load_transit, load_with_flags};
+use crate::fields::{Field, Shape, read_field};
+use crate::stores::store;
 use crate::products::{divide, multiply, multiply_and_add};
 use crate::sums::{add, add_one_to_field, add_to_field, add_to_field_magnitude, add_to_magnitude};
 use st_bits::VflOp;
 
-/// What a binary operation makes of the accumulator, of a field with the bits `bits`, below 2^length, of the factor
-/// register `ft` and of the indicators `ind`. The shape is that of a binary instruction.
-#[tactic(auto, unfolding(crate::specs::BinaryResult::result))]
-pub fn binary(op: VflOp, acc: &Acc, bits: u64, shape: &Shape, ft: u64, ind: u64) -> Done
+/// What an operation makes of the accumulator and a field that was read.
+fn perform(op: VflOp, acc: &Acc, f: &Field, shape: &Shape, ft: u64, ind: u64) -> Done
     requires shape { IsShape shape.now }
-    requires fits { bits < 2 ^ shape.now.length }
-    ensures { result ≡ result_of op acc.now bits shape.now ft ind }
+    requires room { HasRoom f.now shape.now }
+    ensures { result ≡ result_of op acc.now f.now shape.now ft ind }
 {
-    let f = &read_field(bits, shape);
     match op {
         VflOp::L => load(f, shape),
         VflOp::Lwf => load_with_flags(f, shape),
@@ -44,4 +42,16 @@ pub fn binary(op: VflOp, acc: &Acc, bits: u64, shape: &Shape, ft: u64, ind: u64)
         VflOp::Div => divide(acc, f, shape),
         VflOp::Lcv => load_converted(f, shape),
     }
+}
+
+/// What a binary operation makes of the accumulator, of a field with the bits `bits`, below 2^length, of the factor
+/// register `ft` and of the indicators `ind`. The shape is that of a binary instruction.
+#[tactic(auto, unfolding(crate::specs::BinaryResult::result))]
+pub fn binary(op: VflOp, acc: &Acc, bits: u64, shape: &Shape, ft: u64, ind: u64) -> Done
+    requires shape { IsShape shape.now }
+    requires fits { bits < 2 ^ shape.now.length }
+    ensures done { result ≡ binary_result op acc.now bits shape.now ft ind }
+    ensures field { IfSome result.field (λ x. x < 2 ^ shape.now.length) }
+{
+    perform(op, acc, &read_field(bits, shape), shape, ft, ind)
 }

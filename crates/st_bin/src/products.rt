@@ -3,11 +3,11 @@ ghost use Rattle.st_bin.specs.BinaryOperand.{IsShape, HasRoom};
 ghost use Rattle.st_bin.specs.BinaryResult.{multiplied as multiplied_of, product, product_added, divided};
 
 use crate::accumulator::{Acc, number, with_number};
-use crate::done::{Done, in_accumulator, unchanged};
+use crate::outcome::{Done, in_accumulator, unchanged};
 use crate::indicators::{ZERO_DIVISOR, flag_indicators, lost_carry, partial_field};
-use crate::loads::{low_bits, operand, shift};
-use crate::operand::{Field, Shape, is_minus};
-use crate::signed::{Signed, add, exactly_one, exceeds};
+use crate::operand::{operand, shift};
+use crate::fields::{Field, Shape, is_minus};
+use crate::signed::{Signed, add, exactly_one, exceeds, low_bits};
 use st_bits::Ind;
 
 /// A product or quotient goes to the accumulator: minus where exactly one of accumulator and operand is minus.

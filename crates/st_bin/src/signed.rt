@@ -1,5 +1,5 @@
 //! Numbers as sign and magnitude. Zero can have either sign, and counts as zero.
-ghost use Rattle.std.specs.Prelude.{◌≡◌, ◌≢◌, ◌<◌, ◌+ℤ◌, ◌%◌, ◌^◌, unsigned_abs};
+ghost use Rattle.std.specs.Prelude.{◌≡◌, ◌≢◌, ◌<◌, ◌≤◌, ◌+ℤ◌, ◌%◌, ◌^◌, unsigned_abs};
 ghost use Rattle.std.specs.Ordering.{int_cmp};
 ghost use Rattle.st_bin.specs.Numbers.{number_of, exactly_one as exactly_one_of, sign_after, exceeds as exceeds_of};
 ghost use Rattle.st_bin.specs.BinaryResult.{magnitude_sum as magnitude_sum_of};
@@ -111,4 +111,13 @@ pub fn exceeds(mag: u128, bits: u8) -> bool
     ensures { result ≡ exceeds_of mag bits }
 {
     mag >= 1 << bits
+}
+
+/// The low bits of a magnitude, at most 64 of them.
+pub fn low_bits(mag: u128, bits: u8) -> u64
+    requires { bits ≤ 64 }
+    ensures value { result ≡ mag % 2 ^ bits }
+    ensures bound { result < 2 ^ bits }
+{
+    (mag % (1 << bits)) as u64
 }

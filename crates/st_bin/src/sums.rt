@@ -5,11 +5,11 @@ ghost use Rattle.st_bin.specs.BinaryResult.{added, magnitude_added, added_to_fie
 ghost use Rattle.st_bin.specs.BinaryResult.{field_summed};
 
 use crate::accumulator::{Acc, addend, number, with_number};
-use crate::done::{Done, in_accumulator, in_field};
+use crate::outcome::{Done, in_accumulator, in_field};
 use crate::indicators::{flag_indicators, lost_carry};
-use crate::loads::{low_bits, place};
-use crate::operand::{Field, Shape, magnitude_bits};
-use crate::signed::{Signed, Sum, exceeds, add as sum_of, magnitude_sum};
+use crate::operand::place;
+use crate::fields::{Field, Shape, magnitude_bits};
+use crate::signed::{Signed, Sum, add as sum_of, exceeds, low_bits, magnitude_sum};
 
 /// Add: the operand at the offset is added to the accumulator.
 #[tactic(auto, unfolding(crate::specs::BinaryResult::added))]

@@ -4,7 +4,7 @@ ghost use Rattle.st_bin.specs.BinaryResult.{unchanged as unchanged_of, in_accumu
 
 use crate::accumulator::{Acc, number};
 use crate::indicators::by_number;
-use crate::operand::{Field, Shape, write_field};
+use crate::fields::{Field, Shape, write_field};
 use crate::signed::Signed;
 use st_bits::Ind;
 

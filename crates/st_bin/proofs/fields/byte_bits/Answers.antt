@@ -1,7 +1,7 @@
 use Rattle.std.proofs.Common.{◌≡◌, ◌-◌, ◌/◌, ◌%◌, ◌^◌, rules}
 use Rattle.st_bin.specs.BinaryOperand.{sign_byte}
 use Rattle.st_bin.proofs.FieldLemmas.{sign_byte-cut}
-use Rattle.st_bin.proofs.operand.byte_bits.Goals as goal
+use Rattle.st_bin.proofs.fields.byte_bits.Goals as goal
 
 pub returns-clause-bound : goal.returns-clause-bound
 returns-clause-bound c =

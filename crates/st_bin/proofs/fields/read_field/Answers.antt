@@ -1,6 +1,6 @@
 use Rattle.std.proofs.Common.{arith, ◌<◌}
 use Rattle.st_bin.proofs.FieldLemmas.{front_below, magnitude_bits-signed}
-use Rattle.st_bin.proofs.operand.read_field.Goals as goal
+use Rattle.st_bin.proofs.fields.read_field.Goals as goal
 
 pub returns-clause-room : goal.returns-clause-room
 returns-clause-room c =

@@ -1,7 +1,7 @@
 use Rattle.std.proofs.Common.{◌≡◌, ◌<◌, ◌≤◌, ◌-◌, ◌*◌, ◌%◌, ◌^◌, ◌+◌, arith, lit<, refl, subst}
 use Rattle.std.proofs.Math.Nat.{pow-le-pow_right}
 use Rattle.st_bin.proofs.FieldLemmas.{joined_below, shifted_whole, magnitude_bits-signed}
-use Rattle.st_bin.proofs.operand.write_field.Goals as goal
+use Rattle.st_bin.proofs.fields.write_field.Goals as goal
 
 below : (c : goal.After-byte_bits) → c.args.f.now.mag < 2 ^ (c.args.shape.now.length - c.args.shape.now.byte)
 below c = subst (λ k. c.args.f.now.mag < 2 ^ k) (magnitude_bits-signed c.args.shape.now c.if-shape.false) c.requires.room.below
