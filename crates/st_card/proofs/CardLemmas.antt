@@ -3,21 +3,10 @@ use Rattle.std.proofs.Common.{◌≡◌, ◌≤◌, ◌<◌, ◌+◌, ◌-◌, �
 use Rattle.std.proofs.lemmas.List.{take_all}
 use Rattle.std.proofs.Math.Seq.{take-append_seam}
 use Rattle.std.specs.Str.Lines.{strip_carriage_return}
-use Rattle.st_card.specs.Pieces.{onto_first, parted}
+use Rattle.st_card.specs.Pieces.{parted}
+use Rattle.st_card.proofs.PieceLemmas.{first_piece}
 use Rattle.st_card.specs.Cards.{card_at, cards_from}
 use Rattle.st_card.specs.declared.cards.Card.{Card}
-
--- a text has a first piece
-pub first_piece : (at : ℕ) (text : List ℕ) →
-    (piece : List ℕ) × ((pieces : List (List ℕ)) × (parted at text ≡ piece ∷ pieces))
-first_piece at [] = ([], ([], refl))
-first_piece at (c ∷ cs) =
-    let F : List (List ℕ) → Type 0 =
-    λ p. (piece : List ℕ) × ((pieces : List (List ℕ)) × (p ≡ piece ∷ pieces)) in
-    elim (c == at) as (λ v. F (if v then [] ∷ parted at cs else onto_first c (parted at cs))) [
-      | true ↦ ([], (parted at cs, refl))
-      | false ↦ elim (parted at cs) as (λ p. F (onto_first c p)) [ [] ↦ (c ∷ [], ([], refl)) | q ∷ qs ↦ (c ∷ q, (qs, refl)) ]
-    ]
 
 -- a line that ends is a card
 pub card_first : (text line shown after : List ℕ) → parted 10 text ≡ line ∷ parted 10 after →

@@ -40,3 +40,15 @@ parted_here at c front first rest tail parts is_at same =
     let onto = λ (b : Bool). onto_front front (if b then [] ∷ parted at tail else onto_first c (parted at tail)) in
     ap (λ (s : List ℕ). onto_front front (parted at s)) parts
     ∙ (ap onto here ∙ ap (λ (f : List ℕ). f ∷ parted at tail) (append-nil front ∙ sym same))
+
+-- a text has a first piece
+pub first_piece : (at : ℕ) (text : List ℕ) →
+    (piece : List ℕ) × ((pieces : List (List ℕ)) × (parted at text ≡ piece ∷ pieces))
+first_piece at [] = ([], ([], refl))
+first_piece at (c ∷ cs) =
+    let F : List (List ℕ) → Type 0 =
+    λ p. (piece : List ℕ) × ((pieces : List (List ℕ)) × (p ≡ piece ∷ pieces)) in
+    elim (c == at) as (λ v. F (if v then [] ∷ parted at cs else onto_first c (parted at cs))) [
+      | true ↦ ([], (parted at cs, refl))
+      | false ↦ elim (parted at cs) as (λ p. F (onto_first c p)) [ [] ↦ (c ∷ [], ([], refl)) | q ∷ qs ↦ (c ∷ q, (qs, refl)) ]
+    ]

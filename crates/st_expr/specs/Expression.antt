@@ -1,0 +1,69 @@
+-- An expression: terms joined by `+` and `-`, with an optional first sign.
+use Rattle.std.specs.Prelude.{ℕ, ◌==◌, Bool, true, false, List, [], ◌∷◌, Option, Some, None, Result, Ok, Err, if◌then◌else◌}
+use Rattle.std.specs.List.{list_any, filter_map}
+use Rattle.arrayvec.specs.ArrayVec.{ArrayVec}
+use Rattle.st_card.specs.declared.faults.Fault.{Fault}
+use Rattle.st_card.specs.declared.faults.Fault.TheVariants.{BadExpression, NumberTooLarge}
+use Rattle.st_expr.specs.Term.{atom_of}
+use Rattle.st_expr.specs.declared.terms.Term.{Term}
+use Rattle.st_expr.specs.declared.terms.AtomReading.{AtomReading}
+use Rattle.st_expr.specs.declared.terms.AtomReading.TheVariants.{Bad, Large, Good}
+
+-- a byte put in front of the first part
+abbrev pub onto_part : ℕ → List (Bool × List ℕ) → List (Bool × List ℕ)
+onto_part c [] = (false, c ∷ []) ∷ []
+onto_part c (part ∷ parts) = (part.0, c ∷ part.1) ∷ parts
+
+-- a text cut at its signs: each part with whether a minus stands before it, the first as given
+abbrev pub parts_after : Bool → List ℕ → List (Bool × List ℕ)
+parts_after minus [] = (minus, []) ∷ []
+parts_after minus (c ∷ cs) =
+    if c == 43 then (minus, []) ∷ parts_after false cs
+    else (if c == 45 then (minus, []) ∷ parts_after true cs else onto_part c (parts_after minus cs))
+
+-- the parts of an expression: a sign in front belongs to the first
+abbrev pub parts : List ℕ → List (Bool × List ℕ)
+parts [] = parts_after false []
+parts (c ∷ cs) =
+    if c == 43 then parts_after false cs
+    else (if c == 45 then parts_after true cs else parts_after false (c ∷ cs))
+
+-- the term that a part says
+abbrev pub term_in : Bool → AtomReading → Option Term
+term_in minus (Good atom) = Some (record { minus = minus; atom = atom })
+term_in minus Large = None
+term_in minus Bad = None
+
+abbrev pub term_of : Bool × List ℕ → Option Term
+term_of part = term_in part.0 (atom_of part.1)
+
+-- whether a part says nothing
+abbrev pub is_bad : AtomReading → Bool
+is_bad Bad = true
+is_bad Large = false
+is_bad (Good atom) = false
+
+-- whether a part is a number above the most that may stand there
+abbrev pub is_large : AtomReading → Bool
+is_large Large = true
+is_large Bad = false
+is_large (Good atom) = false
+
+abbrev pub any_bad : List (Bool × List ℕ) → Bool
+any_bad parts = list_any (λ part. is_bad (atom_of part.1)) parts
+
+abbrev pub any_large : List (Bool × List ℕ) → Bool
+any_large parts = list_any (λ part. is_large (atom_of part.1)) parts
+
+abbrev pub terms_of : List (Bool × List ℕ) → List Term
+terms_of parts = filter_map term_of parts
+
+-- what parts say: a bad one counts before one that is too large
+abbrev pub expr_in : List (Bool × List ℕ) → Result (ArrayVec Term) Fault
+expr_in parts =
+    if any_bad parts then Err BadExpression
+    else (if any_large parts then Err NumberTooLarge else Ok (record { items = terms_of parts }))
+
+-- what a text says where an expression is wanted
+abbrev pub expr_of : List ℕ → Result (ArrayVec Term) Fault
+expr_of text = expr_in (parts text)

@@ -1,0 +1,40 @@
+-- The terms of an expression.
+use Rattle.std.specs.Prelude.{ℕ, ◌+◌, ◌*◌, Bool, List, [], ◌∷◌, if◌then◌else◌}
+use Rattle.std.specs.Option.{option_map_or}
+use Rattle.st_card.specs.Number.{reading}
+use Rattle.st_card.specs.Pieces.{parted}
+use Rattle.st_card.specs.Tables.{row_of}
+use Rattle.st_card.specs.declared.numbers.Reading.{Reading}
+use Rattle.st_card.specs.declared.numbers.Reading.TheVariants.{Bad, Large, Good}
+use Rattle.st_expr.specs.Name.{is_name, is_system_word, padded}
+use Rattle.st_expr.specs.System.{system_symbols}
+use Rattle.st_expr.specs.declared.terms.Atom.{Atom}
+use Rattle.st_expr.specs.declared.terms.Atom.TheVariants.{Number, Name}
+use Rattle.st_expr.specs.declared.terms.AtomReading.{AtomReading}
+use Rattle.st_expr.specs.declared.terms.AtomReading.TheVariants.{Bad as BadAtom, Large as LargeAtom, Good as GoodAtom}
+
+-- word w and bit b together are bit address 64w + b: bad where one is, else large where one is
+abbrev pub bit_address : Reading → Reading → AtomReading
+bit_address (Good w) (Good b) = GoodAtom (Number (64 * w + b))
+bit_address (Good w) Large = LargeAtom
+bit_address (Good w) Bad = BadAtom
+bit_address Large (Good b) = LargeAtom
+bit_address Large Large = LargeAtom
+bit_address Large Bad = BadAtom
+bit_address Bad b = BadAtom
+
+-- what the pieces of `w` or `w.b` say
+abbrev pub place_of : List (List ℕ) → AtomReading
+place_of (w ∷ []) = bit_address (reading 262143 w) (Good 0)
+place_of (w ∷ b ∷ []) = bit_address (reading 262143 w) (reading 63 b)
+place_of _ = BadAtom
+
+-- what a word for the system says: a system symbol is its number, any other a name
+abbrev pub system_atom : List ℕ → Atom
+system_atom word = option_map_or (λ n. Number n) (row_of word system_symbols) (Name (padded word))
+
+-- what a piece of an expression says: a name, a word for the system, or a number
+abbrev pub atom_of : List ℕ → AtomReading
+atom_of word =
+    if is_name word then GoodAtom (Name (padded word))
+    else (if is_system_word word then GoodAtom (system_atom word) else place_of (parted 46 word))

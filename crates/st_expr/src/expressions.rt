@@ -1,0 +1,79 @@
+//! Reading an expression.
+
+ghost use Rattle.std.specs.Prelude.{◌≡◌, ◌+◌, ◌≤◌, Bool, [], ◌∷◌, length, MatchOption};
+ghost use Rattle.st_expr.specs.Expression as spec;
+
+use crate::terms::{AtomReading, Term, read_atom};
+use arrayvec::ArrayVec;
+use st_card::Fault;
+
+/// An expression: the sum of its terms, each added or taken away.
+pub type Expr = ArrayVec<Term, 32>;
+
+/// The expression that a text of at most 63 bytes says.
+///
+/// It is terms joined by `+` and `-`, with a sign before the first or none. A term is a name, a
+/// system symbol, or a number `w` or `w.b`, which is the bit address 64w + b. A text that is none is
+/// a bad expression; in one that is, w above 262,143 or b above 63 is a number too large.
+pub fn read_expr(text: &[u8]) -> Result<Expr, Fault>
+    requires { length text.now ≤ 63 }
+    ensures { result ≡ spec.expr_of text.now }
+{
+    match text {
+        [b'+', rest @ ..] => read_parts(false, rest),
+        [b'-', rest @ ..] => read_parts(true, rest),
+        _ => read_parts(false, text),
+    }
+}
+
+// The expression that a text says behind its first sign.
+fn read_parts(minus: bool, text: &[u8]) -> Result<Expr, Fault>
+    requires { length text.now ≤ 63 }
+    ensures { result ≡ spec.expr_in (spec.parts_after minus text.now) }
+{
+    let mut terms = Expr::new();
+    let mut large = false;
+    let mut left = Some((minus, text));
+    'parts: while let Some((minus, text)) = left {
+        let (word, behind) = first_part(text);
+        match read_atom(word) {
+            AtomReading::Bad => return Err(Fault::BadExpression),
+            AtomReading::Large => large = true,
+            AtomReading::Good(atom) => terms.push(Term { minus, atom }),
+        }
+        left = behind;
+    }
+    if large {
+        Err(Fault::NumberTooLarge)
+    } else {
+        Ok(terms)
+    }
+}
+
+// The first part of a text that is cut at its signs; and where a sign stands behind it, whether it is
+// a minus and what stands behind that.
+fn first_part(text: &[u8]) -> (&[u8], Option<(bool, &[u8])>)
+    ensures parts { MatchOption result.1
+        ((m : Bool) → spec.parts_after m text.now ≡ (m, result.0.now) ∷ [])
+        (λ p. (m : Bool) → spec.parts_after m text.now
+        ≡ (m, result.0.now) ∷ spec.parts_after p.0 p.1.now) }
+    ensures lengths { MatchOption result.1 (length result.0.now ≡ length text.now)
+        (λ p. length result.0.now + 1 + length p.1.now ≡ length text.now) }
+{
+    let mut front = 0;
+    let mut rest = text;
+    'bytes: while let [byte, after @ ..] = rest {
+        if *byte == b'+' {
+            return (text.split_at(front).0, Some((false, after)));
+        }
+        if *byte == b'-' {
+            return (text.split_at(front).0, Some((true, after)));
+        }
+        front += 1;
+        rest = after;
+    }
+    (text, None)
+}
+
+#[cfg(test)]
+mod tests;

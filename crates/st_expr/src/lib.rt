@@ -1,0 +1,13 @@
+//! Expressions, and the symbols that they name.
+#![tactic(auto)]
+
+mod expressions;
+mod names;
+mod system;
+mod terms;
+mod values;
+
+pub use expressions::{Expr, read_expr};
+pub use names::{is_name, padded};
+pub use terms::{Atom, Term};
+pub use values::{Symbols, value_of};

@@ -1,0 +1,102 @@
+//! The terms of an expression.
+
+ghost use Rattle.std.specs.Prelude.{◌≡◌, ◌≤◌, length};
+ghost use Rattle.st_card.specs.Number.{IsWithin};
+ghost use Rattle.st_card.specs.Pieces.{parted};
+ghost use Rattle.st_expr.specs.Term as spec;
+
+use crate::names::{is_name, is_system_word, padded};
+use crate::system::system_value;
+use st_card::{Reading, cut, read_number};
+
+// The last word address, also past storage, and the last bit of a word.
+const LAST_WORD: u64 = 262_143;
+
+const LAST_BIT: u64 = 63;
+
+/// What a term adds or takes away.
+#[derive(Clone, Copy, Debug, PartialEq, Eq)]
+pub enum Atom {
+    /// A number, a bit address below 2^24.
+    Number(u32),
+    /// A name, or `$` and 1 to 7 letters and digits, filled with blanks to eight bytes.
+    Name([u8; 8]),
+}
+
+/// A term of an expression.
+#[derive(Clone, Copy, Debug, PartialEq, Eq)]
+pub struct Term {
+    /// Whether it is taken away.
+    pub minus: bool,
+    /// What is added or taken away.
+    pub atom: Atom,
+}
+
+impl Default for Term {
+    fn default() -> Term {
+        Term {
+            minus: false,
+            atom: Atom::Number(0),
+        }
+    }
+}
+
+// What a piece of an expression says.
+#[derive(Clone, Copy)]
+pub(crate) enum AtomReading {
+    Bad,
+    Large,
+    Good(Atom),
+}
+
+// What a piece of an expression says: a name, a word for the system, or a number.
+pub(crate) fn read_atom(word: &[u8]) -> AtomReading
+    ensures { result ≡ spec.atom_of word.now }
+{
+    if is_name(word) {
+        AtomReading::Good(Atom::Name(padded(word)))
+    } else if is_system_word(word) {
+        AtomReading::Good(system_atom(word))
+    } else {
+        read_place(word)
+    }
+}
+
+// What a word for the system says: a system symbol is its number, any other a name.
+fn system_atom(word: &[u8]) -> Atom
+    requires { length word.now ≤ 8 }
+    ensures { result ≡ spec.system_atom word.now }
+{
+    match system_value(word) {
+        Some(value) => Atom::Number(value),
+        None => Atom::Name(padded(word)),
+    }
+}
+
+// What a text says where `w` or `w.b` is wanted.
+fn read_place(word: &[u8]) -> AtomReading
+    ensures { result ≡ spec.place_of (parted 46 word.now) }
+{
+    match cut(word, b'.') {
+        None => bit_address(read_number(word, LAST_WORD), Reading::Good(0)),
+        Some((w, b)) => match cut(b, b'.') {
+            None => bit_address(read_number(w, LAST_WORD), read_number(b, LAST_BIT)),
+            Some(_) => AtomReading::Bad,
+        },
+    }
+}
+
+// The bit address that a word's number and a bit's make.
+fn bit_address(word: Reading, bit: Reading) -> AtomReading
+    requires word_within { IsWithin 262143 word }
+    requires bit_within { IsWithin 63 bit }
+    ensures { result ≡ spec.bit_address word bit }
+{
+    match (word, bit) {
+        (Reading::Good(word), Reading::Good(bit)) => {
+            AtomReading::Good(Atom::Number((64 * word + bit) as u32))
+        }
+        (Reading::Bad, _) | (_, Reading::Bad) => AtomReading::Bad,
+        _ => AtomReading::Large,
+    }
+}

@@ -1,0 +1,120 @@
+//! Symbols, and the values of expressions.
+
+ghost use Rattle.std.specs.Prelude.{◌≡◌, ◌≤◌, ◌*◌, ◌^◌, ℤ, pos, ◌-ℤ◌, ◌≤ℤ◌, [], length, None, IfOk, OnErr, IfSome};
+ghost use Rattle.st_card.specs.Tables.{row_of};
+ghost use Rattle.st_expr.specs.Value as spec;
+
+use crate::expressions::Expr;
+use crate::terms::{Atom, Term};
+use indexmap::IndexMap;
+use st_bits::NoMemory;
+use std::alloc::Global;
+use std::marker::Model;
+
+/// A table of symbols: names with their values, bit addresses, in the order of definition.
+#[derive(Drop)]
+pub struct Symbols {
+    values: IndexMap<[u8; 8], u32>,
+}
+
+impl Model for Symbols {
+    ghost use Rattle.std.specs.Prelude.{List, ℕ};
+
+    ghost Value = { List (List ℕ × ℕ) };
+
+    ghost view = { λ s. s.values.entries };
+}
+
+impl Symbols {
+    /// A table with no symbol.
+    pub fn new(alloc: Global) -> Symbols
+        ensures { result ≡ [] }
+    {
+        Symbols {
+            values: IndexMap::new(alloc),
+        }
+    }
+
+    /// Defines a name, filled with blanks to eight bytes, and says whether it is a new one.
+    ///
+    /// Where the name is defined already, and where there is no memory, nothing changes.
+    pub fn define(&mut self, name: [u8; 8], value: u32) -> Result<bool, NoMemory>
+        ensures ok { IfOk result (spec.Defines self.old self.new name value) }
+        ensures fresh { OnErr result (row_of name self.old ≡ None) }
+        ensures unchanged { OnErr result (self.new ≡ self.old) }
+    {
+        define_in(&mut self.values, name, value)
+    }
+
+    /// The value of a name, if it is defined.
+    pub fn get(&self, name: [u8; 8]) -> Option<u32>
+        ensures { result ≡ row_of name self.now }
+    {
+        self.values.get(&name).copied()
+    }
+}
+
+// Defines a name in a map of names.
+fn define_in(
+    values: &mut IndexMap<[u8; 8], u32>,
+    name: [u8; 8],
+    value: u32,
+) -> Result<bool, NoMemory>
+    ensures ok { IfOk result (spec.Defines values.old.entries values.new.entries name value) }
+    ensures fresh { OnErr result (row_of name values.old.entries ≡ None) }
+    ensures unchanged { OnErr result (values.new.entries ≡ values.old.entries) }
+{
+    if values.contains_key(&name) {
+        return Ok(false);
+    }
+    match values.insert(name, value) {
+        Ok(_) => Ok(true),
+        Err(_) => Err(NoMemory),
+    }
+}
+
+/// The value of an expression: the sum of its terms, where a name has the value of its symbol.
+///
+/// `None` where a name is not defined.
+pub fn value_of(e: &Expr, s: &Symbols) -> Option<i64>
+    ensures { result ≡ spec.sum_of s.now e.now.items }
+{
+    sum_of(e.as_slice(), s)
+}
+
+fn sum_of(terms: &[Term], symbols: &Symbols) -> Option<i64>
+    requires { length terms.now ≤ 32 }
+    ensures value { result ≡ spec.sum_of symbols.now terms.now }
+    ensures low { IfSome result (λ n. (pos 0 -ℤ pos (length terms.now * 2 ^ 32)) ≤ℤ n) }
+    ensures high { IfSome result (λ n. n ≤ℤ pos (length terms.now * 2 ^ 32)) }
+{
+    match terms {
+        [] => Some(0),
+        [term, rest @ ..] => {
+            let value = term_value(*term, symbols)?;
+            let sum = sum_of(rest, symbols)?;
+            Some(value + sum)
+        }
+    }
+}
+
+fn term_value(term: Term, symbols: &Symbols) -> Option<i64>
+    ensures value { result ≡ spec.term_value symbols.now term }
+    ensures low { IfSome result (λ n. (pos 0 -ℤ pos (2 ^ 32)) ≤ℤ n) }
+    ensures high { IfSome result (λ n. n ≤ℤ pos (2 ^ 32)) }
+{
+    let value = i64::from(atom_value(term.atom, symbols)?);
+    Some(if term.minus { -value } else { value })
+}
+
+fn atom_value(atom: Atom, symbols: &Symbols) -> Option<u32>
+    ensures { result ≡ spec.atom_value symbols.now atom }
+{
+    match atom {
+        Atom::Number(number) => Some(number),
+        Atom::Name(name) => symbols.get(name),
+    }
+}
+
+#[cfg(test)]
+mod tests;
