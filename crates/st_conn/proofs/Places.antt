@@ -160,7 +160,7 @@ lost-past offset bits place fits lost =
 
 pub Decides-past : (offset bits : ℕ) → offset ≤ 127 → bits < 2 ^ 64
     → Decides (is_one_lost offset bits) (LostOne offset bits)
-unfolding by_weight
+unfolding by_weight is_one_lost
 Decides-past offset bits place fits =
     Decides-like
     (is_one_lost offset bits)

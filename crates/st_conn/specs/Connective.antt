@@ -18,7 +18,7 @@ abbrev pub result_at : ℕ → ℕ → ℕ → ℕ → ℕ → ℕ
 result_at table acc offset field j = entry table (bit_at field j) (bit_at acc (offset + j))
 
 -- the n result bits, the highest first
-abbrev pub connected : ℕ → ℕ → ℕ → ℕ → ℕ → List ℕ
+unfoldable pub connected : ℕ → ℕ → ℕ → ℕ → ℕ → List ℕ
 connected table acc offset field n = by_weight (result_at table acc offset field) n
 
 -- how many zeros a list of bits begins with
@@ -34,9 +34,9 @@ abbrev pub placed_at : ℕ → ℕ → ℕ → ℕ → ℕ → ℕ
 placed_at acc offset bits n i = if is_covered offset n i then bit_at bits (i - offset) else bit_at acc i
 
 -- the 128 bits of the accumulator in which n bits stand from weight offset on
-abbrev pub placed : ℕ → ℕ → ℕ → ℕ → List ℕ
+unfoldable pub placed : ℕ → ℕ → ℕ → ℕ → List ℕ
 placed acc offset bits n = by_weight (placed_at acc offset bits n) 128
 
 -- whether a one of bits placed from weight offset on would stand past weight 127, at one of the weights 128 to 191
-abbrev pub is_one_lost : ℕ → ℕ → Bool
+unfoldable pub is_one_lost : ℕ → ℕ → Bool
 is_one_lost offset bits = list_any (λ b. b == 1) (by_weight (λ i. bit_at bits (128 + i - offset)) 64)

@@ -1,11 +1,12 @@
 use Rattle.std.proofs.Common.{sym, ◌∙◌, ap, arith}
 use Rattle.std.specs.Int.{bit_at}
-use Rattle.st_conn.specs.Connective.{entry, result_at}
+use Rattle.st_conn.specs.Connective.{connected, entry, result_at}
 use Rattle.st_conn.proofs.TableRows.{bit_at-mod}
 use Rattle.st_conn.proofs.Weights.{by_weight-bits}
 use Rattle.st_conn.proofs.logic.results.Goals as goal
 
 pub returns-clause-each : goal.returns-clause-each
+unfolding connected
 returns-clause-each c =
     sym
     (by_weight-bits
