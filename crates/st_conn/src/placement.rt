@@ -3,8 +3,8 @@ ghost use Rattle.std.specs.Int.{bit_at};
 ghost use Rattle.st_bits.specs.Bits.{num};
 ghost use Rattle.st_conn.specs.Connective.{is_covered, is_one_lost, placed};
 
-/// The accumulator with the `n` bits, 1 to 64, of the number `bits`, below 2^n, in place of its own from weight `offset`
-/// on, 0 to 127; and whether a one was lost, since its place would be past weight 127. A lost zero is not told.
+/// The accumulator with the `n` bits, 1 to 64, of the number `bits`, below 2^n, in place of its own from weight
+/// `offset` on, 0 to 127; and whether a one was lost, since its place would be past weight 127. Lost zeros do not count.
 pub fn put_acc(acc: u128, offset: u8, bits: u64, n: u8) -> (u128, bool)
     requires offset { offset ≤ 127 }
     requires some { 1 ≤ n }
