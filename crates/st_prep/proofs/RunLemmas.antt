@@ -127,9 +127,10 @@ none-inside = record { inside = λ h. absurd (omega arith); inside2 = λ h. absu
 -- an order whose area may be accessed has room
 pub area-inside : (b : ℕ) (en : Bool) (instr : Instr) (e : ℕ) → forbidden_area b en instr e ≡ None → HasRoom instr e
 unfolding forbidden_area
-area-inside b en (Transfer write a i n) e h =
-    (ltb-false (e / 64) 32 (test-none (nat_lt (e / 64) 32) address_invalid _ h),
-    run-inside b en (area_access write) (e / 64) 8 (none-else (nat_lt (e / 64) 32) address_invalid _ h) (omega arith))
+area-inside b en (Transfer write a i n) e h = (
+  ltb-false (e / 64) 32 (test-none (nat_lt (e / 64) 32) address_invalid _ h),
+  run-inside b en (area_access write) (e / 64) 8 (none-else (nat_lt (e / 64) 32) address_invalid _ h) (omega arith),
+)
 area-inside b en (Half op a j i) e h = tt
 area-inside b en (Branch op a i) e h = tt
 area-inside b en (Floating n a i) e h = tt

@@ -6,7 +6,8 @@ ghost use Rattle.st_prep.specs.Ranges.{HasFields};
 
 use crate::entries::IndexChange;
 use st_bits::{
-    HalfOp, Ind, count_of, part, refill_of, value_of, with_count, with_part, with_refill, with_value,
+    HalfOp, Ind, count_of, part, refill_of, value_of, with_count, with_part, with_refill,
+    with_value,
 };
 use st_format::Instr;
 use st_index::{add_value, compare, count_down, index_result, progress, sum_values};

@@ -130,13 +130,7 @@ fn find(state: &State, h: u32) -> Found
 pub fn is_execute(instr: Instr) -> bool
     ensures { result ≡ is_execute_of instr }
 {
-    matches!(
-        instr,
-        Instr::Half {
-            op: HalfOp::Ex,
-            ..
-        }
-    )
+    matches!(instr, Instr::Half { op: HalfOp::Ex, .. })
 }
 
 /// EX with the target that it points to.

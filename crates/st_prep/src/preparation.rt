@@ -70,10 +70,8 @@ pub fn look(place: &Place, fetched: &Fetched, x: &[u64; 16], state: &State) -> N
     ensures ranges { IsNeeds result }
 
     // It is what the next entry of each state needs that looks so.
-    ensures states {
-        let v = seen place.now fetched.now x.now state.now in
-        (s : Machine) → IsSeen s v → result ≡ needs_of (sight s (place_by s place.now.table))
-    }
+    ensures states { let v = seen place.now fetched.now x.now state.now in
+        (s : Machine) → IsSeen s v → result ≡ needs_of (sight s (place_by s place.now.table)) }
 {
     needs(*place, fetched, x, state)
 }
@@ -101,10 +99,7 @@ fn suppressed(place: Place, fetched: &Fetched, x: &[u64; 16], state: &State, i: 
         e: 0,
         following: next(place, fetched.instr.halves),
         index: None,
-        ind: Ind {
-            on: bit(i),
-            off: 0,
-        },
+        ind: Ind { on: bit(i), off: 0 },
         suppressed: true,
         reads: none(),
         writes: none(),
@@ -194,10 +189,8 @@ pub fn prepare(
     ensures words { x.new ≡ words_after x.old result.index }
 
     // It is the next entry of each state that looks so.
-    ensures states {
-        let v = seen place.now fetched.now x.old state.now in
-        (s : Machine) → IsSeen s v → read ≡ side_of s v → result ≡ plan_of s place.now.table
-    }
+    ensures states { let v = seen place.now fetched.now x.old state.now in
+        (s : Machine) → IsSeen s v → read ≡ side_of s v → result ≡ plan_of s place.now.table }
 {
     read_shape(read);
     let prepared = make(*place, fetched, x, read, state);

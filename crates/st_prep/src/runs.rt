@@ -45,7 +45,11 @@ fn field_words(e: u32, length: u8) -> Words
     ensures value { result ≡ field_words_of e length }
     ensures runs { IsRuns result }
 {
-    let len = if e % 64 + u32::from(length) <= 64 { 1 } else { 2 };
+    let len = if e % 64 + u32::from(length) <= 64 {
+        1
+    } else {
+        2
+    };
     one_run(e / 64, len)
 }
 
@@ -54,7 +58,11 @@ fn operand_words(p: u8, e: u32, length: u8) -> Words
     ensures value { result ≡ operand_words_of p e length }
     ensures runs { IsRuns result }
 {
-    if p == 1 { none() } else { field_words(e, length) }
+    if p == 1 {
+        none()
+    } else {
+        field_words(e, length)
+    }
 }
 
 /// The words that a transmission reads.
