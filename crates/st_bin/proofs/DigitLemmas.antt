@@ -120,3 +120,8 @@ scaled_le r m w some =
 
 pub lost_place : (m place : ℕ) → place < 32 → leb (10 ^ (32 - place)) m ≡ leb (10 ^ 32) (m * 10 ^ place)
 lost_place m place few = rw (powers_of_places place few) (scaled_le (10 ^ (32 - place)) m (10 ^ place) (power_above_zero place))
+
+-- what a power of ten asks for, and what moving to a place does
+pub ruleset power_rules = (power_fits, power_above_zero)
+
+pub ruleset place_rules = (placed, lost_place)

@@ -1,13 +1,12 @@
 -- The bits of a field and of its last byte, over plain numbers.
-use Rattle.std.proofs.Common.{lit<, ◌||◌, ◌≡◌, ℕ, zero, suc, ◌+◌, ◌-◌, ◌*◌, ◌/◌, ◌%◌, ◌^◌, ◌<◌, ◌≤◌, Bool, true, false, refl, sym, arith, ap, subst, ◌∙◌}
+use Rattle.std.proofs.Common.{lit<, if◌then◌else◌, ◌||◌, ◌≡◌, ℕ, zero, suc, ◌+◌, ◌-◌, ◌*◌, ◌/◌, ◌%◌, ◌^◌, ◌<◌, ◌≤◌, Bool, true, false, refl, sym, arith, ap, subst, ◌∙◌}
 use Rattle.std.proofs.lemmas.Nat.{pow-add}
 use Rattle.std.proofs.Math.Pow.{pow_pos, mod-mod-pow}
-use Rattle.std.proofs.Math.Nat.{mod-eq_of_lt, pow-le-pow_right}
+use Rattle.std.proofs.Math.Nat.{mod-lt, mod-eq_of_lt, pow-le-pow_right}
 use Rattle.st_bin.specs.declared.fields.Shape.{Shape}
 use Rattle.std.proofs.lemmas.Bool.Decides.{nat_tests}
 use Rattle.st_bin.specs.Numbers.{exceeds}
-use Rattle.st_bin.specs.BinaryOperand.{magnitude_bits, sign_byte, HasRoom}
-use Rattle.st_bin.specs.declared.fields.Field.{Field}
+use Rattle.st_bin.specs.BinaryOperand.{IsShape, magnitude_bits, sign_byte, sign_of, last_byte, field_of, field_bits}
 
 -- what holds of each size of a byte holds of all
 pub each_byte : (P : ℕ → Type 0) → P 1 → P 2 → P 3 → P 4 → P 5 → P 6 → P 7 → P 8 → (b : ℕ) → 1 ≤ b → b ≤ 8 → P b
@@ -89,3 +88,26 @@ exceeds_kept m t n is few =
 -- the magnitude of an unsigned field
 pub magnitude_bits-unsigned : (h : Shape) → h.unsigned ≡ true → magnitude_bits h ≡ h.length
 magnitude_bits-unsigned h is = rw is refl
+
+-- the sign of a sign byte has the value 8
+sign_value : (s : ℕ) → (if sign_of s then 8 else 0) ≡ s / 8 % 2 * 8
+sign_value s = grind (arith, nat_tests)
+
+-- a sign byte of b bits is cut to the bits that made it
+last_byte-cut : (r b : ℕ) → 1 ≤ b → b ≤ 8 → r < 2 ^ b → (r * 2 ^ (4 - b) / 16 % 2 ^ (b - 4) * 16 + r * 2 ^ (4 - b) / 8 % 2 * 8 + r * 2 ^ (4 - b) % 8) / 2 ^ (4 - b) ≡ r
+last_byte-cut r b some small =
+    each_byte (λ b. r < 2 ^ b → (r * 2 ^ (4 - b) / 16 % 2 ^ (b - 4) * 16 + r * 2 ^ (4 - b) / 8 % 2 * 8 + r * 2 ^ (4 - b) % 8) / 2 ^ (4 - b) ≡ r)
+    (λ h. omega arith) (λ h. omega arith) (λ h. omega arith) (λ h. omega arith)
+    (λ h. omega arith) (λ h. omega arith) (λ h. omega arith) (λ h. omega arith)
+    b some small
+
+-- writing what was read gives the same bits
+same_by : (u : Bool) (x : ℕ) (h : Shape) → h.unsigned ≡ u → IsShape h → field_bits (field_of x h) h ≡ x
+same_by true x h is shape = rw is refl
+same_by false x h is shape =
+    let b : ℕ = h.byte in
+    let last : x % 2 ^ b < 2 ^ b = mod-lt x (pow_pos b) in
+    rw (is, sign_value (last_byte x b), last_byte-cut (x % 2 ^ b) b shape.some_byte shape.small_byte last) (omega arith)
+
+pub field_bits-field_of : (x : ℕ) (h : Shape) → IsShape h → field_bits (field_of x h) h ≡ x
+field_bits-field_of x h shape = same_by h.unsigned x h refl shape

@@ -1,5 +1,5 @@
 -- The parts of a binary field: magnitude, sign, flags and zone, as whole numbers.
-use Rattle.std.specs.Prelude.{ℕ, ◌≡◌, ◌+◌, ◌-◌, ◌*◌, ◌/◌, ◌%◌, ◌^◌, ◌<◌, ◌≤◌, Bool, true, false, ◌==◌, if◌then◌else◌}
+use Rattle.std.specs.Prelude.{ℕ, ◌≡◌, ◌+◌, ◌-◌, ◌*◌, ◌/◌, ◌%◌, ◌^◌, ◌<◌, ◌≤◌, Bool, false, ◌==◌, if◌then◌else◌}
 use Rattle.st_bin.specs.declared.fields.Field.{Field}
 use Rattle.st_bin.specs.declared.fields.Shape.{Shape}
 
@@ -30,7 +30,7 @@ flags_of s = s % 8
 abbrev pub sign_byte : ℕ → Bool → ℕ → ℕ
 sign_byte zone minus flags = zone * 16 + (if minus then 8 else 0) + flags
 
--- the last b bits of a field as a sign byte; those of a shorter one are its left bits, and the rest is 0
+-- the last b bits of a field as a sign byte; what fewer than four lack on the right is 0
 abbrev pub last_byte : ℕ → ℕ → ℕ
 last_byte x b = x % 2 ^ b * 2 ^ (4 - b)
 

@@ -1,4 +1,4 @@
--- The indicators that an operation on a field sets. Indicator n of a word is its bit of value 2 ^ (63 - n).
+-- The indicators that operations on fields set. Indicator n is the bit of value 2 ^ (63 - n).
 use Rattle.std.specs.Prelude.{ℕ, ◌+◌, ◌-◌, ◌/◌, ◌%◌, ◌^◌, Bool, ◌==◌, if◌then◌else◌}
 use Rattle.std.specs.declared.cmp.Ordering.{Ordering}
 use Rattle.std.specs.declared.cmp.Ordering.TheVariants.{Less, Equal, Greater}
@@ -26,7 +26,8 @@ partial_field b = on_if b 23
 
 -- TF, UF and VF, by the flags T, U and V
 abbrev pub flag_indicators : ℕ → ℕ
-flag_indicators flags = on_if (flags / 4 == 1) 35 + on_if (flags / 2 % 2 == 1) 36 + on_if (flags % 2 == 1) 37
+flag_indicators flags =
+    on_if (flags / 4 == 1) 35 + on_if (flags / 2 % 2 == 1) 36 + on_if (flags % 2 == 1) 37
 
 -- RLZ, RZ or RGZ, by a result number, and RN where its sign is minus
 abbrev pub number_indicators : Bool → ℕ → ℕ
@@ -39,7 +40,7 @@ order_indicator Less = indicator 60
 order_indicator Equal = indicator 61
 order_indicator Greater = indicator 62
 
--- what a result number turns on and off; MOP is on where the field was written, and `on` goes on too
+-- what a result number turns on and off, besides `on`; MOP is on where it stands in the field
 abbrev pub by_number : Bool → Bool → ℕ → ℕ → Ind
 by_number wrote minus m on = record {
   on = on + (on_if wrote 55 + number_indicators minus m);
@@ -71,4 +72,7 @@ range_indicator Greater = indicator 62
 abbrev pub by_range : ℕ → Ordering → ℕ → Ind
 by_range ind order on =
     if is_on ind 60 then without_number on
-    else record { on = on + range_indicator order; off = indicator 55 + (indicator 61 + indicator 62) }
+    else record {
+      on = on + range_indicator order;
+      off = indicator 55 + (indicator 61 + indicator 62);
+    }

@@ -1,5 +1,4 @@
-ghost use Rattle.std.specs.Prelude.{◌≡◌, ◌<◌, ◌^◌};
-ghost use Rattle.st_bin.specs.BinaryOperand.{zone_of, flags_of};
+ghost use Rattle.std.specs.Prelude.{◌≡◌, ◌<◌};
 ghost use Rattle.st_bin.specs.BinaryResult.{is_minus as minus_of, with_number as with_number_of, from_offset as from_offset_of, addend_minus};
 
 use crate::fields::{Shape, is_minus, sign_byte};
@@ -10,7 +9,7 @@ use crate::signed::{Signed, exactly_one};
 pub struct Acc {
     /// The 128 bits of the accumulator.
     pub mag: u128,
-    /// The sign byte: the zone in bits 0 to 3, the sign in bit 4, the flags T, U and V in bits 5 to 7, bit 0 leftmost.
+    /// The sign byte: zone in bits 0 to 3, sign in bit 4, flags T, U and V in bits 5 to 7; bit 0 is leftmost.
     pub sb: u8,
 }
 

@@ -82,6 +82,7 @@ pub fn read_field(bits: u64, shape: &Shape) -> Field
     requires shape { IsShape shape.now }
     requires fits { bits < 2 ^ shape.now.length }
     ensures parts { result ≡ field_of bits shape.now }
+    ensures same { field_bits result shape.now ≡ bits }
     ensures room { HasRoom result shape.now }
 {
     if shape.unsigned {

@@ -22,3 +22,6 @@ pub use digits::{digits_value, to_digits};
 pub use fields::{Field, Shape, read_field, write_field};
 pub use operations::binary;
 pub use outcome::Done;
+
+#[cfg(test)]
+mod tests;

@@ -1,5 +1,5 @@
-use Rattle.std.proofs.Common.{arith, ◌<◌}
-use Rattle.st_bin.proofs.FieldLemmas.{front_below, magnitude_bits-signed}
+use Rattle.std.proofs.Common.{arith}
+use Rattle.st_bin.proofs.FieldLemmas.{front_below, field_bits-field_of, magnitude_bits-signed}
 use Rattle.st_bin.proofs.fields.read_field.Goals as goal
 
 pub returns-clause-room : goal.returns-clause-room
@@ -9,3 +9,8 @@ returns-clause-room c =
       three_flags = omega arith;
       four_zone_bits = omega arith;
     }
+
+pub returns-clause-same : goal.returns-clause-same
+returns-clause-same c =
+    let law = field_bits-field_of c.args.bits c.args.shape.now c.requires.shape in
+    rw (c.is_minus.ensures, c.last_byte-sign.ensures, c.if-shape.false) (rw c.if-shape.false at law)
