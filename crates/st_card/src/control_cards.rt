@@ -5,6 +5,7 @@ ghost use Rattle.std.specs.List.{list_all};
 ghost use Rattle.std.specs.Option.{option_map};
 ghost use Rattle.st_card.specs.Controls as spec;
 ghost use Rattle.st_card.specs.Pieces.{words};
+ghost use Rattle.st_card.specs.Limits.{IsWithinLimits};
 ghost use Rattle.st_card.specs.Answers.{Settles, Appends, Marks, Explains};
 
 use crate::cards::columns;
@@ -97,7 +98,8 @@ impl Model for Controls {
 impl Controls {
     /// Controls that ask for nothing.
     pub fn new(alloc: Global) -> Controls
-        ensures { result ≡ spec.nothing }
+        ensures nothing { result ≡ spec.nothing }
+        ensures limits { IsWithinLimits result }
     {
         Controls {
             budget: 0,
@@ -122,6 +124,9 @@ impl Controls {
         ensures ok { OnOk result (spec.added self.old text.now ≡ Some self.new) }
         ensures err { IfErr result (Explains (spec.added self.old text.now) card) }
         ensures unchanged { OnErr result (self.new ≡ self.old) }
+
+        // Controls that are made by control cards alone keep the limits of control cards.
+        ensures limits { IsWithinLimits self.old → IsWithinLimits self.new }
     {
         match self.add_text(columns(text)) {
             Outcome::Added => Ok(()),
