@@ -1,4 +1,4 @@
--- The digits of a decimal field and of the accumulator. Each byte of a field is one digit: a zone, then a code.
+-- The digits of a decimal field and of the accumulator. Each byte of a field is one digit: a zone, and behind it a code.
 use Rattle.std.specs.Prelude.{ℕ, ◌≡◌, ◌+◌, ◌*◌, ◌/◌, ◌%◌, ◌≤◌, nat_lt, Bool, List, [], ◌∷◌, ◌++◌, map, take, drop, replicate}
 use Rattle.std.specs.List.{list_any}
 use Rattle.st_bin.specs.declared.accumulator.Acc.{Acc}
@@ -49,21 +49,21 @@ acc_codes a = bytes 4 32 a.mag
 abbrev pub codes_from_place : Acc → Shape → List ℕ
 codes_from_place a h = drop (place h) (acc_codes a)
 
--- of these as many as the field has digits; past the 32nd there are zeros
+-- as many of these as the field has digits; past the 32nd digit there are zeros
 abbrev pub field_codes : Acc → Shape → List ℕ
 field_codes a h = take (digit_count h) (codes_from_place a h ++ replicate (digit_count h) 0)
 
--- the codes of the operand above those of the accumulator that it leaves out
+-- the codes of the operand with its last digit at that place, and zeros below
 abbrev pub moved : Field → Shape → List ℕ
 moved f h = replicate (place h) 0 ++ codes f h
 
--- the codes that stay in the accumulator, and those that are lost
+-- those that the accumulator has room for, and those that are lost
 abbrev pub placed : Field → Shape → List ℕ
 placed f h = take 32 (moved f h)
 
 abbrev pub lost : Field → Shape → List ℕ
 lost f h = drop 32 (moved f h)
 
--- whether a code is not zero
+-- whether one of the codes is not zero
 abbrev pub any_code : List ℕ → Bool
 any_code cs = list_any (λ c. nat_lt 0 c) cs

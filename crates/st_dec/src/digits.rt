@@ -1,4 +1,10 @@
-//! The digits of a field, each a byte of a zone and a code, and of the accumulator, four bits each.
+//! Digits. Each byte of a decimal field is one, a zone and a code; in the accumulator, as in `codes`, a digit is a code.
+//!
+//! ```text
+//! field, byte of 8   zzzzcccc zzzzcccc zzzzcccc
+//! field, byte of 5   zcccc zcccc zcccc
+//! codes              cccccccccccc
+//! ```
 ghost use Rattle.std.specs.Prelude.{◌≡◌, ◌-◌, ◌*◌, ◌<◌, ◌≤◌, ◌^◌};
 ghost use Rattle.st_bin.specs.BinaryOperand.{HasRoom, magnitude_bits as magnitude_bits_of};
 ghost use Rattle.st_dec.specs.DigitLists.{bytes, joined};

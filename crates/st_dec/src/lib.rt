@@ -13,3 +13,6 @@ mod stores;
 mod sums;
 
 pub use operations::decimal;
+
+#[cfg(test)]
+mod tests;
