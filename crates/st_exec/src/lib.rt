@@ -6,3 +6,6 @@ mod step;
 
 pub use instruction::Instruction;
 pub use step::{Step, interrupt, is_at_rest, one};
+
+#[cfg(test)]
+mod tests;

@@ -1,3 +1,7 @@
 pub mod Shifts
 pub mod Tables
 pub mod Windows
+pub mod Numbers
+pub mod Spelled
+pub mod Shapes
+pub mod RoundTrip

@@ -1,5 +1,5 @@
 -- A table of operations and its inverse.
-use Rattle.std.proofs.Common.{◌≡◌, ℕ, zero, suc, ◌+◌, ◌<◌, ◌≤◌, ◌==◌, ◌&&◌, Bool, true, false, List, [], ◌∷◌, Option, None, Some, length, refl, sym, ◌∙◌, ap, arith}
+use Rattle.std.proofs.Common.{◌≡◌, ℕ, zero, suc, ◌+◌, ◌<◌, ◌==◌, ◌&&◌, Bool, true, false, List, [], ◌∷◌, Option, None, Some, length, refl, sym, ◌∙◌, ap, arith}
 use Rattle.std.proofs.lemmas.Bool.{eqb-true}
 use Rattle.st_format.specs.Operations.{row}
 
@@ -36,7 +36,8 @@ number-row number k (Some y ∷ rows) zero x h e =
     let other : number x ≡ number y = ap number (sym one) in
     omega arith
 number-row number k (Some y ∷ rows) (suc n) x h e =
-    let rest : number x ≡ n + (k + 1) = number-row number (k + 1) rows n x (and-right _ _ h) e in omega arith
+    let tail : numbered number (k + 1) rows ≡ true = and-right (number y == k) (numbered number (k + 1) rows) h in
+    let rest : number x ≡ n + (k + 1) = number-row number (k + 1) rows n x tail e in omega arith
 
 -- a row with no operation passes the test
 pub hole-row : {A : Type 0} (test : ℕ → Bool) (k : ℕ) (table : List (Option A)) (n : ℕ)

@@ -1,6 +1,31 @@
 -- Each field of packed half-words, and half-words packed again from their fields.
-use Rattle.std.proofs.Common.{◌≡◌, ℕ, ◌+◌, ◌-◌, ◌*◌, ◌/◌, ◌%◌, ◌^◌, ◌<◌, ◌≤◌, ◌==◌, Bool, true, false, refl, sym, ◌∙◌, ap, arith}
-use Rattle.st_format.specs.Halves.{part, later, is_one, is_full, i_of, address_of, j_of, operation_of, bit_address_of, second_address_of, p_of, length_of, byte_of, offset_of, k_of, count_of, or_greatest, half_bits, first_bits, field_bits, second_bits}
+use Rattle.std.proofs.Common.{◌≡◌, ℕ, zero, suc, if◌then◌else◌, ◌+◌, ◌*◌, ◌/◌, ◌%◌, ◌^◌, ◌<◌, ◌≤◌, ◌==◌, Bool, true, false, refl, sym, ◌∙◌, ap, arith}
+use Rattle.std.proofs.Math.Nat.{mod_self, mod-eq_of_lt}
+use Rattle.std.proofs.lemmas.Bool.{eqb-true, eqb-false, ne_eqb}
+use Rattle.st_format.specs.Halves.{part, later, is_full, i_of, address_of, j_of, operation_of, bit_address_of, second_address_of, p_of, length_of, byte_of, offset_of, k_of, count_of, or_greatest, half_bits, first_bits, field_bits, second_bits}
+
+-- a field that is not zero stands for itself
+greatest-some : (g n : ℕ) → 1 ≤ n → or_greatest g n ≡ n
+greatest-some g n some =
+    let not_zero : (n == 0) ≡ false = ne_eqb n 0 (λ e. omega arith) in ap (λ b. if b then g else n) not_zero
+
+greatest-mod-by : (g n : ℕ) (b : Bool) → (n == g) ≡ b → 0 < g → 1 ≤ n → n ≤ g → or_greatest g (n % g) ≡ n
+greatest-mod-by g n true e pos some fits =
+    let same : n ≡ g = eqb-true n g e in
+    let none : n % g ≡ 0 = ap (λ m. m % g) same ∙ mod_self g in
+    ap (or_greatest g) none ∙ sym same
+greatest-mod-by g n false e pos some fits =
+    let other : n ≡ g → ⊥ = eqb-false n g e in
+    ap (or_greatest g) (mod-eq_of_lt (omega arith)) ∙ greatest-some g n some
+
+-- a number from 1 to the greatest, whose field is zero where it is the greatest
+pub greatest-mod : (g n : ℕ) → 0 < g → 1 ≤ n → n ≤ g → or_greatest g (n % g) ≡ n
+greatest-mod g n pos some fits = greatest-mod-by g n (n == g) refl pos some fits
+
+pub mod-greatest : (g n : ℕ) → 0 < g → n < g → or_greatest g n % g ≡ n
+mod-greatest g zero pos lt = mod_self g
+mod-greatest g (suc n) pos lt =
+    ap (λ m. m % g) (greatest-some g (suc n) (omega arith)) ∙ mod-eq_of_lt lt
 
 -- ---- a half-word instruction
 
@@ -44,3 +69,116 @@ pub is_full-first_bits : (a i : ℕ) → i < 16 → is_full (first_bits a i) ≡
 unfolding is_full first_bits
 is_full-first_bits a i hi =
     let e : part (a * 2 ^ 8 + 15 * 2 ^ 4 + i) 24 4 ≡ 15 = omega arith in ap (λ n. n == 15) e
+
+-- a first half with ones in bits 24-27 is packed from its fields
+pub first_bits-fields : (h : ℕ) → h < 2 ^ 32 → is_full h ≡ true → first_bits (bit_address_of h) (i_of h) ≡ h
+unfolding first_bits is_full bit_address_of i_of
+first_bits-fields h lt full =
+    let ones : part h 24 4 ≡ 15 = eqb-true (part h 24 4) 15 full in omega arith
+
+-- ---- the second half of an operation on a field
+
+pub p-field_bits : (p l b f o : ℕ) → p < 8 → f < 128 → o < 512 → p_of (field_bits p l b f o) ≡ p
+unfolding p_of field_bits
+p-field_bits p l b f o hp hf ho = omega arith
+
+pub length-field_bits : (p l b f o : ℕ) → p < 8 → 1 ≤ l → l ≤ 64 → f < 128 → o < 512
+    → length_of (field_bits p l b f o) ≡ l
+unfolding length_of field_bits
+length-field_bits p l b f o hp some fits hf ho =
+    let e : later (p * 2 ^ 29 + l % 64 * 2 ^ 23 + b % 8 * 2 ^ 20 + f * 2 ^ 13 + o * 2 ^ 4) 35 6 ≡ l % 64 =
+    omega arith in
+    ap (or_greatest 64) e ∙ greatest-mod 64 l (omega arith) some fits
+
+pub byte-field_bits : (p l b f o : ℕ) → p < 8 → 1 ≤ b → b ≤ 8 → f < 128 → o < 512
+    → byte_of (field_bits p l b f o) ≡ b
+unfolding byte_of field_bits
+byte-field_bits p l b f o hp some fits hf ho =
+    let e : later (p * 2 ^ 29 + l % 64 * 2 ^ 23 + b % 8 * 2 ^ 20 + f * 2 ^ 13 + o * 2 ^ 4) 41 3 ≡ b % 8 =
+    omega arith in
+    ap (or_greatest 8) e ∙ greatest-mod 8 b (omega arith) some fits
+
+pub offset-field_bits : (p l b f o : ℕ) → p < 8 → f < 128 → o < 512 → offset_of (field_bits p l b f o) ≡ f
+unfolding offset_of field_bits
+offset-field_bits p l b f o hp hf ho = omega arith
+
+pub operation-field_bits : (p l b f o : ℕ) → p < 8 → f < 128 → o < 512 → later (field_bits p l b f o) 51 9 ≡ o
+unfolding field_bits
+operation-field_bits p l b f o hp hf ho = omega arith
+
+pub k-field_bits : (p l b f o : ℕ) → k_of (field_bits p l b f o) ≡ 0
+unfolding k_of field_bits
+k-field_bits p l b f o = omega arith
+
+-- a second half is packed from the fields of an operation on a field
+pub field_bits-fields : (s : ℕ) → s < 2 ^ 32 → k_of s ≡ 0
+    → field_bits (p_of s) (length_of s) (byte_of s) (offset_of s) (later s 51 9) ≡ s
+unfolding field_bits p_of length_of byte_of offset_of k_of
+field_bits-fields s lt none =
+    let l : or_greatest 64 (later s 35 6) % 64 ≡ later s 35 6 =
+    mod-greatest 64 (later s 35 6) (omega arith) (omega arith) in
+    let b : or_greatest 8 (later s 41 3) % 8 ≡ later s 41 3 =
+    mod-greatest 8 (later s 41 3) (omega arith) (omega arith) in
+    rw (l, b) (omega arith)
+
+-- ---- the second half of an instruction with two addresses
+
+pub second-second_bits : (a o k : ℕ) → a < 2 ^ 19 → o < 512 → k < 16 → second_address_of (second_bits a o k) ≡ a
+unfolding second_address_of second_bits
+second-second_bits a o k ha ho hk = omega arith
+
+pub operation-second_bits : (a o k : ℕ) → o < 512 → k < 16 → later (second_bits a o k) 51 9 ≡ o
+unfolding second_bits
+operation-second_bits a o k ho hk = omega arith
+
+pub k-second_bits : (a o k : ℕ) → k < 16 → k_of (second_bits a o k) ≡ k
+unfolding k_of second_bits
+k-second_bits a o k hk = omega arith
+
+pub count-second_bits : (a o n : ℕ) → 1 ≤ n → n ≤ 16 → count_of (second_bits a o (n % 16)) ≡ n
+unfolding count_of
+count-second_bits a o n some fits =
+    ap (or_greatest 16) (k-second_bits a o (n % 16) (omega arith)) ∙ greatest-mod 16 n (omega arith) some fits
+
+pub second_bits-fields : (s : ℕ) → s < 2 ^ 32 → second_bits (second_address_of s) (later s 51 9) (k_of s) ≡ s
+unfolding second_bits second_address_of k_of
+second_bits-fields s lt = omega arith
+
+pub count_of-mod : (s : ℕ) → count_of s % 16 ≡ k_of s
+unfolding count_of k_of
+count_of-mod s = mod-greatest 16 (later s 60 4) (omega arith) (omega arith)
+
+-- ---- the parts of the operation of a full word
+
+pub later-operation : (s : ℕ) → later s 51 9 < 512
+later-operation s = omega arith
+
+pub connective-operation : (s : ℕ) → later s 51 1 ≡ later s 51 9 / 256 % 2
+connective-operation s = omega arith
+
+pub decimal-operation : (s : ℕ) → later s 52 1 ≡ later s 51 9 / 128 % 2
+decimal-operation s = omega arith
+
+pub unsigned-operation : (s : ℕ) → later s 53 1 ≡ later s 51 9 / 64 % 2
+unsigned-operation s = omega arith
+
+pub negated-operation : (s : ℕ) → later s 54 1 ≡ later s 51 9 / 32 % 2
+negated-operation s = omega arith
+
+pub marks-operation : (s : ℕ) → later s 52 3 ≡ later s 51 9 / 32 % 8
+marks-operation s = omega arith
+
+pub change-operation : (s : ℕ) → later s 53 2 ≡ later s 51 9 / 32 % 4
+change-operation s = omega arith
+
+pub number-operation : (s : ℕ) → later s 55 5 ≡ later s 51 9 % 32
+number-operation s = omega arith
+
+pub table-operation : (s : ℕ) → later s 52 4 ≡ later s 51 9 / 16 % 16
+table-operation s = omega arith
+
+pub kind-operation : (s : ℕ) → later s 56 2 ≡ later s 51 9 / 4 % 4
+kind-operation s = omega arith
+
+pub rest-operation : (s : ℕ) → later s 58 2 ≡ later s 51 9 % 4
+rest-operation s = omega arith

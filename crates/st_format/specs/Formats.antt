@@ -1,5 +1,5 @@
 -- The instruction that bits spell, and the bits of an instruction.
-use Rattle.std.specs.Prelude.{ℕ, ◌≡◌, ◌+◌, ◌*◌, ◌%◌, ◌^◌, ◌<◌, ◌≤◌, Bool, true, false, IsTrue, IsFalse, not, ◌==◌, ◌&&◌, Option, None, Some, if◌then◌else◌}
+use Rattle.std.specs.Prelude.{ℕ, ◌≡◌, ◌+◌, ◌*◌, ◌%◌, ◌^◌, ◌<◌, ◌≤◌, Bool, true, false, IsTrue, IsFalse, ◌==◌, unwrap_or, is_some, Option, None, Some, if◌then◌else◌}
 use Rattle.st_format.specs.declared.operations.FullOp.{FullOp}
 use Rattle.st_format.specs.declared.operations.FullOp.TheVariants.{Variable, Connective, Transmission, BitTest, IndicatorTest, Order, CounterStore}
 use Rattle.st_format.specs.declared.instruction.Instr.{Instr}
@@ -9,7 +9,7 @@ use Rattle.st_bits.specs.declared.operations.HalfOp.{HalfOp}
 use Rattle.st_bits.specs.declared.operations.BranchOp.{BranchOp}
 use Rattle.st_format.specs.Halves.{later, is_one, is_full, i_of, address_of, j_of, operation_of, bit_address_of, second_address_of, p_of, length_of, byte_of, offset_of, count_of, half_bits, first_bits, field_bits, second_bits}
 use Rattle.st_format.specs.Operations.{half_op, branch_op, full_op, half_number, branch_number, full_number, writes_field}
-use Rattle.st_format.specs.Validity.{is_invalid_half, breaks_rules, is_invalid, misfits, misuses_p, miscounts}
+use Rattle.st_format.specs.Validity.{breaks_rules, is_invalid, misfits, misuses_p}
 
 -- a branch, where J names one
 abbrev pub branch_word : Option BranchOp → ℕ → Instr
@@ -101,12 +101,21 @@ second_half (Move swap address i second count) =
 second_half (BitBranch sense change address i second) =
     Some (second_bits second (bit_of sense * 2 ^ 7 + change * 2 ^ 5 + full_number BitTest) 0)
 second_half (IndBranch sense off address i second) =
-    Some (second_bits second (bit_of sense * 2 ^ 7 + bit_of off * 2 ^ 6 + full_number IndicatorTest) 0)
+    Some (second_bits second
+    (bit_of sense * 2 ^ 7 + bit_of off * 2 ^ 6 + full_number IndicatorTest) 0)
 second_half (StoreCounter address i second) =
     Some (second_bits second (full_number CounterStore) 0)
 second_half (Transfer write address i count) =
     Some (second_bits count (full_number (Order write)) 0)
 second_half (Invalid first second full) = if full then Some second else None
+
+-- the number of its half-words
+abbrev pub halves_of : Instr → ℕ
+halves_of instr = if is_some (second_half instr) then 2 else 1
+
+-- what the bits of an instruction spell; other bits stand behind those of a half-word
+abbrev pub reread : Instr → ℕ → Decoded
+reread instr rest = decoded (first_half instr) (unwrap_or (second_half instr) rest)
 
 -- the address and the index field of a half-word instruction
 pub record FitsHalf (address i : ℕ) : Type 0 where

@@ -1,5 +1,5 @@
 -- The numbers of the operations.
-use Rattle.std.specs.Prelude.{ℕ, ◌+◌, ◌*◌, ◌^◌, Bool, true, false, ◌==◌, List, [], ◌∷◌, Option, None, Some, slice_index_or, if◌then◌else◌}
+use Rattle.std.specs.Prelude.{ℕ, ◌+◌, ◌*◌, ◌^◌, Bool, true, false, List, [], ◌∷◌, Option, None, Some, slice_index_or, if◌then◌else◌}
 use Rattle.std.specs.Option.{option_map}
 use Rattle.st_bits.specs.declared.operations.HalfOp.{HalfOp}
 use Rattle.st_bits.specs.declared.operations.HalfOp.TheVariants.{Lx, Lv, Lc, Lr, Sx, Sv, Sc, Sr, Sva, VPlus, VPlusC, Kv, Lvs, Lvi, Lci, Lri, VPlusI, VMinusI, VPlusIC, VPlusICR, Kvi, Kc, Kci, Cb, Cbr, R, Ex}
@@ -130,7 +130,7 @@ kind_number C = 0
 kind_number Cm = 1
 kind_number Ct = 2
 
--- the number that bits 51-59 spell for an operation of the full-word format, where its marks and its table are zero
+-- what bits 51-59 spell for an operation of the full-word format, its marks or its table being zero
 abbrev pub full_number : FullOp → ℕ
 full_number (Variable op) = vfl_number op
 full_number (Connective kind) = 2 ^ 8 + kind_number kind * 2 ^ 2

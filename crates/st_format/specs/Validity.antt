@@ -1,13 +1,14 @@
 -- Which bits spell no instruction.
-use Rattle.std.specs.Prelude.{ℕ, ◌+◌, ◌%◌, Bool, true, false, not, ◌==◌, ◌&&◌, ◌||◌, nat_lt, nat_le, Option, None, Some, if◌then◌else◌}
+use Rattle.std.specs.Prelude.{ℕ, ◌%◌, Bool, true, false, not, ◌==◌, ◌&&◌, ◌||◌, nat_lt, nat_le, Option, None, Some, if◌then◌else◌}
 use Rattle.st_format.specs.declared.operations.FullOp.{FullOp}
-use Rattle.st_format.specs.declared.operations.FullOp.TheVariants.{Variable, Connective, Transmission, BitTest, IndicatorTest, Order, CounterStore}
+use Rattle.st_format.specs.declared.operations.FullOp.TheVariants.{Variable, Connective, Transmission, IndicatorTest, Order, CounterStore}
 use Rattle.st_format.specs.Halves.{later, is_one, is_full, i_of, j_of, operation_of, p_of, length_of, byte_of, k_of, second_address_of}
 use Rattle.st_format.specs.Operations.{full_op, writes_field}
 
 -- operation 12, and a branch with J from 6 up
 unfoldable pub is_invalid_half : ℕ → Bool
-is_invalid_half first = operation_of first == 12 || (operation_of first == 23 && nat_le 6 (j_of first))
+is_invalid_half first =
+    operation_of first == 12 || (operation_of first == 23 && nat_le 6 (j_of first))
 
 -- bits 58-59, which a connective does not use
 abbrev pub unused_in_kind : FullOp → ℕ → ℕ
@@ -27,17 +28,19 @@ unused_marks (Order _) second = later second 52 3
 unused_marks IndicatorTest second = later second 54 1
 unused_marks _ second = 0
 
--- a decimal field has bytes of four bits at least, and is made of whole bytes; a signed field has room for
--- its sign byte
+-- a decimal field has bytes of at least four bits and is made of whole bytes; a signed field has room
+-- for its sign byte
 abbrev pub misfits : Bool → Bool → ℕ → ℕ → Bool
 misfits decimal unsigned length byte =
     (decimal && (nat_lt byte 4 || not (length % byte == 0))) || (not unsigned && nat_lt length byte)
 
 abbrev pub has_misfit : FullOp → ℕ → Bool
-has_misfit (Variable _) second = misfits (is_one second 52) (is_one second 53) (length_of second) (byte_of second)
+has_misfit (Variable _) second =
+    misfits (is_one second 52) (is_one second 53) (length_of second) (byte_of second)
 has_misfit _ second = false
 
--- an operand in the address is not written and has at most 24 bits; a progressive form needs an index word
+-- an operand in the address is not written and has at most 24 bits; a progressive form needs an index
+-- word
 abbrev pub misuses_p : Bool → ℕ → ℕ → ℕ → Bool
 misuses_p writes p length i = (p == 1 && (writes || nat_lt 24 length)) || (nat_le 2 p && i == 0)
 

@@ -2,7 +2,7 @@ ghost use Rattle.std.specs.Prelude.{◌≡◌, false, None, Some, if◌then◌el
 ghost use Rattle.st_format.specs.Halves.{is_full as has_ones};
 ghost use Rattle.st_format.specs.Operations.{full_op as full_op_of};
 ghost use Rattle.st_format.specs.Validity.{is_invalid};
-ghost use Rattle.st_format.specs.Formats.{decoded, half_word, full_word, word_of, first_half, second_half, IsShape, is_no_instruction};
+ghost use Rattle.st_format.specs.Formats.{decoded, instruction_of, half_word, full_word, word_of, first_half, second_half, IsShape, is_no_instruction};
 
 use crate::fields::{
     bit_address, byte_size, field_length, half_address, index_field, is_full, later, offset,
@@ -12,23 +12,39 @@ use crate::instruction::{Decoded, Instr};
 use crate::operations::{FullOp, branch_op, full_op, half_op};
 use crate::rules::breaks_rules;
 
-/// The instruction that two half-words spell. The second is read only where the first is that of a full word.
+/// The instruction that two half-words spell, and its length. The second is read only where the first is that of
+/// a full word.
 ///
-/// Bits that spell no instruction are `Invalid`.
-#[tactic(auto, unfolding(crate::specs::Formats::instruction_of))]
+/// Bits that spell no instruction are `Invalid`: docs/instructions.md lists the rules.
 pub fn decode(first: u32, second: u32) -> Decoded
     ensures value { result ≡ decoded first second }
+    ensures invalid { is_no_instruction result.instr ≡ is_invalid first second }
+
+    // Its fields are in range, and its bits are those that were decoded.
+    ensures shape { IsShape result.instr }
+    ensures first { first_half result.instr ≡ first }
+    ensures second { second_half result.instr ≡ (if has_ones first then Some second else None) }
+{
+    Decoded {
+        instr: spelled(first, second),
+        halves: length_in_halves(first),
+    }
+}
+
+fn length_in_halves(first: u32) -> u8
+    ensures { result ≡ (if has_ones first then 2 else 1) }
+{
+    if is_full(first) { 2 } else { 1 }
+}
+
+#[tactic(auto, unfolding(crate::specs::Formats::instruction_of))]
+fn spelled(first: u32, second: u32) -> Instr
+    ensures { result ≡ instruction_of first second }
 {
     if is_full(first) {
-        Decoded {
-            instr: decode_full(first, second),
-            halves: 2,
-        }
+        decode_full(first, second)
     } else {
-        Decoded {
-            instr: decode_half(first),
-            halves: 1,
-        }
+        decode_half(first)
     }
 }
 

@@ -1,14 +1,25 @@
-ghost use Rattle.std.specs.Prelude.{◌≡◌, ◌+◌, ◌*◌, ◌<◌, ◌≤◌, ◌^◌, ℕ, unwrap_or};
-ghost use Rattle.st_format.specs.Halves.{half_bits as half_of, first_bits as first_of, field_bits as field_of, second_bits as second_of};
+ghost use Rattle.std.specs.Prelude.{◌≡◌, ◌+◌, ◌*◌, ◌<◌, ◌≤◌, ◌^◌, ℕ, unwrap_or, is_some};
+ghost use Rattle.st_format.specs.Halves.{is_full, half_bits as half_of, first_bits as first_of, field_bits as field_of, second_bits as second_of};
 ghost use Rattle.st_format.specs.Operations.{full_number as number_of};
-ghost use Rattle.st_format.specs.Formats.{first_half, second_half, IsShape, bit_of};
+ghost use Rattle.st_format.specs.Formats.{instruction_of, first_half, second_half, IsShape, bit_of};
 
 use crate::instruction::Instr;
 use crate::operations::{FullOp, branch_number, half_number, kind_number, vfl_number};
 
-/// The bits of an instruction: the first half-word, and the second one of a full word.
-#[tactic(auto)]
+/// The bits of an instruction that some bits spell: the first half-word, and the second one of a full word.
 pub fn encode(instr: &Instr) -> (u32, Option<u32>)
+    requires { IsShape instr.now }
+    ensures first { result.0 ≡ first_half instr.now }
+    ensures second { result.1 ≡ second_half instr.now }
+
+    // They spell the instruction again, whatever stands behind a half-word.
+    ensures decodes { (rest : ℕ) → instruction_of result.0 (unwrap_or result.1 rest) ≡ instr.now }
+    ensures length { is_full result.0 ≡ is_some result.1 }
+{
+    pack(instr)
+}
+
+fn pack(instr: &Instr) -> (u32, Option<u32>)
     requires { IsShape instr.now }
     ensures first { result.0 ≡ first_half instr.now }
     ensures second { result.1 ≡ second_half instr.now }

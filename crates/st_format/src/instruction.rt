@@ -91,7 +91,7 @@ pub enum Instr {
         i: u8,
         count: u32,
     },
-    /// Bits that spell no instruction. `second` is 0 where they are one half-word and not `full`.
+    /// Bits that spell no instruction, two half-words where `full` says so; else `second` is 0.
     Invalid {
         first: u32,
         second: u32,

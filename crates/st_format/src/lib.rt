@@ -37,7 +37,7 @@
 //! ```text
 //!   51  52  53  54  55      59
 //!  +---+---+---+---+----------+
-//!  | 0 | D | U | N |  number  |   decimal, unsigned, negated; elsewhere the sense of a branch and what follows it
+//!  | 0 | D | U | N |  number  |   decimal, unsigned, negated; in a branch its sense
 //!  +---+---+---+---+----------+
 //!   51  52        55 56  57 58 59
 //!  +---+------------+------+-----+
@@ -50,9 +50,14 @@ mod decoding;
 mod encoding;
 mod fields;
 mod instruction;
+mod laws;
 mod operations;
 mod rules;
 
 pub use decoding::decode;
 pub use encoding::encode;
 pub use instruction::{Decoded, Instr};
+pub use laws::{bits_spell_instruction, instruction_keeps_bits};
+
+#[cfg(test)]
+mod tests;

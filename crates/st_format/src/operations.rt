@@ -23,6 +23,7 @@ pub enum FullOp {
     CounterStore,
 }
 
+// By number. 0 is the floating group, 23 the branch group, 15 and 31 mark a full word, and 12 is not used.
 const HALF_OPS: [Option<HalfOp>; 32] = [
     None,
     Some(HalfOp::Lx),
@@ -58,6 +59,7 @@ const HALF_OPS: [Option<HalfOp>; 32] = [
     None,
 ];
 
+// By number. 0, 6, 22, 23 and 31 are not used.
 const FULL_OPS: [Option<FullOp>; 32] = [
     None,
     Some(FullOp::Variable(VflOp::L)),
@@ -124,10 +126,7 @@ pub fn full_op(second: u32) -> Option<FullOp>
     ensures { result ≡ full_op_of second }
 {
     if later(second, 51, 1) == 1 {
-        match kind(later(second, 56, 2)) {
-            Some(kind) => Some(FullOp::Connective(kind)),
-            None => None,
-        }
+        kind(later(second, 56, 2)).map(FullOp::Connective)
     } else {
         numbered_op(later(second, 55, 5))
     }

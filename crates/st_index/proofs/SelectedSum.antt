@@ -1,5 +1,5 @@
 -- The sum of selected values, from one index word to the next.
-use Rattle.std.proofs.Common.{◌≡◌, ℕ, suc, ◌+◌, ◌-◌, ◌<◌, ◌≤◌, List, length, get_or, drop, ℤ, pos, ◌+ℤ◌, refl, ap, sym, arith, add-one, ◌∙◌}
+use Rattle.std.proofs.Common.{◌≡◌, ℕ, suc, ◌+◌, ◌-◌, ◌<◌, ◌≤◌, List, length, get_or, drop, ℤ, ◌+ℤ◌, refl, arith, add-one}
 use Rattle.std.proofs.Math.Seq.{drop-cons}
 use Rattle.std.proofs.Math.IntN.{+ℤ_assoc, +ℤ_idr}
 use Rattle.std.specs.Int.{bit_at}
@@ -14,7 +14,6 @@ selected_sum-drop list j k xs h = rw (drop-cons xs j 0) refl
 -- the sum so far and the sum that is left make the whole, also after word j
 pub selected_sum-next : (list j : ℕ) (xs : List ℕ) (s v whole : ℤ) → j < 16 → length xs ≡ 16 → v ≡ selected_value (bit_at list (15 - j)) (get_or xs j 0) → s +ℤ selected_sum (bits (16 - j) list) (drop j xs) ≡ whole → s +ℤ v +ℤ selected_sum (bits (16 - (j + 1)) list) (drop (j + 1) xs) ≡ whole
 selected_sum-next list j xs s v whole h len is all =
-    let rest : ℤ = selected_sum (bits (15 - j) list) (drop (suc j) xs) in
     let now : 16 - j ≡ suc (15 - j) = omega arith in
     let next : 16 - (j + 1) ≡ 15 - j = omega arith in
     let at_j : j < length xs = omega arith in

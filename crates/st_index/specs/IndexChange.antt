@@ -1,9 +1,9 @@
 -- What instructions make of index words: the effective address, changes of value and count, and the indicators.
-use Rattle.std.specs.Prelude.{ℕ, zero, suc, ◌+◌, ◌-◌, ◌%◌, ◌^◌, ◌<◌, ℤ, pos, negsuc, ◌+ℤ◌, neg_ℤ, Bool, ◌==◌, ◌||◌, ◌&&◌, nat_lt, if◌then◌else◌, List, [], ◌∷◌}
+use Rattle.std.specs.Prelude.{ℕ, zero, suc, ◌+◌, ◌-◌, ◌%◌, ◌^◌, ℤ, pos, negsuc, ◌+ℤ◌, neg_ℤ, Bool, ◌==◌, ◌||◌, ◌&&◌, nat_lt, if◌then◌else◌, List, [], ◌∷◌}
 use Rattle.std.specs.declared.cmp.Ordering.{Ordering}
 use Rattle.std.specs.declared.cmp.Ordering.TheVariants.{Less, Equal, Greater}
 use Rattle.std.specs.Ordering.{int_cmp}
-use Rattle.st_bits.specs.Bits.{bits, part}
+use Rattle.st_bits.specs.Bits.{part}
 use Rattle.st_bits.specs.IndexWord.{value_of, count_of, with_value, with_count}
 use Rattle.st_bits.specs.declared.Ind.{Ind}
 use Rattle.st_index.specs.declared.change.Changed.{Changed}
@@ -54,7 +54,7 @@ order_indicator Greater = indicator 54
 abbrev pub comparison : ℤ → ℤ → Ind
 comparison a b = record {
   on = order_indicator (int_cmp a b);
-  off = indicator 52 + indicator 53 + indicator 54
+  off = indicator 52 + indicator 53 + indicator 54;
 }
 
 -- the indicators that an index result sets by the sign of the value: XVLZ, XVZ, XVGZ
@@ -77,7 +77,7 @@ flag_indicator (suc _) = indicator 38
 abbrev pub index_result : ℕ → Ind
 index_result y = record {
   on = count_indicator (count_of y) + sign_indicator (value_of y) + flag_indicator (part y 25 1);
-  off = indicator 48 + indicator 49 + indicator 50 + indicator 51
+  off = indicator 48 + indicator 49 + indicator 50 + indicator 51;
 }
 
 -- what a progressive form adds to the value: V+I, V+IC and V+ICR are 2 to 4, and V-I, V-IC and V-ICR 5 to 7
@@ -102,7 +102,7 @@ abbrev pub change_of : ℕ → ℕ → Changed
 change_of form y = record {
   word = y;
   refill = is_refilling form && count_of y == 0;
-  ind = index_result y
+  ind = index_result y;
 }
 
 -- the whole change by a progressive form

@@ -1,4 +1,4 @@
-ghost use Rattle.std.specs.Prelude.{◌≡◌, ◌<◌, ◌≤◌, ◌^◌, ◌+◌, unsigned_abs, ◌==◌, ◌&&◌};
+ghost use Rattle.std.specs.Prelude.{◌≡◌, ◌<◌, ◌≤◌, ◌^◌, unsigned_abs, ◌==◌, ◌&&◌};
 ghost use Rattle.st_bits.specs.Bits.{part};
 ghost use Rattle.st_bits.specs.IndexWord.{value_of as value, count_of as count};
 ghost use Rattle.st_index.specs.IndexChange.{effective_address, with_added, one_less, with_lower_count};
@@ -58,13 +58,17 @@ pub fn count_down(x: u64) -> u64
     with_count(x, lower(count_of(x)))
 }
 
-/// What a progressive form adds to the value: the increment, or less than nothing in the V- forms.
+/// What a progressive form adds to the value: the increment, negated in the V- forms.
 fn signed(form: u8, increment: u32) -> i32
     requires { increment < 2 ^ 24 }
     ensures value { result ≡ increment_of form increment }
     ensures bound { unsigned_abs result < 2 ^ 24 }
 {
-    if form < 5 { increment as i32 } else { -(increment as i32) }
+    if form < 5 {
+        increment as i32
+    } else {
+        -(increment as i32)
+    }
 }
 
 /// Whether a progressive form counts.

@@ -1,5 +1,6 @@
 -- The first number that passes a test, and the leading zeros of a word.
-use Rattle.std.proofs.Common.{◌≡◌, ◌≢◌, ℕ, zero, suc, ◌+◌, ◌-◌, ◌/◌, ◌%◌, ◌<◌, ◌≤◌, ◌^◌, Bool, true, false, ◌==◌, ◌&&◌, min, None, Some, refl, ◌∙◌, ap, arith, bit_and, inl, inr}
+use Rattle.std.proofs.Common.{sym, ◌≡◌, ◌≢◌, ℕ, zero, suc, ◌+◌, ◌-◌, ◌/◌, ◌%◌, ◌<◌, ◌≤◌, ◌^◌, Bool, true, false, ◌==◌, ◌&&◌, min, None, Some, refl, ◌∙◌, ap, arith, bit_and, inl, inr}
+use Rattle.std.specs.Prelude.{◌⊎◌}
 use Rattle.std.specs.Int.{bit_at}
 use Rattle.std.specs.Int.Count.{count_leading_zeros}
 use Rattle.std.proofs.lemmas.Bool.Decides.{eqb_tells, nat_tests}
@@ -26,6 +27,39 @@ first_from-some p i (suc n) m low high before here =
       | inr ne ↦
           let under : i < m = let other : i ≢ m = ne.1 in omega arith in
           rw (before i under) (first_from-some p (i + 1) n m (omega arith) (omega arith) before here)
+    ]
+
+true_or_false : (b : Bool) → (b ≡ true) ⊎ (b ≡ false)
+true_or_false true = inl refl
+true_or_false false = inr refl
+
+-- what passes first passes, lies among the numbers tried, and none before it passes
+pub first_from-is : (p : ℕ → Bool) (i n m : ℕ) → first_from p i n ≡ Some m
+    → (p m ≡ true) × (i ≤ m) × (m < i + n) × ((k : ℕ) → i ≤ k → k < m → p k ≡ false)
+unfolding first_from
+first_from-is p i zero m e = absurd (cc)
+first_from-is p i (suc n) m e =
+    elim (true_or_false (p i)) [
+      | inl t ↦
+          let here : Some i ≡ Some m = rw t at e in
+          let same : i ≡ m = cc in
+          (sym (ap p same) ∙ t, omega arith, omega arith, λ k low high. absurd (omega arith))
+      | inr f ↦
+          let later : first_from p (i + 1) n ≡ Some m = rw f at e in
+          let rest = first_from-is p (i + 1) n m later in
+          let above : i + 1 ≤ m = rest.1 in
+          let below : m < i + 1 + n = rest.2 in (
+            rest.0,
+            omega arith,
+            omega arith,
+            λ k low high.
+                elim (eqb_tells k i) [
+                  | inl e ↦ ap p e.1 ∙ f
+                  | inr ne ↦
+                      let other : k ≢ i = ne.1 in
+                      rest.3 k (omega arith) high
+                ],
+          )
     ]
 
 -- an indicator as a bit counted from the right

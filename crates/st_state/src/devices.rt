@@ -4,7 +4,9 @@ ghost use Rattle.st_state.specs.Orders.{is_due as is_due_of};
 /// A device that transfers eight words.
 #[derive(Clone, Copy, Debug, PartialEq, Eq)]
 pub enum Device {
+    /// The card reader, which puts words into storage.
     Reader,
+    /// The line printer, which takes words from storage.
     Printer,
 }
 

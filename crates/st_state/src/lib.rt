@@ -126,7 +126,8 @@ impl State {
         })
     }
 
-    /// What holds of each state.
+    /// Makes known what holds of each state: storage has all its words, the counter is below 2^19, registers have
+    /// their fixed bits, and the area of an order lies in storage above the registers.
     pub fn shape(&self)
         ensures { IsMachine self.now }
     {

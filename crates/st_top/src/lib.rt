@@ -7,6 +7,8 @@ mod block;
 mod command;
 mod program;
 mod running;
+#[cfg(test)]
+mod tests;
 
 pub use answer::{Answer, Status};
 pub use command::Command;

@@ -1,0 +1,127 @@
+-- Decimal digits and their value, from one place to the next.
+use Rattle.std.proofs.Common.{lit≤, lit<, leb, ◌≡◌, ℕ, zero, suc, ◌+◌, ◌-◌, ◌*◌, ◌/◌, ◌%◌, ◌^◌, ◌<◌, ◌≤◌, refl, sym, ap, subst, arith, add-one, ◌∙◌}
+use native.Mathlib.Numerals.{unary_clauses}
+use Rattle.std.proofs.lemmas.Nat.{pow-add, div-mul-add}
+use Rattle.std.proofs.Math.Nat.{pow-suc, pow-succ', mul-le-mul, mul-le-mul_right, mul-lt-mul_of_pos_right, mul-div_cancel, mul-mod_left, pow-le-pow_right, div-div-eq-div-mul, mod-eq_of_lt, add-mul-div_right, add-mul-mod_self_right}
+use Rattle.std.proofs.Math.Arith.{mod-mul}
+use Rattle.std.proofs.lemmas.Bool.Decides.{nat_tests}
+use Rattle.st_bin.specs.Digits.{code_at, value_of, digits_of}
+use Rattle.st_bin.proofs.FieldLemmas.{digit_below}
+
+-- one power more
+pub power_suc : (b n : ℕ) → b ^ (n + 1) ≡ b ^ n * b
+power_suc b n = rw (add-one, pow-suc) refl
+
+-- powers are above 0
+power_some : (b n : ℕ) → 1 ≤ b → 1 ≤ b ^ n
+power_some b zero some = simp unary_clauses (lit≤ tt)
+power_some b (suc n) some = rw pow-suc (mul-le-mul (power_some b n some) some)
+
+-- the place of a digit in bits
+pub power_16 : (n : ℕ) → 2 ^ (4 * n) ≡ 16 ^ n
+power_16 zero = refl
+power_16 (suc n) =
+    let next : 4 * suc n ≡ 4 * n + 4 = omega arith in
+    rw (next, pow-add 2 (4 * n) 4, pow-suc 16 n) (ap (λ k. k * 16) (power_16 n))
+
+-- the value of one digit more
+pub value_of-next : (d n v rest weight : ℕ) → v ≡ value_of n d → rest ≡ d / 16 ^ n → weight ≡ 10 ^ n → v + rest % 16 * weight ≡ value_of (n + 1) d
+unfolding value_of
+value_of-next d n v rest weight is left is_weight = rw (add-one, is, left, is_weight) (omega arith)
+
+-- what is left of a number after one digit more, in base b
+pub rest-next : (d b n : ℕ) → d / b ^ n / b ≡ d / b ^ (n + 1)
+rest-next d b n = rw (div-div-eq-div-mul, power_suc) refl
+
+bound-next : (c v p : ℕ) → c < 16 → 3 * v + 5 ≤ 5 * p → 3 * (c * p + v) + 5 ≤ 5 * (p * 10)
+bound-next c v p code below = grind arith
+
+-- n digits of four bits have at most five thirds of 10 ^ n as their value
+pub value_of-bound : (n d : ℕ) → 3 * value_of n d + 5 ≤ 5 * 10 ^ n
+unfolding value_of
+value_of-bound zero d = omega arith
+value_of-bound (suc n) d = rw pow-suc (bound-next (code_at d n) (value_of n d) (10 ^ n) (omega arith) (value_of-bound n d))
+
+-- one digit more
+pub digits_of-next : (v n digits rest : ℕ) → digits ≡ digits_of n v → rest ≡ v / 10 ^ n → digits + rest % 10 * 16 ^ n ≡ digits_of (n + 1) v
+unfolding digits_of
+digits_of-next v n digits rest is left = rw (add-one, is, left) (omega arith)
+
+-- n digits are below 16 ^ n
+pub digits_of-below : (n v : ℕ) → digits_of n v < 16 ^ n
+unfolding digits_of
+digits_of-below zero v = omega arith
+digits_of-below (suc n) v =
+    rw pow-succ' (digit_below (v / 10 ^ n % 10) (digits_of n v) 16 (16 ^ n) (omega arith) (digits_of-below n v))
+
+-- what stands before a digit does not count in its code
+code_before : (x r p : ℕ) → 0 < p → (x * 16 * p + r) / p % 16 ≡ r / p % 16
+code_before x r p some =
+    let swapped : x * 16 * p + r ≡ r + x * 16 * p = omega arith in
+    rw (swapped, add-mul-div_right r (x * 16) some, add-mul-mod_self_right) refl
+
+code_at-low : (m n c r : ℕ) → m < n → code_at (c * 16 ^ n + r) m ≡ code_at r m
+code_at-low m n c r low =
+    let split : n ≡ n - suc m + 1 + m = omega arith in
+    let power : 16 ^ n ≡ 16 ^ (n - suc m) * 16 * 16 ^ m = ap (λ k. 16 ^ k) split ∙ pow-add 16 (n - suc m + 1) m ∙ ap (λ k. k * 16 ^ m) (power_suc 16 (n - suc m)) in
+    let moved : c * 16 ^ n ≡ c * 16 ^ (n - suc m) * 16 * 16 ^ m = rw power (omega arith) in
+    rw moved (code_before (c * 16 ^ (n - suc m)) r (16 ^ m) (power_some 16 m (omega arith)))
+
+-- codes past the first m do not count in their value
+value_of-low : (m n c r : ℕ) → m ≤ n → value_of m (c * 16 ^ n + r) ≡ value_of m r
+unfolding value_of
+value_of-low zero n c r few = refl
+value_of-low (suc m) n c r few =
+    rw (code_at-low m n c r (omega arith), value_of-low m n c r (omega arith)) refl
+
+-- a decimal digit has its code
+code_top : (c r p : ℕ) → c < 10 → r < p → (c * p + r) / p % 16 ≡ c
+code_top c r p digit below = rw (div-mul-add c p r below) (mod-eq_of_lt (omega arith))
+
+-- the digits of a number have its value
+pub value_of-digits : (n v : ℕ) → value_of n (digits_of n v) ≡ v % 10 ^ n
+unfolding value_of digits_of
+value_of-digits zero v = omega arith
+value_of-digits (suc n) v =
+    let c : ℕ = v / 10 ^ n % 10 in
+    let code : code_at (c * 16 ^ n + digits_of n v) n ≡ c = code_top c (digits_of n v) (16 ^ n) (omega arith) (digits_of-below n v) in
+    let low : value_of n (c * 16 ^ n + digits_of n v) ≡ v % 10 ^ n = value_of-low n n c (digits_of n v) (omega arith) ∙ value_of-digits n v in
+    let both : v % (10 * 10 ^ n) ≡ c * 10 ^ n + v % 10 ^ n = mod-mul v (omega arith) (power_some 10 n (omega arith)) in
+    rw (code, low, pow-succ', both) refl
+
+-- ten to the power of 32 at most has room in 128 bits
+pub power_fits : (n : ℕ) → n ≤ 32 → 10 ^ n < 2 ^ 128
+power_fits n few =
+    let power : 10 ^ n ≤ 10 ^ 32 = pow-le-pow_right {n = 10} (lit< tt) few in
+    omega arith
+
+pub power_above_zero : (n : ℕ) → 0 < 10 ^ n
+power_above_zero n = power_some 10 n (omega arith)
+
+powers_of_places : (place : ℕ) → place < 32 → 10 ^ 32 ≡ 10 ^ (32 - place) * 10 ^ place
+powers_of_places place few =
+    let whole : 32 ≡ 32 - place + place = omega arith in
+    let P : ℕ → Type 0 = λ n. 10 ^ n ≡ 10 ^ (32 - place) * 10 ^ place in
+    subst P (sym whole) (pow-add 10 (32 - place) place)
+
+scaled_mod : (m r w : ℕ) → 0 < r → 0 < w → m % r * w ≡ m * w % (r * w)
+scaled_mod m r w some more = rw (mod-mul (m * w) some more, mul-div_cancel m more, mul-mod_left m w) (omega arith)
+
+-- what stays of a number that is moved to a place, and whether digits are lost
+pub placed : (m place : ℕ) → place < 32 → m % 10 ^ (32 - place) * 10 ^ place ≡ m * 10 ^ place % 10 ^ 32
+placed m place few =
+    rw (powers_of_places place few) (scaled_mod m (10 ^ (32 - place)) (10 ^ place) (power_above_zero (32 - place)) (power_above_zero place))
+
+scaled_le : (r m w : ℕ) → 0 < w → leb r m ≡ leb (r * w) (m * w)
+scaled_le r m w some =
+    let up : r ≤ m → r * w ≤ m * w = λ h. mul-le-mul_right w h in
+    let down : m < r → m * w < r * w = λ h. mul-lt-mul_of_pos_right h some in
+    grind (arith, nat_tests)
+
+pub lost_place : (m place : ℕ) → place < 32 → leb (10 ^ (32 - place)) m ≡ leb (10 ^ 32) (m * 10 ^ place)
+lost_place m place few = rw (powers_of_places place few) (scaled_le (10 ^ (32 - place)) m (10 ^ place) (power_above_zero place))
+
+-- what a power of ten asks for, and what moving to a place does
+pub ruleset power_rules = (power_fits, power_above_zero)
+
+pub ruleset place_rules = (placed, lost_place)

@@ -1,0 +1,16 @@
+-- Decimal digits: codes of four bits, the digit of place 0 rightmost.
+use Rattle.std.specs.Prelude.{ℕ, zero, suc, ◌+◌, ◌*◌, ◌/◌, ◌%◌, ◌^◌}
+
+-- the code of the digit at a place
+abbrev pub code_at : ℕ → ℕ → ℕ
+code_at digits place = digits / 16 ^ place % 16
+
+-- the value of the n lowest digits: the sum of code times 10 ^ place
+unfoldable pub value_of : ℕ → ℕ → ℕ
+value_of zero digits = 0
+value_of (suc n) digits = code_at digits n * 10 ^ n + value_of n digits
+
+-- the n lowest decimal digits of a number
+unfoldable pub digits_of : ℕ → ℕ → ℕ
+digits_of zero number = 0
+digits_of (suc n) number = number / 10 ^ n % 10 * 16 ^ n + digits_of n number

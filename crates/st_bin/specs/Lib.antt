@@ -1,0 +1,5 @@
+pub mod Indicators
+pub mod Numbers
+pub mod BinaryOperand
+pub mod Digits
+pub mod BinaryResult

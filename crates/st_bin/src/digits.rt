@@ -1,0 +1,32 @@
+ghost use Rattle.std.specs.Prelude.{◌≡◌, ◌<◌, ◌^◌};
+ghost use Rattle.st_bin.specs.Digits.{value_of, digits_of};
+
+/// The value of 32 decimal digits of four bits each, codes 10 to 15 counted as such.
+pub fn digits_value(digits: u128) -> u128
+    ensures value { result ≡ value_of 32 digits }
+{
+    let mut value = 0;
+    let mut rest = digits;
+    let mut weight = 1;
+    for _place in 0..32u32 {
+        value += rest % 16 * weight;
+        rest /= 16;
+        weight *= 10;
+    }
+    value
+}
+
+/// The 32 decimal digits of a number below 10^32, four bits each.
+pub fn to_digits(value: u128) -> u128
+    requires { value < 10 ^ 32 }
+    ensures digits { result ≡ digits_of 32 value }
+    ensures value { value_of 32 result ≡ value }
+{
+    let mut digits = 0;
+    let mut rest = value;
+    for place in 0..32u32 {
+        digits += rest % 10 << (4 * place);
+        rest /= 10;
+    }
+    digits
+}

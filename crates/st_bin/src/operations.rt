@@ -1,0 +1,59 @@
+ghost use Rattle.std.specs.Prelude.{◌≡◌, ◌<◌, ◌^◌, IfSome};
+ghost use Rattle.st_bin.specs.BinaryOperand.{IsShape, HasRoom};
+ghost use Rattle.st_bin.specs.BinaryResult.{result as binary_result, result_of};
+
+use crate::accumulator::Acc;
+use crate::compares::{
+    compare, compare_field, compare_field_if_equal, compare_field_range, compare_if_equal,
+    compare_range,
+};
+use crate::conversion::load_converted;
+use crate::fields::{Field, Shape, read_field};
+use crate::loads::{load, load_factor, load_transit, load_with_flags};
+use crate::outcome::Done;
+use crate::products::{divide, multiply, multiply_and_add};
+use crate::stores::store;
+use crate::sums::{add, add_one_to_field, add_to_field, add_to_field_magnitude, add_to_magnitude};
+use st_bits::VflOp;
+
+/// What an operation makes of the accumulator and a field that was read.
+fn perform(op: VflOp, acc: &Acc, f: &Field, shape: &Shape, ft: u64, ind: u64) -> Done
+    requires shape { IsShape shape.now }
+    requires room { HasRoom f.now shape.now }
+    ensures { result ≡ result_of op acc.now f.now shape.now ft ind }
+{
+    match op {
+        VflOp::L => load(f, shape),
+        VflOp::Lwf => load_with_flags(f, shape),
+        VflOp::Ltrs => load_transit(acc, f, shape),
+        VflOp::Lft => load_factor(acc, f, shape),
+        VflOp::St => store(acc, shape),
+        VflOp::Add => add(acc, f, shape),
+        VflOp::AddMg => add_to_magnitude(acc, f, shape),
+        VflOp::MAdd => add_to_field(acc, f, shape),
+        VflOp::MAddMg => add_to_field_magnitude(acc, f, shape),
+        VflOp::MAdd1 => add_one_to_field(acc, f, shape),
+        VflOp::K => compare(acc, f, shape),
+        VflOp::Kf => compare_field(acc, f, shape),
+        VflOp::Ke => compare_if_equal(acc, f, shape, ind),
+        VflOp::Kfe => compare_field_if_equal(acc, f, shape, ind),
+        VflOp::Kr => compare_range(acc, f, shape, ind),
+        VflOp::Kfr => compare_field_range(acc, f, shape, ind),
+        VflOp::Mul => multiply(acc, f, shape),
+        VflOp::MulAdd => multiply_and_add(acc, f, shape, ft),
+        VflOp::Div => divide(acc, f, shape),
+        VflOp::Lcv => load_converted(f, shape),
+    }
+}
+
+/// What a binary operation makes of the accumulator, of a field with the bits `bits`, below 2^length, of the factor
+/// register `ft` and of the indicators `ind`. The shape is that of a binary instruction.
+#[tactic(auto, unfolding(crate::specs::BinaryResult::result))]
+pub fn binary(op: VflOp, acc: &Acc, bits: u64, shape: &Shape, ft: u64, ind: u64) -> Done
+    requires shape { IsShape shape.now }
+    requires fits { bits < 2 ^ shape.now.length }
+    ensures done { result ≡ binary_result op acc.now bits shape.now ft ind }
+    ensures field { IfSome result.field (λ x. x < 2 ^ shape.now.length) }
+{
+    perform(op, acc, &read_field(bits, shape), shape, ft, ind)
+}

@@ -1,0 +1,78 @@
+ghost use Rattle.std.specs.Prelude.{◌≡◌, ◌<◌, ◌^◌};
+ghost use Rattle.st_bin.specs.BinaryOperand.{IsShape, HasRoom};
+ghost use Rattle.st_bin.specs.BinaryResult.{multiplied as multiplied_of, product, product_added, divided};
+
+use crate::accumulator::{Acc, number, with_number};
+use crate::fields::{Field, Shape, is_minus};
+use crate::indicators::{ZERO_DIVISOR, flag_indicators, lost_carry, partial_field};
+use crate::operand::{operand, shift};
+use crate::outcome::{Done, done_with, in_accumulator};
+use crate::signed::{Signed, add, exactly_one, exceeds, low_bits};
+use st_bits::Ind;
+
+/// A product or quotient goes to the accumulator: minus where exactly one of accumulator and operand is minus.
+fn multiplied(acc: &Acc, f: &Field, shape: &Shape, mag: u128, on: u64) -> Done
+    requires { on < 2 ^ 63 }
+    ensures { result ≡ multiplied_of acc.now f.now shape.now mag on }
+{
+    let number = Signed {
+        negative: exactly_one(is_minus(acc.sb), operand(f, shape).negative),
+        mag,
+    };
+    in_accumulator(with_number(acc, number), on)
+}
+
+/// Multiply: 64 bits of the accumulator from the offset on times the operand.
+#[tactic(auto, unfolding(crate::specs::BinaryResult::product))]
+pub fn multiply(acc: &Acc, f: &Field, shape: &Shape) -> Done
+    requires shape { IsShape shape.now }
+    requires room { HasRoom f.now shape.now }
+    ensures { result ≡ product acc.now f.now shape.now }
+{
+    let factor = acc.mag >> shape.offset;
+    let mag = u128::from(low_bits(factor, 64)) * u128::from(f.mag);
+    let on = flag_indicators(f.flags) + partial_field(exceeds(factor, 64));
+    multiplied(acc, f, shape, mag, on)
+}
+
+/// Multiply and add: the factor register times the operand at the offset is added to the accumulator.
+#[tactic(auto, unfolding(crate::specs::BinaryResult::product_added))]
+pub fn multiply_and_add(acc: &Acc, f: &Field, shape: &Shape, ft: u64) -> Done
+    requires shape { IsShape shape.now }
+    requires room { HasRoom f.now shape.now }
+    ensures { result ≡ product_added acc.now f.now shape.now ft }
+{
+    let (mag, is_lost) = shift(u128::from(ft) * u128::from(f.mag), shape.offset);
+    let product = Signed {
+        mag,
+        ..operand(f, shape)
+    };
+    let sum = add(number(acc), product);
+    let on = flag_indicators(f.flags) + lost_carry(is_lost || sum.carry);
+    in_accumulator(with_number(acc, sum.number), on)
+}
+
+/// Divide: the quotient of the accumulator from the offset on goes to the accumulator, the remainder to its register.
+/// A zero divisor turns on ZD, and nothing else changes.
+#[tactic(auto, unfolding(crate::specs::BinaryResult::divided))]
+pub fn divide(acc: &Acc, f: &Field, shape: &Shape) -> Done
+    requires shape { IsShape shape.now }
+    requires room { HasRoom f.now shape.now }
+    ensures { result ≡ divided acc.now f.now shape.now }
+{
+    if f.mag == 0 {
+        return done_with(
+            acc,
+            Ind {
+                on: ZERO_DIVISOR,
+                off: 0,
+            },
+        );
+    }
+    let dividend = acc.mag >> shape.offset;
+    let divisor = u128::from(f.mag);
+    Done {
+        rm: Some((dividend % divisor) as u64),
+        ..multiplied(acc, f, shape, dividend / divisor, flag_indicators(f.flags))
+    }
+}

@@ -1,0 +1,11 @@
+//! Connectives: logic on a field and the accumulator, and the accumulator with a result put into it.
+#![tactic(auto)]
+
+mod logic;
+mod placement;
+
+pub use logic::{Conn, connect};
+pub use placement::put_acc;
+
+#[cfg(test)]
+mod tests;

@@ -1,0 +1,108 @@
+ghost use Rattle.std.specs.Prelude.{◌≡◌, ℕ, ◌+◌, ◌*◌, ◌%◌, ◌<◌, ◌≤◌, ◌^◌, sum};
+ghost use Rattle.std.specs.Int.{bit_at};
+ghost use Rattle.st_bits.specs.Bits.{bits as bits_of, num};
+ghost use Rattle.st_conn.specs.Connective.{connected, entry, leading_zeros};
+
+/// The result of a connective on n positions.
+#[derive(Clone, Copy, Debug, PartialEq, Eq)]
+pub struct Conn {
+    /// The n result bits as a number, below 2^n.
+    pub bits: u64,
+    /// How many zeros the n result bits begin with: n where all are zero.
+    pub lzc: u8,
+    /// How many of the n result bits are ones.
+    pub aoc: u8,
+}
+
+/// The connective `table` of a field of `n` bits, 1 to 64, and the accumulator. The bits of value 8, 4, 2 and 1 of
+/// `table`, below 16, are the results where the field's bit and the accumulator's are 00, 01, 10 and 11. The field's
+/// bit of weight j meets the accumulator's bit of weight `offset` + j, which is zero past weight 127. `offset` is 0 to
+/// 127, and `field` below 2^n.
+pub fn connect(table: u8, acc: u128, offset: u8, field: u64, n: u8) -> Conn
+    requires table { table < 16 }
+    requires offset { offset ≤ 127 }
+    requires some { 1 ≤ n }
+    requires few { n ≤ 64 }
+    requires fits { field < 2 ^ n }
+    ensures bits { result.bits ≡ num (connected table acc offset field n) }
+    ensures zeros { result.lzc ≡ leading_zeros (connected table acc offset field n) }
+    ensures ones { result.aoc ≡ sum (connected table acc offset field n) }
+
+    ensures bits_bound { result.bits < 2 ^ n }
+    ensures zeros_bound { result.lzc ≤ n }
+    ensures ones_bound { result.aoc ≤ n }
+{
+    let bits = results(table, acc, offset, field, n);
+    Conn {
+        bits,
+        lzc: zeros_of(bits, n),
+        aoc: ones_of(bits, n),
+    }
+}
+
+/// The `n` result bits as a number.
+fn results(table: u8, acc: u128, offset: u8, field: u64, n: u8) -> u64
+    requires offset { offset ≤ 127 }
+    requires some { 1 ≤ n }
+    requires few { n ≤ 64 }
+    ensures each { bits_of n result ≡ connected table acc offset field n }
+    ensures bound { result < 2 ^ n }
+{
+    low_bits(combined(table, field, bits_from(acc, offset)), n)
+}
+
+/// The 64 bits of the accumulator from weight `offset` on.
+fn bits_from(acc: u128, offset: u8) -> u64
+    requires { offset ≤ 127 }
+    ensures { (j : ℕ) → j < 64 → bit_at result j ≡ bit_at acc (offset + j) }
+{
+    (acc >> offset & u128::from(u64::MAX)) as u64
+}
+
+/// The results of a truth table at 64 positions, one row of the table for each pair of bits.
+fn combined(table: u8, field: u64, acc: u64) -> u64
+    ensures { (j : ℕ) → j < 64 → bit_at result j ≡ entry table (bit_at field j) (bit_at acc j) }
+{
+    selected(table, 3, !field & !acc)
+        | selected(table, 2, !field & acc)
+        | selected(table, 1, field & !acc)
+        | selected(table, 0, field & acc)
+}
+
+/// All the positions where the table's bit of weight `row` is a one, else none of them.
+fn selected(table: u8, row: u8, positions: u64) -> u64
+    requires { row < 8 }
+    ensures { result ≡ bit_at table row * positions }
+{
+    u64::from(table >> row & 1) * positions
+}
+
+/// The `n` bits of lowest weight.
+fn low_bits(bits: u64, n: u8) -> u64
+    requires some { 1 ≤ n }
+    requires few { n ≤ 64 }
+    ensures value { result ≡ bits % 2 ^ n }
+    ensures bound { result < 2 ^ n }
+{
+    bits & u64::MAX >> (64 - n)
+}
+
+/// How many zeros a number of `n` bits begins with.
+fn zeros_of(bits: u64, n: u8) -> u8
+    requires few { n ≤ 64 }
+    requires fits { bits < 2 ^ n }
+    ensures zeros { result ≡ leading_zeros (bits_of n bits) }
+    ensures bound { result ≤ n }
+{
+    (bits.leading_zeros() - (64 - u32::from(n))) as u8
+}
+
+/// How many ones a number of `n` bits has.
+fn ones_of(bits: u64, n: u8) -> u8
+    requires few { n ≤ 64 }
+    requires fits { bits < 2 ^ n }
+    ensures ones { result ≡ sum (bits_of n bits) }
+    ensures bound { result ≤ n }
+{
+    bits.count_ones() as u8
+}

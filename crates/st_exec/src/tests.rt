@@ -1,0 +1,90 @@
+ghost use Rattle.std.specs.Prelude.{◌≡◌, ℕ, length, slice_index, IfOk};
+
+use super::*;
+use st_bits::WORDS;
+use st_state::State;
+use std::alloc::{AllocError, Global};
+use std::test::Fail;
+
+/// `LVI,$X1,100.0` in a left half, and `BEW` in a right one.
+const LOAD: u64 = 0x0019_0300_0000_0000;
+
+const WAIT: u64 = 0x0000_0000_0000_0970;
+
+/// A list of `n` words with no bit that is one.
+fn zeros(alloc: Global, n: usize) -> Result<Vec<u64>, AllocError>
+    ensures size { IfOk result (λ v. length v.items ≡ n) }
+    ensures zeros { IfOk result (λ v. (w : ℕ) → slice_index v.items w ≡ 0) }
+{
+    vec![in alloc; 0; n]
+}
+
+/// The state that a blank image opens with, its counter at the left half of word 32.
+fn opened(alloc: Global) -> Result<State, Fail>
+    ensures { IfOk result (λ s. s.done ≡ 0) }
+{
+    let image = zeros(alloc, WORDS as usize)?;
+    let Ok(state) = State::new(alloc, &image, 64) else {
+        return Err(Fail::from(AllocError));
+    };
+    Ok(state)
+}
+
+#[test]
+fn a_load_and_then_a_wait(rt: HostRuntime) -> Result<(), Fail> {
+    let mut state = opened(rt.alloc())?;
+    state.store(32, LOAD + WAIT);
+
+    assert_eq!(rt; one(&mut state), Step::Plain);
+    assert_eq!(rt; (state.ic, state.done, state.enabled), (65, 1, false));
+    assert_eq!(rt; state.word(17), 0x0019_0000_0000_0000);
+    assert_eq!(rt; state.word(11), 0x9000, "XCZ and XVGZ");
+
+    assert_eq!(rt; one(&mut state), Step::Plain);
+    assert_eq!(rt; (state.ic, state.done, state.enabled), (66, 2, true));
+    assert!(rt; is_at_rest(&state));
+
+    assert_eq!(rt; one(&mut state), Step::Waits);
+    assert_eq!(rt; (state.ic, state.done, state.waiting), (66, 2, true));
+    Ok(())
+}
+
+#[test]
+fn an_interrupt_ends_a_wait_and_executes_one_instruction_of_the_table(
+    rt: HostRuntime,
+) -> Result<(), Fail> {
+    let mut state = opened(rt.alloc())?;
+    state.store(2, 0x000C_8000_0000_0000);
+    state.store(63, LOAD);
+    state.waiting = true;
+    state.signal(13);
+    assert_eq!(rt; interrupt(&state), None, "interrupts are disabled");
+
+    state.enabled = true;
+    assert_eq!(rt; interrupt(&state), Some(13));
+    assert_eq!(rt; one(&mut state), Step::Interrupt { indicator: 13 });
+    assert_eq!(rt; (state.ic, state.done, state.waiting), (64, 1, false));
+    assert_eq!(rt; state.word(17), 0x0019_0000_0000_0000);
+    assert_eq!(rt; state.word(11), 0x9000, "indicator 13 is off");
+    Ok(())
+}
+
+#[test]
+fn what_is_not_executed_turns_on_one_indicator(rt: HostRuntime) -> Result<(), Fail> {
+    for (ic, bounds, indicators, after) in [
+        (64, 0, 0x0001_0000_0000_0000, 65),
+        (63, 0, 0x0000_8000_0000_0000, 64),
+        (196_608, 0, 0x0000_8000_0000_0000, 196_609),
+        (524_287, 0, 0x0000_8000_0000_0000, 0),
+        (65, 0x0008_4000_0008_0000, 0x0000_0400_0000_0000, 66),
+    ] {
+        let mut state = opened(rt.alloc())?;
+        state.ic = ic;
+        state.store(3, bounds);
+        state.enabled = true;
+        assert_eq!(rt; one(&mut state), Step::Plain);
+        assert_eq!(rt; state.word(11), indicators, "at {ic}");
+        assert_eq!(rt; (state.ic, state.done), (after, 1));
+    }
+    Ok(())
+}

@@ -1,0 +1,10 @@
+pub mod AddressBounds
+pub mod ChangeLemmas
+pub mod Choices
+pub mod ForbiddenRuns
+pub mod IndexWords
+pub mod OutcomeLemmas
+pub mod PreparedLemmas
+pub mod RunLemmas
+pub mod FetchLemmas
+pub mod PlanLemmas

@@ -1,0 +1,86 @@
+-- The checks before an instruction is executed: the first that fails suppresses it.
+use Rattle.std.specs.Prelude.{ℕ, zero, suc, ◌+◌, ◌/◌, Bool, true, false, not, ◌&&◌, ◌==◌, nat_lt, nat_le, if◌then◌else◌, List, Option, None, Some, unwrap_or}
+use Rattle.std.specs.Option.{option_or}
+use Rattle.st_bits.specs.Bits.{part}
+use Rattle.st_format.specs.declared.instruction.Instr.{Instr}
+use Rattle.st_format.specs.declared.instruction.Instr.TheVariants.{Transfer}
+use Rattle.st_format.specs.Formats.{is_valid}
+use Rattle.st_state.specs.Boundary.{is_invalid, is_between, address_invalid, protected}
+use Rattle.st_state.specs.declared.protection.Access.{Access}
+use Rattle.st_state.specs.declared.protection.Access.TheVariants.{Read, Write}
+use Rattle.st_prep.specs.declared.entries.Fetched.{Fetched}
+use Rattle.st_prep.specs.declared.entries.Words.{Words}
+use Rattle.st_prep.specs.EarlyChange.{effective, side}
+use Rattle.st_prep.specs.Entry.{reads, writes}
+use Rattle.st_prep.specs.Fetch.{is_execute}
+
+-- the instruction that is executed: the target of EX, or else the instruction itself
+unfoldable pub executed : Fetched → Instr
+executed f = (unwrap_or f.target f.instr).instr
+
+-- ---- forbidden words
+
+-- the indicator that forbids the access, by word 3 and the mark
+unfoldable pub forbidden_by : ℕ → Bool → Access → ℕ → Option ℕ
+forbidden_by bounds enabled access w =
+    if is_invalid access w then Some address_invalid
+    else if enabled && nat_le 32 w
+    && (if part bounds 57 1 == 0 then is_between bounds w else not (is_between bounds w))
+    then Some (protected access)
+    else None
+
+-- the same of the first of n words that may not be accessed
+unfoldable pub forbidden_run : ℕ → Bool → Access → ℕ → ℕ → Option ℕ
+forbidden_run bounds enabled access w zero = None
+forbidden_run bounds enabled access w (suc n) =
+    option_or (forbidden_by bounds enabled access w) (forbidden_run bounds enabled access (w + 1) n)
+
+unfoldable pub forbidden_words : ℕ → Bool → Access → Words → Option ℕ
+forbidden_words bounds enabled access w =
+    option_or (forbidden_run bounds enabled access w.first w.len)
+    (forbidden_run bounds enabled access w.first2 w.len2)
+
+unfoldable pub forbidden_side : ℕ → Bool → Option ℕ → Option ℕ
+forbidden_side bounds enabled None = None
+forbidden_side bounds enabled (Some w) = forbidden_by bounds enabled Read w
+
+-- the area of an order is eight words, none of them a register; the printer reads it and the reader writes it
+abbrev pub area_access : Bool → Access
+area_access false = Write
+area_access true = Read
+
+unfoldable pub forbidden_area : ℕ → Bool → Instr → ℕ → Option ℕ
+forbidden_area bounds enabled (Transfer write address i count) e =
+    if nat_lt (e / 64) 32 then Some address_invalid
+    else forbidden_run bounds enabled (area_access write) (e / 64) 8
+forbidden_area bounds enabled _ e = None
+
+-- ---- the checks
+
+-- the machine does not have the instruction
+abbrev pub operation_invalid : ℕ
+operation_invalid = 15
+
+-- EX points to EX
+abbrev pub execute_exception : ℕ
+execute_exception = 18
+
+unfoldable pub operation_fault : Instr → Option ℕ
+operation_fault instr =
+    if not (is_valid instr) then Some operation_invalid
+    else if is_execute instr then Some execute_exception
+    else None
+
+-- the indicator of the first check that fails: the instruction's words and those of the target of EX, the operation,
+-- EX of EX, the index-side word, each word read, each word written, the area of an order (which reads and writes no
+-- other words)
+unfoldable pub fault : Fetched → List ℕ → ℕ → Bool → Option ℕ
+fault f x bounds enabled =
+    let instr = executed f in
+    let e = effective x instr in
+    option_or f.fault
+    (option_or (operation_fault instr)
+    (option_or (forbidden_side bounds enabled (side x instr e))
+    (option_or (forbidden_words bounds enabled Read (reads instr e))
+    (option_or (forbidden_words bounds enabled Write (writes instr e))
+    (forbidden_area bounds enabled instr e)))))

@@ -1,0 +1,178 @@
+-- What an instruction is as an entry of the machine's order: the words that it reads and writes, the counter after it,
+-- what it stores of an index word, its cost, and whether it is done alone.
+use Rattle.std.specs.Prelude.{ℕ, ◌+◌, ◌/◌, ◌%◌, ◌^◌, Bool, true, false, not, ◌==◌, ◌&&◌, ◌||◌, nat_lt, nat_le, if◌then◌else◌, List, slice_index, Option, None, Some}
+use Rattle.st_bits.specs.Bits.{part}
+use Rattle.st_bits.specs.IndexWord.{count_of, refill_of}
+use Rattle.st_bits.specs.declared.operations.HalfOp.{HalfOp}
+use Rattle.st_bits.specs.declared.operations.HalfOp.TheVariants.{Sx, Sv, Sc, Sr, Sva, Cb, Cbr}
+use Rattle.st_bits.specs.declared.operations.BranchOp.{BranchOp}
+use Rattle.st_bits.specs.declared.operations.BranchOp.TheVariants.{B, Br, Be, Bd, Bew, Nop}
+use Rattle.st_bits.specs.declared.operations.VflOp.{VflOp}
+use Rattle.st_bits.specs.declared.operations.VflOp.TheVariants.{St, Mul, MulAdd, Div, Lcv}
+use Rattle.st_format.specs.declared.operations.FullOp.TheVariants.{Variable, Connective}
+use Rattle.st_format.specs.declared.instruction.Instr.{Instr}
+use Rattle.st_format.specs.declared.instruction.Instr.TheVariants.{Half, Branch, Vfl, Connect, Move, BitBranch, StoreCounter, Transfer}
+use Rattle.st_format.specs.Operations.{writes_field}
+use Rattle.st_index.specs.IndexChange.{one_less}
+use Rattle.st_prep.specs.declared.entries.Place.{Place}
+use Rattle.st_prep.specs.declared.entries.Words.{Words}
+
+-- ---- the words that are read and written
+
+-- no words; the n words from word w on; the same and then the n words from word v on
+abbrev pub no_words : Words
+no_words = record { first = 0; len = 0; first2 = 0; len2 = 0 }
+
+abbrev pub one_run : ℕ → ℕ → Words
+one_run w n = record { first = w; len = n; first2 = 0; len2 = 0 }
+
+abbrev pub two_runs : ℕ → ℕ → ℕ → Words
+two_runs w v n = record { first = w; len = n; first2 = v; len2 = n }
+
+-- the one or two words that the n bits from bit e on touch
+unfoldable pub field_words : ℕ → ℕ → Words
+field_words e n = one_run (e / 64) (if nat_le (e % 64 + n) 64 then 1 else 2)
+
+-- an operand in the address is no word
+abbrev pub operand_words : ℕ → ℕ → ℕ → Words
+operand_words p e n = if p == 1 then no_words else field_words e n
+
+-- the words of a transmission
+abbrev pub words_read : Bool → ℕ → ℕ → ℕ → Words
+words_read false from to n = one_run from n
+words_read true from to n = two_runs from to n
+
+abbrev pub words_written : Bool → ℕ → ℕ → ℕ → Words
+words_written false from to n = one_run to n
+words_written true from to n = two_runs from to n
+
+-- the operations that store index word J or parts of it
+abbrev pub is_index_store : HalfOp → Bool
+is_index_store Sx = true
+is_index_store Sv = true
+is_index_store Sc = true
+is_index_store Sr = true
+is_index_store Sva = true
+is_index_store _ = false
+
+-- ST does not read its field
+abbrev pub reads_field : VflOp → Bool
+reads_field St = false
+reads_field _ = true
+
+-- the words that an instruction with the effective address e reads, in order
+unfoldable pub reads : Instr → ℕ → Words
+reads (Vfl op d u n p length byte offset address i) e = if reads_field op then operand_words p e length else no_words
+reads (Connect kind table p length byte offset address i) e = operand_words p e length
+reads (Move swap address i second count) e = words_read swap (e / 64) (second / 2) count
+reads (BitBranch sense change address i second) e = one_run (e / 64) 1
+reads _ e = no_words
+
+-- the words that it writes, in order
+unfoldable pub writes : Instr → ℕ → Words
+writes (Half op address j i) e = if is_index_store op then one_run (e / 64) 1 else no_words
+writes (Vfl op d u n p length byte offset address i) e =
+    if writes_field (Variable op) then field_words e length else no_words
+writes (Connect kind table p length byte offset address i) e =
+    if writes_field (Connective kind) then field_words e length else no_words
+writes (Move swap address i second count) e = words_written swap (e / 64) (second / 2) count
+writes (BitBranch sense change address i second) e = if change == 0 then no_words else one_run (e / 64) 1
+writes (StoreCounter address i second) e = one_run (e / 64) 1
+writes _ e = no_words
+
+-- ---- the counter
+
+-- the following instruction: n half-words on, or the counter as it stands after a table instruction
+abbrev pub next_by : Option ℕ → ℕ → ℕ → ℕ
+next_by None counter n = (counter + n) % 2 ^ 19
+next_by (Some _) counter n = counter
+
+unfoldable pub next : Place → ℕ → ℕ
+next place n = next_by place.table place.counter n
+
+-- a count branches until it falls to zero; x is index word J before
+abbrev pub after_count : ℕ → ℕ → ℕ → ℕ
+after_count x e following = if one_less (count_of x) == 0 then following else e / 32
+
+abbrev pub after_half : HalfOp → ℕ → ℕ → ℕ → ℕ
+after_half Cb x e following = after_count x e following
+after_half Cbr x e following = after_count x e following
+after_half _ x e following = following
+
+-- BR adds to the counter before the instruction
+abbrev pub after_branch : BranchOp → ℕ → ℕ → ℕ → ℕ
+after_branch B counter e following = e / 32
+after_branch Br counter e following = (counter + e / 32) % 2 ^ 19
+after_branch Be counter e following = e / 32
+after_branch Bd counter e following = e / 32
+after_branch Bew counter e following = following
+after_branch Nop counter e following = following
+
+-- the counter after an instruction, given the counter before it and the following instruction; the branches on a
+-- bit and on an indicator are decided only when the instruction is completed
+unfoldable pub after : Instr → List ℕ → ℕ → ℕ → ℕ → ℕ
+after (Half op address j i) x e counter following = after_half op (slice_index x j) e following
+after (Branch op address i) x e counter following = after_branch op counter e following
+after (StoreCounter address i second) x e counter following = second
+after _ x e counter following = following
+
+-- ---- what is stored
+
+-- the word, or the part of index word J, that an index store writes
+abbrev pub stored_part : HalfOp → ℕ → ℕ
+stored_part Sx x = x
+stored_part Sv x = part x 0 25
+stored_part Sc x = count_of x
+stored_part Sr x = refill_of x
+stored_part Sva x = part x 0 19
+stored_part _ x = 0
+
+-- the same of any instruction; SIC stores the address of the following one
+unfoldable pub value : Instr → List ℕ → ℕ → ℕ
+value (Half op address j i) x following = stored_part op (slice_index x j)
+value (StoreCounter address i second) x following = following
+value _ x following = 0
+
+-- ---- the cost, in ticks
+
+abbrev pub binary_cost : VflOp → ℕ
+binary_cost Mul = 12
+binary_cost MulAdd = 12
+binary_cost Div = 24
+binary_cost Lcv = 24
+binary_cost _ = 2
+
+abbrev pub decimal_cost : VflOp → ℕ
+decimal_cost Lcv = 24
+decimal_cost _ = 4
+
+unfoldable pub cost : Instr → ℕ
+cost (Vfl op d u n p length byte offset address i) = if d then decimal_cost op else binary_cost op
+cost (Connect kind table p length byte offset address i) = 2
+cost (Move swap address i second count) = count
+cost _ = 1
+
+-- ---- entries that are done alone
+
+-- the operations of which each is
+abbrev pub is_alone_branch : BranchOp → Bool
+is_alone_branch Be = true
+is_alone_branch Bd = true
+is_alone_branch Bew = true
+is_alone_branch _ = false
+
+unfoldable pub acts_alone : Instr → Bool
+acts_alone (Branch op address i) = is_alone_branch op
+acts_alone (Move swap address i second count) = true
+acts_alone (BitBranch sense change address i second) = true
+acts_alone (StoreCounter address i second) = true
+acts_alone (Transfer write address i count) = true
+acts_alone _ = false
+
+-- a register is among the words
+unfoldable pub has_register : Words → Bool
+has_register w = (not (w.len == 0) && nat_lt w.first 32) || (not (w.len2 == 0) && nat_lt w.first2 32)
+
+abbrev pub is_register : Option ℕ → Bool
+is_register None = false
+is_register (Some w) = nat_lt w 32

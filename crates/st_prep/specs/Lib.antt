@@ -1,0 +1,6 @@
+pub mod EarlyChange
+pub mod Entry
+pub mod Fetch
+pub mod Checks
+pub mod Ranges
+pub mod Plan

@@ -1,0 +1,125 @@
+-- What holds of places, of what is fetched, and of each prepared entry.
+use Rattle.std.specs.Prelude.{ℕ, ◌≡◌, ◌+◌, ◌/◌, ◌<◌, ◌≤◌, ◌^◌, true, false, None, IfSome}
+use Rattle.st_bits.specs.Storage.{words_of_storage}
+use Rattle.st_bits.specs.declared.operations.HalfOp.{HalfOp}
+use Rattle.st_bits.specs.declared.operations.HalfOp.TheVariants.{Sx, Sv, Sc, Sr, Sva}
+use Rattle.st_format.specs.declared.instruction.Instr.{Instr}
+use Rattle.st_format.specs.declared.instruction.Instr.TheVariants.{Half, StoreCounter, Transfer, Invalid}
+use Rattle.st_format.specs.Formats.{IsShape, is_valid}
+use Rattle.st_prep.specs.declared.entries.Place.{Place}
+use Rattle.st_prep.specs.declared.entries.Fetched.{Fetched}
+use Rattle.st_prep.specs.declared.fetching.Found.{Found}
+use Rattle.st_prep.specs.declared.entries.Needs.{Needs}
+use Rattle.st_prep.specs.declared.entries.Words.{Words}
+use Rattle.st_prep.specs.declared.entries.IndexChange.{IndexChange}
+use Rattle.st_prep.specs.declared.entries.Prepared.{Prepared}
+use Rattle.st_prep.specs.Entry.{no_words, reads, writes}
+
+-- the counter and the address are half-word addresses, and the indicator is one
+pub record IsPlace (p : Place) : Type 0 where
+  pub counter : p.counter < 2 ^ 19
+  pub address : p.address < 2 ^ 19
+  pub table : IfSome p.table (λ i. i < 64)
+
+-- the fields of an instruction are those that bits spell; of bits that spell none nothing is said
+abbrev pub HasFields : Instr → Type 0
+HasFields (Invalid first second full) = Unit {0}
+HasFields instr = IsShape instr
+
+-- an instruction, and an indicator
+pub record IsFound (f : Found) : Type 0 where
+  pub shape : HasFields f.decoded.instr
+  pub fault : IfSome f.fault (λ i. i < 64)
+
+-- the instructions have their fields, and the indicator is one
+pub record IsFetched (f : Fetched) : Type 0 where
+  pub own : HasFields f.instr.instr
+  pub target : IfSome f.target (λ d. HasFields d.instr)
+  pub fault : IfSome f.fault (λ i. i < 64)
+
+-- two runs of at most sixteen words, which start at word addresses
+pub record IsRuns (w : Words) : Type 0 where
+  pub start : w.first < 2 ^ 18
+  pub few : w.len ≤ 16
+  pub start2 : w.first2 < 2 ^ 18
+  pub few2 : w.len2 ≤ 16
+
+-- they lie in storage
+pub record AreInside (w : Words) : Type 0 where
+  pub inside : 1 ≤ w.len → w.first + w.len ≤ words_of_storage
+  pub inside2 : 1 ≤ w.len2 → w.first2 + w.len2 ≤ words_of_storage
+
+-- no register is among them
+pub record AreAbove (w : Words) : Type 0 where
+  pub above : 1 ≤ w.len → 32 ≤ w.first
+  pub above2 : 1 ≤ w.len2 → 32 ≤ w.first2
+
+-- the index word has a number, and the words before and after are words
+pub record IsChange (c : IndexChange) : Type 0 where
+  pub number : c.number < 16
+  pub kept : c.kept < 2 ^ 64
+  pub word : c.word < 2 ^ 64
+
+-- what an index store writes fits its part
+abbrev pub FitsPart : HalfOp → ℕ → Type 0
+FitsPart Sx v = v < 2 ^ 64
+FitsPart Sv v = v < 2 ^ 25
+FitsPart Sc v = v < 2 ^ 18
+FitsPart Sr v = v < 2 ^ 18
+FitsPart Sva v = v < 2 ^ 19
+FitsPart _ v = v ≡ 0
+
+-- only index stores and SIC store what is prepared
+abbrev pub IsStored : Instr → ℕ → Type 0
+IsStored (Half op address j i) v = FitsPart op v
+IsStored (StoreCounter address i second) v = v < 2 ^ 19
+IsStored _ v = v ≡ 0
+
+-- the area of an order lies in storage, above the registers
+abbrev pub HasRoom : Instr → ℕ → Type 0
+HasRoom (Transfer write address i count) e = (32 ≤ e / 64) × (e / 64 + 8 ≤ words_of_storage)
+HasRoom _ e = Unit {0}
+
+-- an entry that is not suppressed
+pub record IsEntry (p : Prepared) : Type 0 where
+  pub valid : is_valid p.instr ≡ true
+  pub reads : p.reads ≡ reads p.instr p.e
+  pub writes : p.writes ≡ writes p.instr p.e
+  pub area : HasRoom p.instr p.e
+
+-- a suppressed entry
+pub record IsSuppressed (p : Prepared) : Type 0 where
+  pub index : p.index ≡ None
+  pub indicator : p.ind.off ≡ 0
+  pub reads : p.reads ≡ no_words
+  pub writes : p.writes ≡ no_words
+  pub cost : p.cost ≡ 1
+
+-- an entry that is not done alone
+pub record IsAhead (p : Prepared) : Type 0 where
+  pub table : p.place.table ≡ None
+  pub reads : AreAbove p.reads
+  pub writes : AreAbove p.writes
+
+-- each entry that is prepared
+pub record IsPrepared (p : Prepared) : Type 0 where
+  pub place : IsPlace p.place
+  pub shape : HasFields p.instr
+  pub address : p.e < 2 ^ 24
+  pub following : p.following < 2 ^ 19
+  pub change : IfSome p.index IsChange
+  pub reads : IsRuns p.reads
+  pub reads_inside : AreInside p.reads
+  pub writes : IsRuns p.writes
+  pub writes_inside : AreInside p.writes
+  pub stored : IsStored p.instr p.value
+  pub some_cost : 1 ≤ p.cost
+  pub cost : p.cost ≤ 24
+  pub entry : p.suppressed ≡ false → IsEntry p
+  pub suppressed : p.suppressed ≡ true → IsSuppressed p
+  pub ahead : p.serial ≡ false → IsAhead p
+
+-- the index-side word lies in storage, and is no register where the entry is not done alone
+pub record IsNeeds (n : Needs) : Type 0 where
+  pub inside : IfSome n.index_read (λ w. w < words_of_storage)
+  pub above : n.serial ≡ false → IfSome n.index_read (λ w. 32 ≤ w)

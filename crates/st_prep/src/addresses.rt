@@ -1,0 +1,75 @@
+ghost use Rattle.std.specs.Prelude.{◌≡◌, ◌<◌, ◌^◌};
+ghost use Rattle.st_prep.specs.EarlyChange.{index_part as part_of, half_address as half_of, bit_address as bit_of, field_address as field_of, effective as effective_of};
+ghost use Rattle.st_prep.specs.Ranges.{HasFields};
+
+use st_format::Instr;
+use st_index::effective;
+
+/// Index word `i`, and zero where `i` is 0.
+#[tactic(auto, unfolding(crate::specs::EarlyChange::index_part))]
+fn index_part(x: &[u64; 16], i: u8) -> u64
+    requires { i < 16 }
+    ensures { result ≡ part_of x.now i }
+{
+    if i == 0 { 0 } else { x[i as usize] }
+}
+
+/// Where a half-word instruction points.
+#[tactic(auto, unfolding(crate::specs::EarlyChange::half_address))]
+fn half_address(x: &[u64; 16], address: u32, i: u8) -> u32
+    requires address { address < 2 ^ 19 }
+    requires index { i < 16 }
+    ensures value { result ≡ half_of x.now address i }
+    ensures bound { result < 2 ^ 24 }
+{
+    effective(32 * address, index_part(x, i))
+}
+
+/// Where a full-word instruction points.
+#[tactic(auto, unfolding(crate::specs::EarlyChange::bit_address))]
+fn bit_address(x: &[u64; 16], address: u32, i: u8) -> u32
+    requires address { address < 2 ^ 24 }
+    requires index { i < 16 }
+    ensures value { result ≡ bit_of x.now address i }
+    ensures bound { result < 2 ^ 24 }
+{
+    effective(address, index_part(x, i))
+}
+
+/// Where the field of an operation with the progressive form `p` begins.
+#[tactic(auto, unfolding(crate::specs::EarlyChange::field_address))]
+fn field_address(x: &[u64; 16], p: u8, address: u32, i: u8) -> u32
+    requires address { address < 2 ^ 24 }
+    requires index { i < 16 }
+    ensures value { result ≡ field_of x.now p address i }
+    ensures bound { result < 2 ^ 24 }
+{
+    if p < 2 {
+        bit_address(x, address, i)
+    } else {
+        effective(0, x[i as usize])
+    }
+}
+
+/// The effective address of an instruction.
+#[tactic(auto, unfolding(crate::specs::EarlyChange::effective))]
+pub fn effective_address(instr: Instr, x: &[u64; 16]) -> u32
+    requires { HasFields instr }
+    ensures value { result ≡ effective_of x.now instr }
+    ensures bound { result < 2 ^ 24 }
+{
+    match instr {
+        Instr::Half { address, i, .. }
+        | Instr::Branch { address, i, .. }
+        | Instr::Floating { address, i, .. } => half_address(x, address, i),
+        Instr::Vfl { p, address, i, .. } | Instr::Connect { p, address, i, .. } => {
+            field_address(x, p, address, i)
+        }
+        Instr::Move { address, i, .. }
+        | Instr::BitBranch { address, i, .. }
+        | Instr::IndBranch { address, i, .. }
+        | Instr::StoreCounter { address, i, .. }
+        | Instr::Transfer { address, i, .. } => bit_address(x, address, i),
+        Instr::Invalid { .. } => 0,
+    }
+}

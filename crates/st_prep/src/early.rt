@@ -1,0 +1,201 @@
+ghost use Rattle.std.specs.Prelude.{◌≡◌, ◌<◌, ◌^◌};
+ghost use Rattle.st_prep.specs.EarlyChange.{refill_word as refill_word_of, half_side as half_side_of, progressive_side as progressive_side_of, side as side_of};
+ghost use Rattle.st_prep.specs.EarlyChange.{unchanged, compared as compared_of, changed as changed_of, half_change as half_change_of, progressive_change as progressive_change_of, change as change_of};
+ghost use Rattle.st_prep.specs.Ranges.{HasFields};
+
+use crate::entries::IndexChange;
+use st_bits::{
+    HalfOp, Ind, count_of, part, refill_of, value_of, with_count, with_part, with_refill,
+    with_value,
+};
+use st_format::Instr;
+use st_index::{add_value, compare, count_down, index_result, progress, sum_values};
+
+/// What is changed before the operands are read.
+#[derive(Clone, Copy, Debug, PartialEq, Eq)]
+pub struct Early {
+    /// The index word that is changed, if one is.
+    pub index: Option<IndexChange>,
+    /// The indicators that are turned on and off.
+    pub ind: Ind,
+}
+
+/// The refill address of an index word, where its count became zero.
+#[tactic(auto, unfolding(crate::specs::EarlyChange::refill_word))]
+fn refill_word(y: u64) -> Option<u32>
+    ensures { result ≡ refill_word_of y }
+{
+    if count_of(y) == 0 {
+        Some(refill_of(y))
+    } else {
+        None
+    }
+}
+
+/// The index-side word of a half-word instruction with the effective address `e`, `x` being index word J.
+#[tactic(auto, unfolding(crate::specs::EarlyChange::half_side))]
+fn half_side(op: HalfOp, x: u64, e: u32) -> Option<u32>
+    requires { e < 2 ^ 24 }
+    ensures { result ≡ half_side_of op x e }
+{
+    match op {
+        HalfOp::Lx
+        | HalfOp::Lv
+        | HalfOp::Lc
+        | HalfOp::Lr
+        | HalfOp::VPlus
+        | HalfOp::VPlusC
+        | HalfOp::Kv
+        | HalfOp::Kc => Some(e / 64),
+        HalfOp::VPlusICR => refill_word(count_down(add_value(x, e as i32))),
+        HalfOp::Cbr => refill_word(count_down(x)),
+        HalfOp::R => Some(refill_of(x)),
+        _ => None,
+    }
+}
+
+/// The index-side word of a progressive form, `x` being its index word.
+#[tactic(auto, unfolding(crate::specs::EarlyChange::progressive_side))]
+fn progressive_side(p: u8, x: u64, address: u32) -> Option<u32>
+    requires form { p < 8 }
+    requires address { address < 2 ^ 24 }
+    ensures { result ≡ progressive_side_of p x address }
+{
+    if p < 2 {
+        return None;
+    }
+    let change = progress(p, x, address);
+    if change.refill {
+        Some(refill_of(change.word))
+    } else {
+        None
+    }
+}
+
+/// The index-side word of an instruction with the effective address `e`.
+#[tactic(auto, unfolding(crate::specs::EarlyChange::side))]
+pub fn side(instr: Instr, x: &[u64; 16], e: u32) -> Option<u32>
+    requires shape { HasFields instr }
+    requires address { e < 2 ^ 24 }
+    ensures { result ≡ side_of x.now instr e }
+{
+    match instr {
+        Instr::Half { op, j, .. } => half_side(op, x[j as usize], e),
+        Instr::Vfl { p, address, i, .. } | Instr::Connect { p, address, i, .. } => {
+            progressive_side(p, x[i as usize], address)
+        }
+        _ => None,
+    }
+}
+
+fn nothing() -> Early
+    ensures { result ≡ unchanged }
+{
+    Early {
+        index: None,
+        ind: Ind { on: 0, off: 0 },
+    }
+}
+
+/// Two numbers are compared.
+#[tactic(auto, unfolding(crate::specs::EarlyChange::compared))]
+fn compared(a: i32, b: i32) -> Early
+    ensures { result ≡ compared_of a b }
+{
+    Early {
+        index: None,
+        ind: compare(a, b),
+    }
+}
+
+/// Index word `number`, which was `kept`, becomes `y`, and then the word of a refill where there is one.
+#[tactic(auto, unfolding(crate::specs::EarlyChange::changed))]
+fn changed(number: u8, kept: u64, y: u64, refill: Option<u64>) -> Early
+    ensures { result ≡ changed_of number kept y refill }
+{
+    Early {
+        index: Some(IndexChange {
+            number,
+            kept,
+            word: refill.unwrap_or(y),
+        }),
+        ind: index_result(y),
+    }
+}
+
+/// What a half-word instruction makes of index word `j`, which is `x`; `read` is its index-side word.
+#[tactic(auto, unfolding(crate::specs::EarlyChange::half_change))]
+fn half_change(
+    op: HalfOp,
+    words: &[u64; 16],
+    address: u32,
+    j: u8,
+    x: u64,
+    e: u32,
+    read: Option<u64>,
+) -> Early
+    requires address { address < 2 ^ 19 }
+    requires effective { e < 2 ^ 24 }
+    ensures { result ≡ half_change_of op words.now address j x e read }
+{
+    let word = read.unwrap_or(0);
+    let w = e / 64;
+    match op {
+        HalfOp::Lx | HalfOp::R => changed(j, x, word, None),
+        HalfOp::Lv => changed(j, x, with_part(x, 0, 25, part(word, 0, 25)), None),
+        HalfOp::Lc => changed(j, x, with_count(x, count_of(word)), None),
+        HalfOp::Lr => changed(j, x, with_refill(x, refill_of(word)), None),
+        HalfOp::VPlus => changed(j, x, add_value(x, value_of(word)), None),
+        HalfOp::VPlusC => changed(j, x, count_down(add_value(x, value_of(word))), None),
+        HalfOp::Kv => compared(value_of(x), value_of(word)),
+        HalfOp::Lvs => {
+            let list = (address / 8) as u16;
+            changed(j, x, with_value(x, sum_values(list, words)), None)
+        }
+        HalfOp::Lvi => changed(j, x, with_value(x, e as i32), None),
+        HalfOp::Lci => changed(j, x, with_count(x, w), None),
+        HalfOp::Lri => changed(j, x, with_refill(x, w), None),
+        HalfOp::VPlusI => changed(j, x, add_value(x, e as i32), None),
+        HalfOp::VMinusI => changed(j, x, add_value(x, -(e as i32)), None),
+        HalfOp::VPlusIC => changed(j, x, count_down(add_value(x, e as i32)), None),
+        HalfOp::VPlusICR => changed(j, x, count_down(add_value(x, e as i32)), read),
+        HalfOp::Kvi => compared(value_of(x), e as i32),
+        HalfOp::Kc => compared(count_of(x) as i32, count_of(word) as i32),
+        HalfOp::Kci => compared(count_of(x) as i32, w as i32),
+        HalfOp::Cb => changed(j, x, count_down(x), None),
+        HalfOp::Cbr => changed(j, x, count_down(x), read),
+        HalfOp::Sx | HalfOp::Sv | HalfOp::Sc | HalfOp::Sr | HalfOp::Sva | HalfOp::Ex => nothing(),
+    }
+}
+
+/// What a progressive form makes of index word `i`, which is `x`; `read` is its index-side word.
+#[tactic(auto, unfolding(crate::specs::EarlyChange::progressive_change))]
+fn progressive_change(p: u8, i: u8, x: u64, address: u32, read: Option<u64>) -> Early
+    requires form { p < 8 }
+    requires address { address < 2 ^ 24 }
+    ensures { result ≡ progressive_change_of p i x address read }
+{
+    if p < 2 {
+        nothing()
+    } else {
+        changed(i, x, progress(p, x, address).word, read)
+    }
+}
+
+/// The early change by an instruction with the effective address `e`; `read` is its index-side word.
+#[tactic(auto, unfolding(crate::specs::EarlyChange::change))]
+pub fn change(instr: Instr, x: &[u64; 16], e: u32, read: Option<u64>) -> Early
+    requires shape { HasFields instr }
+    requires address { e < 2 ^ 24 }
+    ensures { result ≡ change_of x.now instr e read }
+{
+    match instr {
+        Instr::Half { op, address, j, .. } => {
+            half_change(op, x, address, j, x[j as usize], e, read)
+        }
+        Instr::Vfl { p, address, i, .. } | Instr::Connect { p, address, i, .. } => {
+            progressive_change(p, i, x[i as usize], address, read)
+        }
+        _ => nothing(),
+    }
+}

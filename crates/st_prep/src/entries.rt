@@ -1,0 +1,117 @@
+use st_bits::Ind;
+use st_format::{Decoded, Instr};
+
+/// Where an entry stands.
+#[derive(Clone, Copy, Debug, Default, PartialEq, Eq)]
+pub struct Place {
+    /// The counter before it, a half-word address below 2^19.
+    pub counter: u32,
+    /// The half-word address of its instruction: the counter, or the left half of the table word.
+    pub address: u32,
+    /// Of a table instruction the indicator, 0 to 63, whose interrupt executes it.
+    pub table: Option<u8>,
+}
+
+/// What is fetched at a place.
+#[derive(Clone, Copy, Debug, PartialEq, Eq)]
+pub struct Fetched {
+    /// The instruction. Where its first word may not be fetched, it is one half-word that spells none; where its
+    /// second word may not be fetched, it is decoded with zeros in its place.
+    pub instr: Decoded,
+    /// The instruction that EX executes, where its words may be fetched.
+    pub target: Option<Decoded>,
+    /// The indicator that forbids the first word, of the instruction or of the target of EX, that may not be fetched.
+    pub fault: Option<u8>,
+}
+
+/// What an entry needs before it can be prepared.
+#[derive(Clone, Copy, Debug, PartialEq, Eq)]
+pub struct Needs {
+    /// The word address of its index-side word: the one that changes, or is compared with, an index word.
+    pub index_read: Option<u32>,
+    /// Whether it is done alone, after all entries before it and before all behind it.
+    pub serial: bool,
+}
+
+/// Two runs of words in storage, one after the other. A run of no words begins at 0.
+#[derive(Clone, Copy, Debug, Default, PartialEq, Eq)]
+pub struct Words {
+    /// The word address of the first run.
+    pub first: u32,
+    /// The number of its words, 0 to 16.
+    pub len: u8,
+    /// The word address of the second run.
+    pub first2: u32,
+    /// The number of its words, 0 to 16.
+    pub len2: u8,
+}
+
+/// A change of an index word.
+#[derive(Clone, Copy, Debug, Default, PartialEq, Eq)]
+pub struct IndexChange {
+    /// The number of the index word, 0 to 15.
+    pub number: u8,
+    /// The word before it.
+    pub kept: u64,
+    /// The word after it.
+    pub word: u64,
+}
+
+/// An entry that is prepared.
+#[derive(Clone, Copy, Debug, PartialEq, Eq)]
+pub struct Prepared {
+    /// Where it stands.
+    pub place: Place,
+    /// The instruction that is executed: of EX the target, where it could be fetched.
+    pub instr: Instr,
+    /// The effective address, a bit address below 2^24. Of a progressive form it is where the field begins.
+    pub e: u32,
+    /// The counter after it, a half-word address. For a branch on a bit or on an indicator it is that of the
+    /// following instruction, as if no branch were taken.
+    pub following: u32,
+    /// The index word that it changes before its operands are read.
+    pub index: Option<IndexChange>,
+    /// The indicators that are turned on and off with the index word, or the one of a fault.
+    pub ind: Ind,
+    /// Whether a check failed, so that nothing but the indicator in `ind` and the counter changes.
+    pub suppressed: bool,
+    /// The operand words that it reads, in order.
+    pub reads: Words,
+    /// The words that it writes, in order.
+    pub writes: Words,
+    /// What an index store writes: the whole index word, or the number of the part that is stored. What SIC stores:
+    /// the half-word address of the following instruction. Else 0.
+    pub value: u64,
+    /// The ticks from the arrival of its operands to its completion, 1 to 24.
+    pub cost: u8,
+    /// Whether it is done alone.
+    pub serial: bool,
+}
+
+/// A suppressed entry of no instruction, to fill a place with.
+impl Default for Prepared {
+    ghost use Rattle.st_prep.specs.Ranges.{IsPrepared};
+
+    ghost is_default = { IsPrepared };
+
+    fn default() -> Prepared {
+        Prepared {
+            place: Place::default(),
+            instr: Instr::Invalid {
+                first: 0,
+                second: 0,
+                full: false,
+            },
+            e: 0,
+            following: 0,
+            index: None,
+            ind: Ind { on: 0, off: 0 },
+            suppressed: true,
+            reads: Words::default(),
+            writes: Words::default(),
+            value: 0,
+            cost: 1,
+            serial: false,
+        }
+    }
+}

@@ -1,0 +1,144 @@
+ghost use Rattle.std.specs.Prelude.{◌≡◌, ◌+◌, ◌/◌, ◌<◌, ◌^◌, IfSome};
+ghost use Rattle.st_state.specs.Machine.{word, word as word_of};
+ghost use Rattle.st_prep.specs.Ranges.{HasFields, IsFetched, IsRuns};
+ghost use Rattle.st_prep.specs.Checks.{executed as executed_of, forbidden_by, forbidden_run as forbidden_run_of, forbidden_words as forbidden_words_of, forbidden_side as forbidden_side_of, forbidden_area as forbidden_area_of, area_access as area_access_of, operation_fault as operation_fault_of, fault as fault_of};
+
+use crate::addresses::effective_address;
+use crate::early::side;
+use crate::entries::{Fetched, Words};
+use crate::fetching::is_execute;
+use crate::runs::{reads, writes};
+use st_format::Instr;
+use st_state::{Access, State};
+
+/// The indicator of an address that is not valid.
+const ADDRESS_INVALID: u8 = 16;
+
+/// The indicator of an operation that the machine does not have.
+const OPERATION_INVALID: u8 = 15;
+
+/// The indicator of EX that points to EX.
+const EXECUTE_EXCEPTION: u8 = 18;
+
+/// The number of words in the area of an order.
+const AREA: u8 = 8;
+
+/// The instruction that is executed: the target of EX, or else the instruction itself.
+#[tactic(auto, unfolding(crate::specs::Checks::executed))]
+pub fn executed(fetched: &Fetched) -> Instr
+    requires { IsFetched fetched.now }
+    ensures value { result ≡ executed_of fetched.now }
+    ensures shape { HasFields result }
+{
+    match fetched.target {
+        Some(target) => target.instr,
+        None => fetched.instr.instr,
+    }
+}
+
+/// The indicator that forbids the access to a word.
+#[tactic(auto, unfolding(crate::specs::Checks::forbidden_by))]
+fn forbidden(state: &State, access: Access, w: u32) -> Option<u8>
+    ensures value { result ≡ forbidden_by (word state.now 3) state.now.enabled access w }
+    ensures bound { IfSome result (λ i. i < 64) }
+{
+    state.may(access, w)
+}
+
+/// The indicator of the first of `len` words that may not be accessed.
+fn forbidden_run(state: &State, access: Access, first: u32, len: u8) -> Option<u8>
+    requires { first < 2 ^ 18 }
+    ensures value { result ≡ forbidden_run_of (word state.now 3) state.now.enabled access first len }
+    ensures bound { IfSome result (λ i. i < 64) }
+{
+    for w in first..first + u32::from(len) {
+        let fault = forbidden(state, access, w);
+        if fault.is_some() {
+            return fault;
+        }
+    }
+    None
+}
+
+/// The same of two runs of words.
+#[tactic(auto, unfolding(crate::specs::Checks::forbidden_words))]
+fn forbidden_words(state: &State, access: Access, words: Words) -> Option<u8>
+    requires { IsRuns words }
+    ensures value { result ≡ forbidden_words_of (word state.now 3) state.now.enabled access words }
+    ensures bound { IfSome result (λ i. i < 64) }
+{
+    forbidden_run(state, access, words.first, words.len).or(forbidden_run(
+        state,
+        access,
+        words.first2,
+        words.len2,
+    ))
+}
+
+/// The indicator that forbids the index-side word to be read.
+#[tactic(auto, unfolding(crate::specs::Checks::forbidden_side))]
+fn forbidden_side(state: &State, word: Option<u32>) -> Option<u8>
+    ensures value { result ≡ forbidden_side_of (word_of state.now 3) state.now.enabled word }
+    ensures bound { IfSome result (λ i. i < 64) }
+{
+    match word {
+        Some(w) => forbidden(state, Access::Read, w),
+        None => None,
+    }
+}
+
+/// The indicator that forbids the area of an order with the effective address `e`.
+#[tactic(auto, unfolding(crate::specs::Checks::forbidden_area))]
+fn forbidden_area(state: &State, instr: Instr, e: u32) -> Option<u8>
+    requires { e < 2 ^ 24 }
+    ensures value { result ≡ forbidden_area_of (word state.now 3) state.now.enabled instr e }
+    ensures bound { IfSome result (λ i. i < 64) }
+{
+    let Instr::Transfer { write, .. } = instr else {
+        return None;
+    };
+    if e / 64 < 32 {
+        return Some(ADDRESS_INVALID);
+    }
+    forbidden_run(state, area_access(write), e / 64, AREA)
+}
+
+/// What an order does with its area: the printer reads it, the reader writes it.
+fn area_access(write: bool) -> Access
+    ensures { result ≡ area_access_of write }
+{
+    if write { Access::Read } else { Access::Write }
+}
+
+/// The indicator of an operation that cannot be executed.
+#[tactic(auto, unfolding(crate::specs::Checks::operation_fault))]
+fn operation_fault(instr: Instr) -> Option<u8>
+    ensures value { result ≡ operation_fault_of instr }
+    ensures bound { IfSome result (λ i. i < 64) }
+{
+    if !instr.is_valid() {
+        Some(OPERATION_INVALID)
+    } else if is_execute(instr) {
+        Some(EXECUTE_EXCEPTION)
+    } else {
+        None
+    }
+}
+
+/// The indicator of the first check that an entry fails.
+#[tactic(auto, unfolding(crate::specs::Checks::fault))]
+pub fn fault(fetched: &Fetched, x: &[u64; 16], state: &State) -> Option<u8>
+    requires { IsFetched fetched.now }
+    ensures value { result ≡ fault_of fetched.now x.now (word state.now 3) state.now.enabled }
+    ensures bound { IfSome result (λ i. i < 64) }
+{
+    let instr = executed(fetched);
+    let e = effective_address(instr, x);
+    fetched
+        .fault
+        .or(operation_fault(instr))
+        .or(forbidden_side(state, side(instr, x, e)))
+        .or(forbidden_words(state, Access::Read, reads(instr, e)))
+        .or(forbidden_words(state, Access::Write, writes(instr, e)))
+        .or(forbidden_area(state, instr, e))
+}

@@ -1,0 +1,21 @@
+//! What is known of an instruction before it is completed: whether it is suppressed, what it makes of an index word,
+//! the words that it will read and write, and the counter after it. `docs/machine.md` has the rules.
+#![tactic(auto, using(st_bits::specs::Storage::words_of_storage_is))]
+
+mod addresses;
+mod early;
+mod entries;
+mod faults;
+mod fetching;
+mod laws;
+mod outcome;
+mod preparation;
+mod runs;
+
+pub use entries::{Fetched, IndexChange, Needs, Place, Prepared, Words};
+pub use fetching::{fetch, index_words, place_of};
+pub use laws::{forbidden_words_are_seen, looks_agree, plans_are_in_range};
+pub use preparation::{look, plan, prepare, side_word};
+
+#[cfg(test)]
+mod tests;

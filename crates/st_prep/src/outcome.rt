@@ -1,0 +1,152 @@
+ghost use Rattle.std.specs.Prelude.{◌≡◌, ◌<◌, ◌^◌};
+ghost use Rattle.st_prep.specs.Entry.{next as next_of, after_count as after_count_of, after_half as after_half_of, after_branch as after_branch_of, after as after_of};
+ghost use Rattle.st_prep.specs.Entry.{stored_part as stored_part_of, value as value_of, binary_cost as binary_cost_of, decimal_cost as decimal_cost_of, cost as cost_of, acts_alone as acts_alone_of};
+ghost use Rattle.st_prep.specs.Ranges.{HasFields};
+
+use crate::entries::Place;
+use st_bits::{BranchOp, HalfOp, VflOp, count_of, part, refill_of};
+use st_format::Instr;
+use st_index::count_down;
+
+/// The following instruction: `halves` half-words on, or the counter as it stands after a table instruction.
+#[tactic(auto, unfolding(crate::specs::Entry::next))]
+pub fn next(place: Place, halves: u8) -> u32
+    requires { place.counter < 2 ^ 19 }
+    ensures value { result ≡ next_of place halves }
+    ensures bound { result < 2 ^ 19 }
+{
+    match place.table {
+        None => (place.counter + u32::from(halves)) % (1 << 19),
+        Some(_) => place.counter,
+    }
+}
+
+/// The counter after a count that branches, `x` being index word J before it.
+fn after_count(x: u64, e: u32, following: u32) -> u32
+    ensures { result ≡ after_count_of x e following }
+{
+    if count_of(count_down(x)) == 0 {
+        following
+    } else {
+        e / 32
+    }
+}
+
+fn after_half(op: HalfOp, x: u64, e: u32, following: u32) -> u32
+    ensures { result ≡ after_half_of op x e following }
+{
+    match op {
+        HalfOp::Cb | HalfOp::Cbr => after_count(x, e, following),
+        _ => following,
+    }
+}
+
+fn after_branch(op: BranchOp, counter: u32, e: u32, following: u32) -> u32
+    requires counter { counter < 2 ^ 19 }
+    requires address { e < 2 ^ 24 }
+    ensures { result ≡ after_branch_of op counter e following }
+{
+    match op {
+        BranchOp::B | BranchOp::Be | BranchOp::Bd => e / 32,
+        BranchOp::Br => (counter + e / 32) % (1 << 19),
+        BranchOp::Bew | BranchOp::Nop => following,
+    }
+}
+
+/// The counter after an instruction, given the counter before it and the following instruction.
+#[tactic(auto, unfolding(crate::specs::Entry::after))]
+pub fn after(instr: Instr, x: &[u64; 16], e: u32, counter: u32, following: u32) -> u32
+    requires shape { HasFields instr }
+    requires counter { counter < 2 ^ 19 }
+    requires address { e < 2 ^ 24 }
+    ensures { result ≡ after_of instr x.now e counter following }
+{
+    match instr {
+        Instr::Half { op, j, .. } => after_half(op, x[j as usize], e, following),
+        Instr::Branch { op, .. } => after_branch(op, counter, e, following),
+        Instr::StoreCounter { second, .. } => second,
+        _ => following,
+    }
+}
+
+/// What an index store writes of the index word `x`.
+fn stored_part(op: HalfOp, x: u64) -> u64
+    ensures { result ≡ stored_part_of op x }
+{
+    match op {
+        HalfOp::Sx => x,
+        HalfOp::Sv => part(x, 0, 25),
+        HalfOp::Sc => u64::from(count_of(x)),
+        HalfOp::Sr => u64::from(refill_of(x)),
+        HalfOp::Sva => part(x, 0, 19),
+        _ => 0,
+    }
+}
+
+/// What an instruction stores of an index word or of the counter.
+#[tactic(auto, unfolding(crate::specs::Entry::value))]
+pub fn value(instr: Instr, x: &[u64; 16], following: u32) -> u64
+    requires { HasFields instr }
+    ensures { result ≡ value_of instr x.now following }
+{
+    match instr {
+        Instr::Half { op, j, .. } => stored_part(op, x[j as usize]),
+        Instr::StoreCounter { .. } => u64::from(following),
+        _ => 0,
+    }
+}
+
+fn binary_cost(op: VflOp) -> u8
+    ensures { result ≡ binary_cost_of op }
+{
+    match op {
+        VflOp::Mul | VflOp::MulAdd => 12,
+        VflOp::Div | VflOp::Lcv => 24,
+        _ => 2,
+    }
+}
+
+fn decimal_cost(op: VflOp) -> u8
+    ensures { result ≡ decimal_cost_of op }
+{
+    match op {
+        VflOp::Lcv => 24,
+        _ => 4,
+    }
+}
+
+/// The ticks that an instruction takes once its operands are there.
+#[tactic(auto, unfolding(crate::specs::Entry::cost))]
+pub fn cost(instr: Instr) -> u8
+    ensures { result ≡ cost_of instr }
+{
+    match instr {
+        Instr::Vfl { op, decimal, .. } => {
+            if decimal {
+                decimal_cost(op)
+            } else {
+                binary_cost(op)
+            }
+        }
+        Instr::Connect { .. } => 2,
+        Instr::Move { count, .. } => count,
+        _ => 1,
+    }
+}
+
+/// Whether an instruction is one of those that are done alone.
+#[tactic(auto, unfolding(crate::specs::Entry::acts_alone))]
+pub fn acts_alone(instr: Instr) -> bool
+    ensures { result ≡ acts_alone_of instr }
+{
+    matches!(
+        instr,
+        Instr::Branch {
+            op: BranchOp::Be | BranchOp::Bd | BranchOp::Bew,
+            ..
+        } | Instr::Move { .. }
+            | Instr::BitBranch { .. }
+            | Instr::StoreCounter { .. }
+            | Instr::Transfer { .. }
+    )
+}

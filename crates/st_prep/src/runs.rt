@@ -1,0 +1,180 @@
+ghost use Rattle.std.specs.Prelude.{◌≡◌, ◌<◌, ◌^◌};
+ghost use Rattle.st_format.specs.Operations.{writes_field as writes};
+ghost use Rattle.st_format.specs.declared.operations.FullOp.{FullOp};
+ghost use Rattle.st_prep.specs.Entry.{no_words, one_run as one_run_of, two_runs as two_runs_of, field_words as field_words_of, operand_words as operand_words_of, words_read as words_read_of, words_written as words_written_of};
+ghost use Rattle.st_prep.specs.Entry.{is_index_store as is_store, reads_field as reads_it, reads as reads_of, writes as writes_of, has_register as has_register_of, is_register as is_register_of};
+ghost use Rattle.st_prep.specs.Ranges.{HasFields, IsRuns};
+
+use crate::entries::Words;
+use st_bits::{ConnKind, HalfOp, VflOp};
+use st_format::Instr;
+
+/// No words.
+pub fn none() -> Words
+    ensures { result ≡ no_words }
+{
+    one_run(0, 0)
+}
+
+fn one_run(first: u32, len: u8) -> Words
+    ensures { result ≡ one_run_of first len }
+{
+    Words {
+        first,
+        len,
+        first2: 0,
+        len2: 0,
+    }
+}
+
+fn two_runs(first: u32, first2: u32, len: u8) -> Words
+    ensures { result ≡ two_runs_of first first2 len }
+{
+    Words {
+        first,
+        len,
+        first2,
+        len2: len,
+    }
+}
+
+/// The one or two words that the `length` bits from bit `e` on touch.
+#[tactic(auto, unfolding(crate::specs::Entry::field_words))]
+fn field_words(e: u32, length: u8) -> Words
+    requires { e < 2 ^ 24 }
+    ensures value { result ≡ field_words_of e length }
+    ensures runs { IsRuns result }
+{
+    let len = if e % 64 + u32::from(length) <= 64 {
+        1
+    } else {
+        2
+    };
+    one_run(e / 64, len)
+}
+
+fn operand_words(p: u8, e: u32, length: u8) -> Words
+    requires { e < 2 ^ 24 }
+    ensures value { result ≡ operand_words_of p e length }
+    ensures runs { IsRuns result }
+{
+    if p == 1 {
+        none()
+    } else {
+        field_words(e, length)
+    }
+}
+
+/// The words that a transmission reads.
+fn words_read(swap: bool, from: u32, to: u32, count: u8) -> Words
+    ensures { result ≡ words_read_of swap from to count }
+{
+    if swap {
+        two_runs(from, to, count)
+    } else {
+        one_run(from, count)
+    }
+}
+
+/// The words that it writes.
+fn words_written(swap: bool, from: u32, to: u32, count: u8) -> Words
+    ensures { result ≡ words_written_of swap from to count }
+{
+    if swap {
+        two_runs(from, to, count)
+    } else {
+        one_run(to, count)
+    }
+}
+
+/// Whether an operation stores an index word or a part of it.
+fn is_index_store(op: HalfOp) -> bool
+    ensures { result ≡ is_store op }
+{
+    matches!(
+        op,
+        HalfOp::Sx | HalfOp::Sv | HalfOp::Sc | HalfOp::Sr | HalfOp::Sva
+    )
+}
+
+/// Whether an operation reads its field.
+fn reads_field(op: VflOp) -> bool
+    ensures { result ≡ reads_it op }
+{
+    !matches!(op, VflOp::St)
+}
+
+/// Whether an operation writes its field.
+fn writes_field(op: VflOp) -> bool
+    ensures { result ≡ writes (FullOp.Variable op) }
+{
+    matches!(op, VflOp::St | VflOp::MAdd | VflOp::MAddMg | VflOp::MAdd1)
+}
+
+/// Whether a connective puts its result in the field.
+fn writes_result(kind: ConnKind) -> bool
+    ensures { result ≡ writes (FullOp.Connective kind) }
+{
+    matches!(kind, ConnKind::Cm)
+}
+
+/// The words that an instruction with the effective address `e` reads, in order.
+#[tactic(auto, unfolding(crate::specs::Entry::reads))]
+pub fn reads(instr: Instr, e: u32) -> Words
+    requires shape { HasFields instr }
+    requires address { e < 2 ^ 24 }
+    ensures value { result ≡ reads_of instr e }
+    ensures runs { IsRuns result }
+{
+    match instr {
+        Instr::Vfl { op, p, length, .. } if reads_field(op) => operand_words(p, e, length),
+        Instr::Connect { p, length, .. } => operand_words(p, e, length),
+        Instr::Move {
+            swap,
+            second,
+            count,
+            ..
+        } => words_read(swap, e / 64, second / 2, count),
+        Instr::BitBranch { .. } => one_run(e / 64, 1),
+        _ => none(),
+    }
+}
+
+/// The words that an instruction with the effective address `e` writes, in order.
+#[tactic(auto, unfolding(crate::specs::Entry::writes))]
+pub fn writes(instr: Instr, e: u32) -> Words
+    requires shape { HasFields instr }
+    requires address { e < 2 ^ 24 }
+    ensures value { result ≡ writes_of instr e }
+    ensures runs { IsRuns result }
+{
+    match instr {
+        Instr::Half { op, .. } if is_index_store(op) => one_run(e / 64, 1),
+        Instr::Vfl { op, length, .. } if writes_field(op) => field_words(e, length),
+        Instr::Connect { kind, length, .. } if writes_result(kind) => field_words(e, length),
+        Instr::Move {
+            swap,
+            second,
+            count,
+            ..
+        } => words_written(swap, e / 64, second / 2, count),
+        Instr::BitBranch { change, .. } if change != 0 => one_run(e / 64, 1),
+        Instr::StoreCounter { .. } => one_run(e / 64, 1),
+        _ => none(),
+    }
+}
+
+/// Whether a register, a word below 32, is among the words.
+#[tactic(auto, unfolding(crate::specs::Entry::has_register))]
+pub fn has_register(words: Words) -> bool
+    ensures { result ≡ has_register_of words }
+{
+    (words.len != 0 && words.first < 32) || (words.len2 != 0 && words.first2 < 32)
+}
+
+/// Whether there is a word, and it is a register.
+pub fn is_register(word: Option<u32>) -> bool
+    ensures { result ≡ is_register_of word }
+{
+    word.is_some_and(|w| w < 32)
+}
