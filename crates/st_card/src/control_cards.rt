@@ -162,7 +162,8 @@ impl Controls {
     // Adds what a keyword and its numbers ask for.
     fn add_numbers(&mut self, keyword: Keyword, numbers: &[u64]) -> Outcome
         requires { length numbers.now ≤ 36 }
-        ensures { Settles self.old self.new (spec.with_keyword keyword self.old numbers.now) result }
+        ensures { Settles self.old self.new
+            (spec.with_keyword keyword self.old numbers.now) result }
     {
         match keyword {
             Keyword::Budget => self.add_budget(numbers),
