@@ -100,8 +100,9 @@ pub fn columns(text: &[u8]) -> &[u8]
 fn first_line(text: &[u8]) -> Option<(&[u8], &[u8])>
     ensures cards { MatchOption result
         ((n place : ℕ) → spec.cards_from n place (parted 10 text.now) ≡ [])
-        (λ p. (n place : ℕ) → spec.cards_from n place (parted 10 text.now) ≡ spec.card_at n place p.0.now
-        ∷ spec.cards_from (n + 1) (place + (length text.now - length p.1.now)) (parted 10 p.1.now)) }
+        (λ p. (n place : ℕ) → spec.cards_from n place (parted 10 text.now)
+        ≡ spec.card_at n place p.0.now ∷ spec.cards_from (n + 1)
+        (place + (length text.now - length p.1.now)) (parted 10 p.1.now)) }
     ensures shorter { IfSome result (λ p. length p.1.now < length text.now) }
     ensures front { IfSome result (λ p. IsFront p.0.now text.now) }
     ensures behind { IfSome result (λ p. IsBehind p.1.now text.now) }
