@@ -64,7 +64,8 @@ pub struct Prepared {
     pub place: Place,
     /// The instruction that is executed: of EX the target, where it could be fetched.
     pub instr: Instr,
-    /// The effective address, a bit address below 2^24. Of a progressive form it is where the field begins.
+    /// The effective address, a bit address below 2^24. Of a progressive form it is where the field begins, and of
+    /// a suppressed entry it is 0.
     pub e: u32,
     /// The counter after it, a half-word address. For a branch on a bit or on an indicator it is that of the
     /// following instruction, as if no branch were taken.
