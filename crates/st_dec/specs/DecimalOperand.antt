@@ -1,4 +1,4 @@
--- The digits of a decimal field and of the accumulator. Each byte of a field is one digit: a zone, and behind it a code.
+-- The digits of a decimal field, each a byte of a zone and a code, and those of the accumulator.
 use Rattle.std.specs.Prelude.{ℕ, ◌≡◌, ◌+◌, ◌*◌, ◌/◌, ◌%◌, ◌≤◌, nat_lt, Bool, List, [], ◌∷◌, ◌++◌, map, take, drop, replicate}
 use Rattle.std.specs.List.{list_any}
 use Rattle.st_bin.specs.declared.accumulator.Acc.{Acc}
@@ -52,6 +52,10 @@ codes_from_place a h = drop (place h) (acc_codes a)
 -- as many of these as the field has digits; past the 32nd digit there are zeros
 abbrev pub field_codes : Acc → Shape → List ℕ
 field_codes a h = take (digit_count h) (codes_from_place a h ++ replicate (digit_count h) 0)
+
+-- those that it leaves out at the left
+abbrev pub codes_left_out : Acc → Shape → List ℕ
+codes_left_out a h = drop (digit_count h) (codes_from_place a h)
 
 -- the codes of the operand with its last digit at that place, and zeros below
 abbrev pub moved : Field → Shape → List ℕ

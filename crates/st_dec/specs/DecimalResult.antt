@@ -1,5 +1,5 @@
 -- What each decimal operation makes of the accumulator, the field and the registers.
-use Rattle.std.specs.Prelude.{ℕ, ◌+◌, ◌-◌, ◌%◌, ◌^◌, ℤ, ◌+ℤ◌, unsigned_abs, Bool, true, false, nat_le, if◌then◌else◌, Some, List, drop}
+use Rattle.std.specs.Prelude.{ℕ, ◌+◌, ◌-◌, ◌%◌, ◌^◌, ℤ, ◌+ℤ◌, unsigned_abs, Bool, true, false, nat_le, if◌then◌else◌, Some, List}
 use Rattle.std.specs.declared.cmp.Ordering.{Ordering}
 use Rattle.std.specs.Ordering.{int_cmp}
 use Rattle.st_bits.specs.declared.operations.VflOp.{VflOp}
@@ -13,7 +13,7 @@ use Rattle.st_bin.specs.BinaryOperand.{zone_of, flags_of, sign_byte, field_of, f
 use Rattle.st_bin.specs.Numbers.{signed, sign_after}
 use Rattle.st_bin.specs.BinaryResult.{is_minus, with_number, operand_minus, addend_minus, done_with, magnitude_sum, loaded as loaded_binary}
 use Rattle.st_dec.specs.DigitLists.{joined, value, decimal}
-use Rattle.st_dec.specs.DecimalOperand.{digit_count, digit_bytes, codes, field_value, recoded, zoned, acc_codes, codes_from_place, field_codes, placed, lost, any_code}
+use Rattle.st_dec.specs.DecimalOperand.{digit_count, digit_bytes, codes, field_value, recoded, zoned, acc_codes, codes_from_place, field_codes, codes_left_out, placed, lost, any_code}
 
 -- the accumulator as a number
 abbrev pub acc_value : Acc → ℕ
@@ -22,7 +22,7 @@ acc_value a = value (acc_codes a)
 abbrev pub acc_number : Acc → ℤ
 acc_number a = signed (is_minus a) (acc_value a)
 
--- the operand as it stands in the accumulator, and the indicators of its flags and of its lost codes
+-- the operand as it stands in the accumulator, and the indicators of its flags and lost codes
 abbrev pub placed_value : Field → Shape → ℕ
 placed_value f h = value (placed f h)
 
@@ -53,7 +53,8 @@ loaded f h = load (placed f h) (sign_byte 0 (operand_minus f h) 0) (placing f h)
 
 -- LWF: the codes of the operand as they are, with its zone and flags
 unfoldable pub loaded_with_flags : Field → Shape → Done
-loaded_with_flags f h = load (placed f h) (sign_byte f.zone (operand_minus f h) f.flags) (placing f h)
+loaded_with_flags f h =
+    load (placed f h) (sign_byte f.zone (operand_minus f h) f.flags) (placing f h)
 
 -- the operand is the result number
 abbrev pub operand_kept : Acc → Field → Shape → ℕ → Done
@@ -71,7 +72,7 @@ unfoldable pub factor_set : Acc → Field → Shape → Done
 factor_set a f h =
     record (operand_kept a f h (flag_indicators f.flags)) { ft = Some (joined 4 (codes f h)) }
 
--- ST: the field that the accumulator makes, with its zone before each code; an unsigned one has plus
+-- ST: the field that the accumulator makes, its zone before each code; an unsigned one has plus
 abbrev pub stored_field : Acc → Shape → Field
 stored_field a h = record {
   mag = joined h.byte (zoned (zone_of a.sb % 2 ^ (h.byte - 4)) (field_codes a h));
@@ -83,7 +84,7 @@ stored_field a h = record {
 unfoldable pub stored : Acc → Shape → Done
 stored a h =
     in_field a (stored_field a h) h
-    (partial_field (any_code (drop (digit_count h) (codes_from_place a h))))
+    (partial_field (any_code (codes_left_out a h)))
 
 -- a magnitude put into the accumulator in 32 decimal digits, with a sign; zone and flags stay
 abbrev pub with_decimal : Acc → ℕ → Bool → ℕ → Done
@@ -104,12 +105,17 @@ magnitude_added a f h =
     with_decimal a (magnitude_sum (acc_value a) (operand_minus f h) (placed_value f h)) (is_minus a)
     (placing f h)
 
--- a magnitude put into the field in decimal digits, with a sign; flags and all zones stay
+-- the field with the decimal digits of t for its codes, and a sign; flags and all zones stay
+abbrev pub with_digits : Field → Shape → ℕ → Bool → Field
+with_digits f h t minus = record f {
+  mag = joined h.byte (recoded (digit_bytes f h) (decimal (digit_count h) t));
+  negative = minus;
+}
+
 abbrev pub field_summed : Acc → Field → Shape → ℕ → Bool → Done
 field_summed a f h t minus =
-    in_field a
-    (record f { mag = joined h.byte (recoded (digit_bytes f h) (decimal (digit_count h) t)); negative = minus })
-    h (flag_indicators f.flags + lost_carry (nat_le (10 ^ digit_count h) t))
+    in_field a (with_digits f h t minus) h
+    (flag_indicators f.flags + lost_carry (nat_le (10 ^ digit_count h) t))
 
 -- the sum r put into the field; an unsigned field has no sign to change, and r has one all the same
 abbrev pub sum_in_field : Acc → Field → Shape → ℤ → Done
@@ -130,7 +136,8 @@ added_to_field a f h =
 -- M+MG: it is added to the magnitude of the field, whose sign stays
 unfoldable pub magnitude_added_to_field : Acc → Field → Shape → Done
 magnitude_added_to_field a f h =
-    field_summed a f h (magnitude_sum (field_value f h) (addend_minus a h) (addend_value a h)) f.negative
+    field_summed a f h (magnitude_sum (field_value f h) (addend_minus a h) (addend_value a h))
+    f.negative
 
 -- M+1: one is added to the field, or taken from it where the operation is negated
 unfoldable pub one_added_to_field : Acc → Field → Shape → Done
@@ -143,7 +150,8 @@ order_of_numbers a f h = int_cmp (acc_number a) (placed_number f h)
 -- as many digits of the accumulator as the field has, compared with the operand
 unfoldable pub order_of_fields : Acc → Field → Shape → Ordering
 order_of_fields a f h =
-    int_cmp (signed (is_minus a) (value (field_codes a h))) (signed (operand_minus f h) (field_value f h))
+    int_cmp (signed (is_minus a) (value (field_codes a h)))
+    (signed (operand_minus f h) (field_value f h))
 
 -- K, and KF for as much as the field holds
 unfoldable pub compared : Acc → Field → Shape → Done

@@ -43,7 +43,8 @@ pub fn codes(f: &Field, shape: &Shape) -> u64
 pub fn spread(codes: u64, zone: u64, shape: &Shape) -> u64
     requires shape { IsDecimalShape shape.now }
     requires zone { zone < 2 ^ (shape.now.byte - 4) }
-    ensures value { result ≡ joined shape.now.byte (zoned zone (bytes 4 (digit_count_of shape.now) codes)) }
+    ensures value { result ≡ joined shape.now.byte
+        (zoned zone (bytes 4 (digit_count_of shape.now) codes)) }
     ensures fits { result < 2 ^ magnitude_bits_of shape.now }
 {
     let mut mag = 0;

@@ -1,7 +1,7 @@
-ghost use Rattle.std.specs.Prelude.{◌≡◌, ◌<◌, ◌-◌, ◌%◌, ◌^◌, drop};
+ghost use Rattle.std.specs.Prelude.{◌≡◌, ◌<◌, ◌-◌, ◌%◌, ◌^◌};
 ghost use Rattle.st_bin.specs.BinaryOperand.{HasRoom, magnitude_bits as magnitude_bits_of, zone_of};
 ghost use Rattle.st_dec.specs.DigitLists.{joined};
-ghost use Rattle.st_dec.specs.DecimalOperand.{IsDecimalShape, digit_count as digit_count_of, codes_from_place as codes_from_place_of};
+ghost use Rattle.st_dec.specs.DecimalOperand.{IsDecimalShape, codes_left_out};
 ghost use Rattle.st_dec.specs.DecimalOperand.{field_codes as field_codes_of, zoned, any_code};
 ghost use Rattle.st_dec.specs.DecimalResult.{stored, stored_field as stored_field_of};
 
@@ -50,7 +50,7 @@ fn stored_field(acc: &Acc, shape: &Shape) -> Field
 /// Whether the accumulator has a code that is not zero before those that the field takes.
 fn is_code_lost(acc: &Acc, shape: &Shape) -> bool
     requires { IsDecimalShape shape.now }
-    ensures { result ≡ any_code (drop (digit_count_of shape.now) (codes_from_place_of acc.now shape.now)) }
+    ensures { result ≡ any_code (codes_left_out acc.now shape.now) }
 {
     exceeds(codes_from_place(acc, shape), 4 * digit_count(shape))
 }
