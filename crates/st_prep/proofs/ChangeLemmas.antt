@@ -7,11 +7,10 @@ use Rattle.st_bits.specs.declared.operations.HalfOp.{HalfOp}
 use Rattle.st_bits.specs.declared.operations.HalfOp.TheVariants.{Lx, Lv, Lc, Lr, Sx, Sv, Sc, Sr, Sva, VPlus, VPlusC, Kv, Lvs, Lvi, Lci, Lri, VPlusI, VMinusI, VPlusIC, VPlusICR, Kvi, Kc, Kci, Cb, Cbr, R, Ex}
 use Rattle.st_format.specs.declared.instruction.Instr.{Instr}
 use Rattle.st_format.specs.declared.instruction.Instr.TheVariants.{Half, Branch, Floating, Vfl, Connect, Move, BitBranch, IndBranch, StoreCounter, Transfer, Invalid}
-use Rattle.st_format.specs.Formats.{IsShape}
 use Rattle.st_index.specs.IndexChange.{with_added, one_less, with_lower_count, selected_sum, is_counting, increment_of, progressed}
 use Rattle.st_prep.specs.declared.early.Early.{Early}
 use Rattle.st_prep.specs.EarlyChange.{unchanged, compared, changed, word_of, half_change, progressive_change, change}
-use Rattle.st_prep.specs.Ranges.{IsChange}
+use Rattle.st_prep.specs.Ranges.{HasFields, IsChange}
 use Rattle.st_prep.proofs.Choices.{of_choice}
 
 -- ---- parts put into a word
@@ -112,7 +111,7 @@ progressive_change-fits p i x a r number word some =
     (changed-fits i x (progressed p x a) r number word (progressed-below p x a word) some)
 
 pub change-fits : (xs : List ℕ) (instr : Instr) (e : ℕ) (r : Option ℕ) → ((j : ℕ) → get_or xs j 0 < 2 ^ 64)
-    → IsShape instr → e < 2 ^ 24 → IfSome r (λ w. w < 2 ^ 64) → Fits (change xs instr e r)
+    → HasFields instr → e < 2 ^ 24 → IfSome r (λ w. w < 2 ^ 64) → Fits (change xs instr e r)
 unfolding change
 change-fits xs (Half op a j i) e r words s h some =
     half_change-fits op xs a j (slice_index xs j) e r s.1 (words j) h some

@@ -6,3 +6,5 @@ pub mod IndexWords
 pub mod OutcomeLemmas
 pub mod PreparedLemmas
 pub mod RunLemmas
+pub mod FetchLemmas
+pub mod PlanLemmas

@@ -10,11 +10,10 @@ use Rattle.st_bits.specs.declared.operations.VflOp.{VflOp}
 use Rattle.st_bits.specs.declared.operations.VflOp.TheVariants.{Mul, MulAdd, Div, Lcv}
 use Rattle.st_format.specs.declared.instruction.Instr.{Instr}
 use Rattle.st_format.specs.declared.instruction.Instr.TheVariants.{Half, Branch, Floating, Vfl, Connect, Move, BitBranch, IndBranch, StoreCounter, Transfer, Invalid}
-use Rattle.st_format.specs.Formats.{IsShape}
 use Rattle.st_index.specs.IndexChange.{one_less}
 use Rattle.st_prep.specs.declared.entries.Place.{Place}
 use Rattle.st_prep.specs.Entry.{next_by, next, after_half, after_branch, after, stored_part, value, binary_cost, decimal_cost, cost}
-use Rattle.st_prep.specs.Ranges.{FitsPart, IsStored}
+use Rattle.st_prep.specs.Ranges.{HasFields, FitsPart, IsStored}
 use Rattle.st_prep.proofs.Choices.{of_choice}
 
 -- ---- the counter
@@ -44,7 +43,7 @@ after_branch-below Bd c e f address h = omega arith
 after_branch-below Bew c e f address h = h
 after_branch-below Nop c e f address h = h
 
-pub after-below : (instr : Instr) (x : List ℕ) (e c f : ℕ) → IsShape instr → e < 2 ^ 24 → f < 2 ^ 19
+pub after-below : (instr : Instr) (x : List ℕ) (e c f : ℕ) → HasFields instr → e < 2 ^ 24 → f < 2 ^ 19
     → after instr x e c f < 2 ^ 19
 unfolding after
 after-below (Half op a j i) x e c f s address h = after_half-below op (slice_index x j) e f address h
@@ -122,7 +121,7 @@ decimal_cost-fits : (op : VflOp) → IsCost (decimal_cost op)
 decimal_cost-fits Lcv = (omega arith, omega arith)
 decimal_cost-fits _ = (omega arith, omega arith)
 
-pub cost-fits : (instr : Instr) → IsShape instr → IsCost (cost instr)
+pub cost-fits : (instr : Instr) → HasFields instr → IsCost (cost instr)
 unfolding cost
 cost-fits (Vfl op d u n p l b o a i) s =
     of_choice IsCost d (decimal_cost op) (binary_cost op) (decimal_cost-fits op) (binary_cost-fits op)

@@ -6,16 +6,16 @@ use Rattle.std.proofs.lemmas.Bool.{not-false, ltb-false}
 use Rattle.st_bits.specs.Storage.{words_of_storage}
 use Rattle.st_format.specs.declared.instruction.Instr.{Instr}
 use Rattle.st_format.specs.declared.instruction.Decoded.{Decoded}
-use Rattle.st_format.specs.Formats.{IsShape, is_valid}
+use Rattle.st_format.specs.Formats.{is_valid}
 use Rattle.st_state.specs.declared.protection.Access.TheVariants.{Read, Write}
 use Rattle.st_prep.specs.declared.entries.Fetched.{Fetched}
 use Rattle.st_prep.specs.declared.entries.Prepared.{Prepared}
 use Rattle.st_prep.specs.EarlyChange.{side}
-use Rattle.st_prep.specs.Entry.{reads, writes, acts_alone, has_register, is_register}
+use Rattle.st_prep.specs.Entry.{no_words, reads, writes, acts_alone, has_register, is_register}
 use Rattle.st_prep.specs.Fetch.{is_execute}
 use Rattle.st_prep.specs.Checks.{Sight, executed, address_of, forbidden_side, forbidden_words, forbidden_area, operation_fault, operation_invalid, fault}
 use Rattle.st_prep.specs.Plan.{following, is_alone, is_serial, needs_by, needs, suppressed, entry, prepared_by, prepared}
-use Rattle.st_prep.specs.Ranges.{IsPlace, IsFetched, IsEntry, IsAhead, IsPrepared, IsNeeds, HasRoom, AreInside}
+use Rattle.st_prep.specs.Ranges.{HasFields, IsPlace, IsFetched, IsEntry, IsAhead, IsPrepared, IsNeeds, HasRoom, AreInside}
 use Rattle.st_prep.proofs.Choices.{or-left, or-right, none-left, none-right, test-none}
 use Rattle.st_prep.proofs.AddressBounds.{effective-below}
 use Rattle.st_prep.proofs.RunLemmas.{is_runs-none, is_runs-reads, is_runs-writes, allowed-inside, words-inside, none-inside, area-inside, words-above, none-above}
@@ -28,12 +28,12 @@ pub record IsSight (s : Sight) : Type 0 where
   pub fetched : IsFetched s.fetched
   pub words : (j : ℕ) → get_or s.x j 0 < 2 ^ 64
 
-of_target : (t : Option Decoded) (own : Decoded) → IsShape own.instr → IfSome t (λ d. IsShape d.instr)
-    → IsShape (unwrap_or t own).instr
+of_target : (t : Option Decoded) (own : Decoded) → HasFields own.instr → IfSome t (λ d. HasFields d.instr)
+    → HasFields (unwrap_or t own).instr
 of_target None own h some = h
 of_target (Some d) own h some = some
 
-pub executed-shape : (f : Fetched) → IsFetched f → IsShape (executed f)
+pub executed-shape : (f : Fetched) → IsFetched f → HasFields (executed f)
 unfolding executed
 executed-shape f h = of_target f.target f.instr h.own h.target
 
@@ -106,7 +106,7 @@ unfolding entry
 entry-prepared s r k some p =
     let instr = executed s.fetched in
     let e = address_of s in
-    let shape : IsShape instr = executed-shape s.fetched k.fetched in
+    let shape : HasFields instr = executed-shape s.fetched k.fetched in
     let address : e < 2 ^ 24 = effective-below s.x instr in
     let after_it : following s < 2 ^ 19 = following-below s k in
     let cost = cost-fits instr shape in
@@ -129,6 +129,7 @@ entry-prepared s r k some p =
         writes = refl;
         area = area-inside s.bounds s.enabled instr e p.area;
       };
+      suppressed = λ h. cc;
       ahead = λ h. let q = runs s h in record {
         table = not_table s q.alone;
         reads = words-above (reads instr e) q.reads;
@@ -152,6 +153,7 @@ suppressed-prepared s i k = record {
   some_cost = omega arith;
   cost = omega arith;
   entry = λ h. cc;
+  suppressed = λ _. record { index = refl; indicator = refl; reads = refl; writes = refl; cost = refl };
   ahead = λ h. record { table = not_table s h; reads = none-above; writes = none-above };
 }
 

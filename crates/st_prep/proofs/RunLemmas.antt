@@ -9,7 +9,6 @@ use Rattle.st_bits.specs.Storage.{words_of_storage}
 use Rattle.st_format.specs.declared.operations.FullOp.TheVariants.{Variable, Connective}
 use Rattle.st_format.specs.declared.instruction.Instr.{Instr}
 use Rattle.st_format.specs.declared.instruction.Instr.TheVariants.{Half, Branch, Floating, Vfl, Connect, Move, BitBranch, IndBranch, StoreCounter, Transfer, Invalid}
-use Rattle.st_format.specs.Formats.{IsShape}
 use Rattle.st_format.specs.Operations.{writes_field}
 use Rattle.st_state.specs.Boundary.{is_invalid, is_between, address_invalid, protected}
 use Rattle.st_state.specs.declared.protection.Access.{Access}
@@ -17,7 +16,7 @@ use Rattle.st_state.specs.declared.protection.Access.TheVariants.{Read, Write, F
 use Rattle.st_prep.specs.declared.entries.Words.{Words}
 use Rattle.st_prep.specs.Entry.{no_words, one_run, two_runs, field_words, operand_words, words_read, words_written, is_index_store, reads_field, reads, writes, has_register}
 use Rattle.st_prep.specs.Checks.{forbidden_by, forbidden_run, forbidden_words, area_access, forbidden_area}
-use Rattle.st_prep.specs.Ranges.{IsRuns, AreInside, AreAbove, HasRoom}
+use Rattle.st_prep.specs.Ranges.{HasFields, IsRuns, AreInside, AreAbove, HasRoom}
 use Rattle.st_prep.proofs.Choices.{of_choice, or-left, or-right, none-left, none-right, test-none, none-else}
 
 -- ---- runs
@@ -57,7 +56,7 @@ is_runs-written true w v n near there few = is_runs-two w v n near there few
 one_word : (e : ℕ) → e < 2 ^ 24 → IsRuns (one_run (e / 64) 1)
 one_word e h = is_runs-one (e / 64) 1 (word-near e h) (omega arith)
 
-pub is_runs-reads : (instr : Instr) (e : ℕ) → IsShape instr → e < 2 ^ 24 → IsRuns (reads instr e)
+pub is_runs-reads : (instr : Instr) (e : ℕ) → HasFields instr → e < 2 ^ 24 → IsRuns (reads instr e)
 unfolding reads
 is_runs-reads (Vfl op d u n p l b o a i) e s h =
     of_choice IsRuns (reads_field op) (operand_words p e l) no_words (is_runs-operand p e l h) is_runs-none
@@ -73,7 +72,7 @@ is_runs-reads (StoreCounter a i second) e s h = is_runs-none
 is_runs-reads (Transfer w a i n) e s h = is_runs-none
 is_runs-reads (Invalid first second full) e s h = is_runs-none
 
-pub is_runs-writes : (instr : Instr) (e : ℕ) → IsShape instr → e < 2 ^ 24 → IsRuns (writes instr e)
+pub is_runs-writes : (instr : Instr) (e : ℕ) → HasFields instr → e < 2 ^ 24 → IsRuns (writes instr e)
 unfolding writes
 is_runs-writes (Half op a j i) e s h =
     of_choice IsRuns (is_index_store op) (one_run (e / 64) 1) no_words (one_word e h) is_runs-none
@@ -128,9 +127,10 @@ none-inside = record { inside = λ h. absurd (omega arith); inside2 = λ h. absu
 -- an order whose area may be accessed has room
 pub area-inside : (b : ℕ) (en : Bool) (instr : Instr) (e : ℕ) → forbidden_area b en instr e ≡ None → HasRoom instr e
 unfolding forbidden_area
-area-inside b en (Transfer write a i n) e h =
-    (ltb-false (e / 64) 32 (test-none (nat_lt (e / 64) 32) address_invalid _ h),
-    run-inside b en (area_access write) (e / 64) 8 (none-else (nat_lt (e / 64) 32) address_invalid _ h) (omega arith))
+area-inside b en (Transfer write a i n) e h = (
+  ltb-false (e / 64) 32 (test-none (nat_lt (e / 64) 32) address_invalid _ h),
+  run-inside b en (area_access write) (e / 64) 8 (none-else (nat_lt (e / 64) 32) address_invalid _ h) (omega arith),
+)
 area-inside b en (Half op a j i) e h = tt
 area-inside b en (Branch op a i) e h = tt
 area-inside b en (Floating n a i) e h = tt

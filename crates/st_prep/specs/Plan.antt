@@ -111,5 +111,16 @@ side_word table s w = option_map (word (opened table s)) w
 -- the next entry of a state, or the table instruction of the interrupt that it takes
 unfoldable pub plan : Machine → Option ℕ → Prepared
 plan s table =
-    let seen = sight s (place_of s table) in
-    prepared seen (side_word table s (needs seen).index_read)
+    let v = sight s (place_of s table) in prepared v (side_word table s (needs v).index_read)
+
+-- a state looks so, at the place of its next entry or of its table instruction
+pub record IsSeen (s : Machine) (v : Sight) : Type 0 where
+  pub place : place_of s v.place.table ≡ v.place
+  pub fetched : fetched s v.place ≡ v.fetched
+  pub words : index_words s ≡ v.x
+  pub bounds : word s 3 ≡ v.bounds
+  pub enabled : s.enabled ≡ v.enabled
+
+-- the index-side word of an entry of the state, where one is read
+abbrev pub side_of : Machine → Sight → Option ℕ
+side_of s v = side_word v.place.table s (needs v).index_read

@@ -4,7 +4,7 @@ use Rattle.st_bits.specs.Storage.{words_of_storage}
 use Rattle.st_bits.specs.declared.operations.HalfOp.{HalfOp}
 use Rattle.st_bits.specs.declared.operations.HalfOp.TheVariants.{Sx, Sv, Sc, Sr, Sva}
 use Rattle.st_format.specs.declared.instruction.Instr.{Instr}
-use Rattle.st_format.specs.declared.instruction.Instr.TheVariants.{Half, StoreCounter, Transfer}
+use Rattle.st_format.specs.declared.instruction.Instr.TheVariants.{Half, StoreCounter, Transfer, Invalid}
 use Rattle.st_format.specs.Formats.{IsShape, is_valid}
 use Rattle.st_prep.specs.declared.entries.Place.{Place}
 use Rattle.st_prep.specs.declared.entries.Fetched.{Fetched}
@@ -13,7 +13,7 @@ use Rattle.st_prep.specs.declared.entries.Needs.{Needs}
 use Rattle.st_prep.specs.declared.entries.Words.{Words}
 use Rattle.st_prep.specs.declared.entries.IndexChange.{IndexChange}
 use Rattle.st_prep.specs.declared.entries.Prepared.{Prepared}
-use Rattle.st_prep.specs.Entry.{reads, writes}
+use Rattle.st_prep.specs.Entry.{no_words, reads, writes}
 
 -- the counter and the address are half-word addresses, and the indicator is one
 pub record IsPlace (p : Place) : Type 0 where
@@ -21,15 +21,20 @@ pub record IsPlace (p : Place) : Type 0 where
   pub address : p.address < 2 ^ 19
   pub table : IfSome p.table (λ i. i < 64)
 
--- an instruction that bits spell, and an indicator
+-- the fields of an instruction are those that bits spell; of bits that spell none nothing is said
+abbrev pub HasFields : Instr → Type 0
+HasFields (Invalid first second full) = Unit {0}
+HasFields instr = IsShape instr
+
+-- an instruction, and an indicator
 pub record IsFound (f : Found) : Type 0 where
-  pub shape : IsShape f.decoded.instr
+  pub shape : HasFields f.decoded.instr
   pub fault : IfSome f.fault (λ i. i < 64)
 
--- the instructions are such that bits spell them, and the indicator is one
+-- the instructions have their fields, and the indicator is one
 pub record IsFetched (f : Fetched) : Type 0 where
-  pub own : IsShape f.instr.instr
-  pub target : IfSome f.target (λ d. IsShape d.instr)
+  pub own : HasFields f.instr.instr
+  pub target : IfSome f.target (λ d. HasFields d.instr)
   pub fault : IfSome f.fault (λ i. i < 64)
 
 -- two runs of at most sixteen words, which start at word addresses
@@ -82,6 +87,14 @@ pub record IsEntry (p : Prepared) : Type 0 where
   pub writes : p.writes ≡ writes p.instr p.e
   pub area : HasRoom p.instr p.e
 
+-- a suppressed entry
+pub record IsSuppressed (p : Prepared) : Type 0 where
+  pub index : p.index ≡ None
+  pub indicator : p.ind.off ≡ 0
+  pub reads : p.reads ≡ no_words
+  pub writes : p.writes ≡ no_words
+  pub cost : p.cost ≡ 1
+
 -- an entry that is not done alone
 pub record IsAhead (p : Prepared) : Type 0 where
   pub table : p.place.table ≡ None
@@ -91,7 +104,7 @@ pub record IsAhead (p : Prepared) : Type 0 where
 -- each entry that is prepared
 pub record IsPrepared (p : Prepared) : Type 0 where
   pub place : IsPlace p.place
-  pub shape : IsShape p.instr
+  pub shape : HasFields p.instr
   pub address : p.e < 2 ^ 24
   pub following : p.following < 2 ^ 19
   pub change : IfSome p.index IsChange
@@ -103,6 +116,7 @@ pub record IsPrepared (p : Prepared) : Type 0 where
   pub some_cost : 1 ≤ p.cost
   pub cost : p.cost ≤ 24
   pub entry : p.suppressed ≡ false → IsEntry p
+  pub suppressed : p.suppressed ≡ true → IsSuppressed p
   pub ahead : p.serial ≡ false → IsAhead p
 
 -- the index-side word lies in storage, and is no register where the entry is not done alone

@@ -1,6 +1,6 @@
 ghost use Rattle.std.specs.Prelude.{◌≡◌, ◌<◌, ◌≤◌, ◌^◌};
-ghost use Rattle.st_format.specs.Formats.{IsShape};
 ghost use Rattle.st_prep.specs.EarlyChange.{index_part as part_of, half_address as half_of, bit_address as bit_of, field_address as field_of, effective as effective_of};
+ghost use Rattle.st_prep.specs.Ranges.{HasFields};
 
 use st_format::Instr;
 use st_index::effective;
@@ -54,7 +54,7 @@ fn field_address(x: &[u64; 16], p: u8, address: u32, i: u8) -> u32
 /// The effective address of an instruction.
 #[tactic(auto, unfolding(crate::specs::EarlyChange::effective))]
 pub fn effective_address(instr: Instr, x: &[u64; 16]) -> u32
-    requires { IsShape instr }
+    requires { HasFields instr }
     ensures value { result ≡ effective_of x.now instr }
     ensures bound { result < 2 ^ 24 }
 {

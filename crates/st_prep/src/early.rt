@@ -1,12 +1,13 @@
 ghost use Rattle.std.specs.Prelude.{◌≡◌, ◌<◌, ◌≤◌, ◌^◌, ◌/◌};
 ghost use Rattle.st_bits.specs.IndexWord.{value_of as value};
-ghost use Rattle.st_format.specs.Formats.{IsShape};
 ghost use Rattle.st_prep.specs.EarlyChange.{refill_word as refill_word_of, half_side as half_side_of, progressive_side as progressive_side_of, side as side_of};
 ghost use Rattle.st_prep.specs.EarlyChange.{unchanged, compared as compared_of, changed as changed_of, half_change as half_change_of, progressive_change as progressive_change_of, change as change_of};
+ghost use Rattle.st_prep.specs.Ranges.{HasFields};
 
 use crate::entries::IndexChange;
 use st_bits::{
-    HalfOp, Ind, count_of, part, refill_of, value_of, with_count, with_part, with_refill, with_value,
+    HalfOp, Ind, count_of, part, refill_of, value_of, with_count, with_part, with_refill,
+    with_value,
 };
 use st_format::Instr;
 use st_index::{add_value, compare, count_down, index_result, progress, sum_values};
@@ -75,7 +76,7 @@ fn progressive_side(p: u8, x: u64, address: u32) -> Option<u32>
 /// The index-side word of an instruction with the effective address `e`.
 #[tactic(auto, unfolding(crate::specs::EarlyChange::side))]
 pub fn side(instr: Instr, x: &[u64; 16], e: u32) -> Option<u32>
-    requires shape { IsShape instr }
+    requires shape { HasFields instr }
     requires address { e < 2 ^ 24 }
     ensures { result ≡ side_of x.now instr e }
 {
@@ -185,7 +186,7 @@ fn progressive_change(p: u8, i: u8, x: u64, address: u32, read: Option<u64>) -> 
 /// The early change by an instruction with the effective address `e`; `read` is its index-side word.
 #[tactic(auto, unfolding(crate::specs::EarlyChange::change))]
 pub fn change(instr: Instr, x: &[u64; 16], e: u32, read: Option<u64>) -> Early
-    requires shape { IsShape instr }
+    requires shape { HasFields instr }
     requires address { e < 2 ^ 24 }
     ensures { result ≡ change_of x.now instr e read }
 {

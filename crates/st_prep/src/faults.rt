@@ -1,7 +1,6 @@
 ghost use Rattle.std.specs.Prelude.{◌≡◌, ◌+◌, ◌/◌, ◌<◌, ◌≤◌, ◌^◌, IfSome};
-ghost use Rattle.st_format.specs.Formats.{IsShape};
 ghost use Rattle.st_state.specs.Machine.{word, word as word_of};
-ghost use Rattle.st_prep.specs.Ranges.{IsFetched, IsRuns};
+ghost use Rattle.st_prep.specs.Ranges.{HasFields, IsFetched, IsRuns};
 ghost use Rattle.st_prep.specs.Checks.{seen, executed as executed_of, forbidden_by, forbidden_run as forbidden_run_of, forbidden_words as forbidden_words_of, forbidden_side as forbidden_side_of, forbidden_area as forbidden_area_of, area_access as area_access_of, operation_fault as operation_fault_of, fault as fault_of};
 
 use crate::addresses::effective_address;
@@ -29,7 +28,7 @@ const AREA: u8 = 8;
 pub fn executed(fetched: &Fetched) -> Instr
     requires { IsFetched fetched.now }
     ensures value { result ≡ executed_of fetched.now }
-    ensures shape { IsShape result }
+    ensures shape { HasFields result }
 {
     match fetched.target {
         Some(target) => target.instr,

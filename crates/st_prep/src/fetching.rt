@@ -1,10 +1,9 @@
 ghost use Rattle.std.specs.Prelude.{◌≡◌, ◌/◌, ◌<◌, ◌≤◌, ◌^◌, IfSome};
 ghost use Rattle.st_bits.specs.Storage.{words_of_storage};
-ghost use Rattle.st_format.specs.Formats.{IsShape};
 ghost use Rattle.st_state.specs.Boundary.{forbidden};
 ghost use Rattle.st_state.specs.declared.protection.Access.{Access};
 ghost use Rattle.st_prep.specs.Fetch.{index_words as index_words_of, half_at as half_of, place_of as place_by, address_by, found as found_of, found_after as found_after_of, found_whole as found_whole_of, is_execute as is_execute_of, with_own, with_target as with_target_of, nothing as nothing_of, fetched as fetched_at};
-ghost use Rattle.st_prep.specs.Ranges.{IsPlace, IsFetched, IsFound};
+ghost use Rattle.st_prep.specs.Ranges.{HasFields, IsPlace, IsFetched, IsFound};
 
 use crate::addresses::effective_address;
 use crate::entries::{Fetched, Place};
@@ -131,18 +130,12 @@ fn find(state: &State, h: u32) -> Found
 pub fn is_execute(instr: Instr) -> bool
     ensures { result ≡ is_execute_of instr }
 {
-    matches!(
-        instr,
-        Instr::Half {
-            op: HalfOp::Ex,
-            ..
-        }
-    )
+    matches!(instr, Instr::Half { op: HalfOp::Ex, .. })
 }
 
 /// EX with the target that it points to.
 fn with_target(ex: Decoded, target: Found) -> Fetched
-    requires ex { IsShape ex.instr }
+    requires ex { HasFields ex.instr }
     requires target { IsFound target }
     ensures value { result ≡ with_target_of ex target }
     ensures shape { IsFetched result }

@@ -7,10 +7,15 @@ mod early;
 mod entries;
 mod faults;
 mod fetching;
+mod laws;
 mod outcome;
 mod preparation;
 mod runs;
 
 pub use entries::{Fetched, IndexChange, Needs, Place, Prepared, Words};
 pub use fetching::{fetch, index_words, place_of};
-pub use preparation::{look, prepare};
+pub use laws::{forbidden_words_are_seen, looks_agree, plans_are_in_range};
+pub use preparation::{look, plan, prepare, side_word};
+
+#[cfg(test)]
+mod tests;

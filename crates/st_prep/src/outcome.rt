@@ -1,7 +1,7 @@
 ghost use Rattle.std.specs.Prelude.{◌≡◌, ◌<◌, ◌≤◌, ◌^◌};
-ghost use Rattle.st_format.specs.Formats.{IsShape};
 ghost use Rattle.st_prep.specs.Entry.{next as next_of, after_count as after_count_of, after_half as after_half_of, after_branch as after_branch_of, after as after_of};
 ghost use Rattle.st_prep.specs.Entry.{stored_part as stored_part_of, value as value_of, binary_cost as binary_cost_of, decimal_cost as decimal_cost_of, cost as cost_of, acts_alone as acts_alone_of};
+ghost use Rattle.st_prep.specs.Ranges.{HasFields};
 
 use crate::entries::Place;
 use st_bits::{BranchOp, HalfOp, VflOp, count_of, part, refill_of};
@@ -56,7 +56,7 @@ fn after_branch(op: BranchOp, counter: u32, e: u32, following: u32) -> u32
 /// The counter after an instruction, given the counter before it and the following instruction.
 #[tactic(auto, unfolding(crate::specs::Entry::after))]
 pub fn after(instr: Instr, x: &[u64; 16], e: u32, counter: u32, following: u32) -> u32
-    requires shape { IsShape instr }
+    requires shape { HasFields instr }
     requires counter { counter < 2 ^ 19 }
     requires address { e < 2 ^ 24 }
     ensures { result ≡ after_of instr x.now e counter following }
@@ -86,7 +86,7 @@ fn stored_part(op: HalfOp, x: u64) -> u64
 /// What an instruction stores of an index word or of the counter.
 #[tactic(auto, unfolding(crate::specs::Entry::value))]
 pub fn value(instr: Instr, x: &[u64; 16], following: u32) -> u64
-    requires { IsShape instr }
+    requires { HasFields instr }
     ensures { result ≡ value_of instr x.now following }
 {
     match instr {

@@ -1,8 +1,11 @@
-ghost use Rattle.std.specs.Prelude.{◌≡◌, ◌||◌, ◌<◌, ◌≤◌, ◌^◌, IfSome, is_some, false};
-ghost use Rattle.st_state.specs.Machine.{Machine};
+ghost use Rattle.std.specs.Prelude.{◌≡◌, ◌<◌, ◌^◌, IfSome, is_some};
+ghost use Rattle.st_bits.specs.Storage.{words_of_storage};
+ghost use Rattle.st_state.specs.Machine.{Machine, word};
+ghost use Rattle.st_state.specs.Interrupts.{indicator, turned};
 ghost use Rattle.st_prep.specs.EarlyChange.{words_after};
-ghost use Rattle.st_prep.specs.Checks.{seen, address_of};
-ghost use Rattle.st_prep.specs.Plan.{is_alone as is_alone_of, is_serial as is_serial_of, needs as needs_of, suppressed as suppressed_of, entry as entry_of, prepared as prepared_of, plan as plan_of, side_word as side_word_of, following as following_of};
+ghost use Rattle.st_prep.specs.Checks.{seen};
+ghost use Rattle.st_prep.specs.Plan.{is_alone as is_alone_of, is_serial as is_serial_of, needs as needs_of, suppressed as suppressed_of, entry as entry_of, prepared as prepared_of, plan as plan_of, opened, side_word as side_word_of, side_of, IsSeen, sight};
+ghost use Rattle.st_prep.specs.Fetch.{place_of as place_by};
 ghost use Rattle.st_prep.specs.Ranges.{IsPlace, IsFetched, IsNeeds, IsPrepared};
 
 use crate::addresses::effective_address;
@@ -14,6 +17,9 @@ use crate::outcome::{acts_alone, after, cost, next, value};
 use crate::runs::{has_register, is_register, none, reads, writes};
 use st_bits::Ind;
 use st_state::State;
+
+/// The address of the indicator register.
+const INDICATORS: u32 = 11;
 
 /// Whether an entry is done alone even where it is suppressed.
 fn is_alone(place: Place, fetched: &Fetched, x: &[u64; 16], state: &State) -> bool
@@ -62,8 +68,21 @@ pub fn look(place: &Place, fetched: &Fetched, x: &[u64; 16], state: &State) -> N
     requires { IsFetched fetched.now }
     ensures value { result ≡ needs_of (seen place.now fetched.now x.now state.now) }
     ensures ranges { IsNeeds result }
+
+    // It is what the next entry of each state needs that looks so.
+    ensures states { let v = seen place.now fetched.now x.now state.now in
+        (s : Machine) → IsSeen s v → result ≡ needs_of (sight s (place_by s place.now.table)) }
 {
     needs(*place, fetched, x, state)
+}
+
+/// The word with indicator `i` on and no other.
+fn bit(i: u8) -> u64
+    requires { i < 64 }
+    ensures value { result ≡ indicator i }
+    ensures bound { result < 2 ^ 64 }
+{
+    1 << (63 - i)
 }
 
 /// An entry that is suppressed by the indicator `i`.
@@ -80,10 +99,7 @@ fn suppressed(place: Place, fetched: &Fetched, x: &[u64; 16], state: &State, i: 
         e: 0,
         following: next(place, fetched.instr.halves),
         index: None,
-        ind: Ind {
-            on: 1 << (63 - i),
-            off: 0,
-        },
+        ind: Ind { on: bit(i), off: 0 },
         suppressed: true,
         reads: none(),
         writes: none(),
@@ -166,10 +182,15 @@ pub fn prepare(
 ) -> Prepared
     requires place { IsPlace place.now }
     requires fetched { IsFetched fetched.now }
-    requires asked { is_some read ≡ is_some (needs_of (seen place.now fetched.now x.old state.now)).index_read }
+    requires asked { let v = seen place.now fetched.now x.old state.now in is_some read ≡ is_some (needs_of v).index_read }
+
     ensures value { result ≡ prepared_of (seen place.now fetched.now x.old state.now) read }
     ensures ranges { IsPrepared result }
     ensures words { x.new ≡ words_after x.old result.index }
+
+    // It is the next entry of each state that looks so.
+    ensures states { let v = seen place.now fetched.now x.old state.now in
+        (s : Machine) → IsSeen s v → read ≡ side_of s v → result ≡ plan_of s place.now.table }
 {
     read_shape(read);
     let prepared = make(*place, fetched, x, read, state);
@@ -177,4 +198,54 @@ pub fn prepare(
         x[change.number as usize] = change.word;
     }
     prepared
+}
+
+/// The word that a table instruction, or another one, finds at the word address `w`.
+fn found_word(state: &State, table: Option<u8>, w: u32) -> u64
+    requires inside { w < words_of_storage }
+    requires indicator { IfSome table (λ i. i < 64) }
+    ensures value { result ≡ word (opened table state.now) w }
+{
+    state.shape();
+    let word = state.word(w);
+    match table {
+        Some(i) if w == INDICATORS => without(word, i),
+        _ => word,
+    }
+}
+
+/// A word of indicators with indicator `i` off.
+fn without(indicators: u64, i: u8) -> u64
+    requires { i < 64 }
+    ensures { result ≡ turned 64 0 (indicator i) indicators }
+{
+    indicators & !bit(i)
+}
+
+/// The index-side word, as the next entry of a state or its table instruction finds it: an interrupt has turned off
+/// the indicator that it takes.
+pub fn side_word(state: &State, table: Option<u8>, w: Option<u32>) -> Option<u64>
+    requires inside { IfSome w (λ w. w < words_of_storage) }
+    requires indicator { IfSome table (λ i. i < 64) }
+    ensures { result ≡ side_word_of table state.now w }
+{
+    match w {
+        Some(w) => Some(found_word(state, table, w)),
+        None => None,
+    }
+}
+
+/// The next entry of a state, or the table instruction of an interrupt by the indicator in `table`, prepared.
+#[tactic(auto, unfolding(crate::specs::Plan::plan, crate::specs::Plan::sight))]
+pub fn plan(state: &State, table: Option<u8>) -> Prepared
+    requires { IfSome table (λ i. i < 64) }
+    ensures value { result ≡ plan_of state.now table }
+    ensures ranges { IsPrepared result }
+{
+    let place = place_of(state, table);
+    let fetched = fetch(state, &place);
+    let mut x = index_words(state);
+    let needs = look(&place, &fetched, &x, state);
+    let read = side_word(state, table, needs.index_read);
+    prepare(&place, &fetched, &mut x, read, state)
 }

@@ -1,10 +1,9 @@
 ghost use Rattle.std.specs.Prelude.{◌≡◌, ◌<◌, ◌≤◌, ◌^◌};
-ghost use Rattle.st_format.specs.Formats.{IsShape};
 ghost use Rattle.st_format.specs.Operations.{writes_field as writes};
 ghost use Rattle.st_format.specs.declared.operations.FullOp.{FullOp};
 ghost use Rattle.st_prep.specs.Entry.{no_words, one_run as one_run_of, two_runs as two_runs_of, field_words as field_words_of, operand_words as operand_words_of, words_read as words_read_of, words_written as words_written_of};
 ghost use Rattle.st_prep.specs.Entry.{is_index_store as is_store, reads_field as reads_it, reads as reads_of, writes as writes_of, has_register as has_register_of, is_register as is_register_of};
-ghost use Rattle.st_prep.specs.Ranges.{IsRuns};
+ghost use Rattle.st_prep.specs.Ranges.{HasFields, IsRuns};
 
 use crate::entries::Words;
 use st_bits::{ConnKind, HalfOp, VflOp};
@@ -46,7 +45,11 @@ fn field_words(e: u32, length: u8) -> Words
     ensures value { result ≡ field_words_of e length }
     ensures runs { IsRuns result }
 {
-    let len = if e % 64 + u32::from(length) <= 64 { 1 } else { 2 };
+    let len = if e % 64 + u32::from(length) <= 64 {
+        1
+    } else {
+        2
+    };
     one_run(e / 64, len)
 }
 
@@ -55,7 +58,11 @@ fn operand_words(p: u8, e: u32, length: u8) -> Words
     ensures value { result ≡ operand_words_of p e length }
     ensures runs { IsRuns result }
 {
-    if p == 1 { none() } else { field_words(e, length) }
+    if p == 1 {
+        none()
+    } else {
+        field_words(e, length)
+    }
 }
 
 /// The words that a transmission reads.
@@ -114,7 +121,7 @@ fn writes_result(kind: ConnKind) -> bool
 /// The words that an instruction with the effective address `e` reads, in order.
 #[tactic(auto, unfolding(crate::specs::Entry::reads))]
 pub fn reads(instr: Instr, e: u32) -> Words
-    requires shape { IsShape instr }
+    requires shape { HasFields instr }
     requires address { e < 2 ^ 24 }
     ensures value { result ≡ reads_of instr e }
     ensures runs { IsRuns result }
@@ -136,7 +143,7 @@ pub fn reads(instr: Instr, e: u32) -> Words
 /// The words that an instruction with the effective address `e` writes, in order.
 #[tactic(auto, unfolding(crate::specs::Entry::writes))]
 pub fn writes(instr: Instr, e: u32) -> Words
-    requires shape { IsShape instr }
+    requires shape { HasFields instr }
     requires address { e < 2 ^ 24 }
     ensures value { result ≡ writes_of instr e }
     ensures runs { IsRuns result }

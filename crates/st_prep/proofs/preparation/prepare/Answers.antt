@@ -1,8 +1,9 @@
-use Rattle.std.proofs.Common.{◌≡◌, ◌<◌, ◌^◌, Option, None, Some, sym, subst}
+use Rattle.std.proofs.Common.{◌≡◌, ◌<◌, ◌^◌, Option, None, Some, sym, subst, ◌∙◌}
 use Rattle.std.specs.Prelude.{IfSome}
 use Rattle.st_prep.specs.declared.entries.IndexChange.{IndexChange}
 use Rattle.st_prep.specs.Ranges.{IsChange, IsPrepared}
 use Rattle.st_prep.proofs.PreparedLemmas.{IsSight, is_prepared}
+use Rattle.st_prep.proofs.PlanLemmas.{prepared-plan}
 use Rattle.st_prep.proofs.preparation.prepare.Goals as goal
 
 -- the change that is there has a number
@@ -25,3 +26,9 @@ pub returns-in_default-clause-ranges : goal.returns-in_default-clause-ranges
 returns-in_default-clause-ranges c =
     subst IsPrepared (sym c.make-prepared.ensures)
     (is_prepared _ _ (record { place = c.requires.place; fetched = c.requires.fetched; words = c.fits-x }) c.read_shape.ensures)
+
+pub returns-in-Some-clause-states : goal.returns-in-Some-clause-states
+returns-in-Some-clause-states c = λ s h e. c.make-prepared.ensures ∙ prepared-plan s _ c.args.read h e
+
+pub returns-in_default-clause-states : goal.returns-in_default-clause-states
+returns-in_default-clause-states c = λ s h e. c.make-prepared.ensures ∙ prepared-plan s _ c.args.read h e

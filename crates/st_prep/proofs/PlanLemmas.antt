@@ -1,0 +1,111 @@
+-- Entries of states.
+use Rattle.std.proofs.Common.{◌≡◌, ℕ, ◌+◌, ◌-◌, ◌*◌, ◌/◌, ◌%◌, ◌^◌, ◌<◌, ◌≤◌, Bool, true, false, List, length, get_or, take, drop, Option, None, Some, refl, sym, ◌∙◌, ap, subst, arith, bit_and, bit_or, inl, inr}
+use Rattle.std.specs.Prelude.{IfSome, option_map, slice_index}
+use Rattle.std.proofs.lemmas.List.{get_or-take, get_or-drop, get_or_past, length-take}
+use Rattle.std.proofs.lemmas.Bool.Decides.{leb_tells}
+use Rattle.std.specs.Int.Bits.{or_zero_r}
+use Rattle.st_bits.specs.Bits.{part}
+use Rattle.st_bits.specs.Storage.{words_of_storage, words_of_storage_is}
+use Rattle.st_bits.specs.Registers.{fixed}
+use Rattle.st_state.specs.Machine.{Machine, IsMachine, word, with_word}
+use Rattle.st_state.specs.Interrupts.{indicator, turned}
+use Rattle.st_state.proofs.Kept.{is_machine-with_word}
+use Rattle.st_state.proofs.Turned.{turned_below, turned-masks}
+use Rattle.st_prep.specs.declared.entries.Place.{Place}
+use Rattle.st_prep.specs.declared.entries.Fetched.{Fetched}
+use Rattle.st_prep.specs.Fetch.{index_words, table_address, address_by, place_of, fetched}
+use Rattle.st_prep.specs.Checks.{Sight, seen}
+use Rattle.st_prep.specs.Plan.{needs, prepared, sight, opened, side_word, side_of, plan, IsSeen}
+use Rattle.st_prep.specs.Ranges.{IsPlace, IsPrepared}
+use Rattle.st_prep.proofs.FetchLemmas.{fetched-fits}
+use Rattle.st_prep.proofs.PreparedLemmas.{IsSight, is_prepared}
+
+-- ---- indicators
+
+-- an indicator that is taken goes off
+pub without-turned : (x off : ℕ) → x < 2 ^ 64 → off < 2 ^ 64 → bit_and x (2 ^ 64 - 1 - off) ≡ turned 64 0 off x
+without-turned x off word fits =
+    sym (or_zero_r (bit_and x (2 ^ 64 - 1 - off))) ∙ turned-masks 0 off x (omega arith) fits word
+
+-- ---- states
+
+fixed-indicators : (x : ℕ) → fixed 11 x ≡ x
+unfolding fixed
+fixed-indicators x = refl
+
+-- an interrupt that is taken leaves a state
+pub is_machine-opened : (t : Option ℕ) (s : Machine) → IsMachine s → IsMachine (opened t s)
+is_machine-opened None s m = m
+is_machine-opened (Some i) s m =
+    let x : ℕ = turned 64 0 (indicator i) (word s 11) in
+    let n = is_machine-with_word s 11 x m (omega (arith, words_of_storage_is)) (turned_below 64 0 (indicator i) (word s 11)) (fixed-indicators x) in
+    record {
+      size = n.size;
+      counter = n.counter;
+      below = n.below;
+      registers = n.registers;
+      reader_area = n.reader_area;
+      printer_area = n.printer_area;
+    }
+
+side_word-below : (t : Option ℕ) (s : Machine) (w : Option ℕ) → IsMachine s → IfSome (side_word t s w) (λ x. x < 2 ^ 64)
+side_word-below t s None m = tt
+side_word-below t s (Some w) m = (is_machine-opened t s m).below w
+
+index_words-below : (s : Machine) (j : ℕ) → IsMachine s → get_or (index_words s) j 0 < 2 ^ 64
+unfolding index_words
+index_words-below s j m =
+    elim (leb_tells 16 j) [
+      | inl past ↦
+          let past_end : length (take 16 (drop 16 s.words)) ≤ j =
+          let far : 16 ≤ j = past.1 in omega (arith, length-take 16 (drop 16 s.words)) in
+          let zero : get_or (take 16 (drop 16 s.words)) j 0 ≡ 0 = get_or_past (take 16 (drop 16 s.words)) j 0 past_end in
+          rw zero (omega arith)
+      | inr near ↦
+          let word_of : get_or (take 16 (drop 16 s.words)) j 0 ≡ word s (16 + j) =
+          get_or-take 16 (drop 16 s.words) j 0 near.1 ∙ get_or-drop 16 s.words j 0 in
+          rw word_of (m.below (16 + j))
+    ]
+
+address-below : (t : Option ℕ) (s : Machine) → IsMachine s → address_by t s < 2 ^ 19
+address-below None s m = m.counter
+address-below (Some i) s m = omega arith
+
+place-fits : (s : Machine) (t : Option ℕ) → IsMachine s → IfSome t (λ i. i < 64) → IsPlace (place_of s t)
+unfolding place_of
+place-fits s t m some = record { counter = m.counter; address = address-below t s m; table = some }
+
+sight-fits : (s : Machine) (t : Option ℕ) → IsMachine s → IfSome t (λ i. i < 64) → IsSight (sight s (place_of s t))
+unfolding sight
+sight-fits s t m some = record {
+  place = place-fits s t m some;
+  fetched = fetched-fits s (place_of s t);
+  words = λ j. index_words-below s j m;
+}
+
+-- each entry of a state is in its ranges
+pub plan-prepared : (s : Machine) (t : Option ℕ) → IsMachine s → IfSome t (λ i. i < 64) → IsPrepared (plan s t)
+unfolding plan
+plan-prepared s t m some =
+    is_prepared _ _ (sight-fits s t m some) (side_word-below t s (needs (sight s (place_of s t))).index_read m)
+
+-- ---- states that look the same
+
+same_seen : (p q : Place) (f g : Fetched) (x y : List ℕ) (b c : ℕ) (m n : Bool) → p ≡ q → f ≡ g → x ≡ y → b ≡ c → m ≡ n
+    → ◌≡◌ {A = Sight} (record { place = p; fetched = f; x = x; bounds = b; enabled = m })
+    (record { place = q; fetched = g; x = y; bounds = c; enabled = n })
+same_seen p q f g x y b c m n e1 e2 e3 e4 e5 = cc
+
+pub sight-seen : (s : Machine) (v : Sight) → IsSeen s v → sight s (place_of s v.place.table) ≡ v
+unfolding sight
+sight-seen s v h =
+    same_seen _ v.place _ v.fetched _ v.x _ v.bounds _ v.enabled h.place
+    (ap (fetched s) h.place ∙ h.fetched) h.words h.bounds h.enabled
+
+-- an entry that is prepared by what a state looks like is the state's next one
+pub prepared-plan : (s : Machine) (v : Sight) (r : Option ℕ) → IsSeen s v → r ≡ side_of s v
+    → prepared v r ≡ plan s v.place.table
+unfolding plan
+prepared-plan s v r h e =
+    ap (prepared v) e
+    ∙ ap (λ u. prepared u (side_word v.place.table s (needs u).index_read)) (sym (sight-seen s v h))
