@@ -7,7 +7,6 @@ use Rattle.st_bin.specs.declared.fields.Shape.{Shape}
 use Rattle.std.proofs.lemmas.Bool.Decides.{nat_tests}
 use Rattle.st_bin.specs.Numbers.{exceeds}
 use Rattle.st_bin.specs.BinaryOperand.{IsShape, magnitude_bits, sign_byte, sign_of, last_byte, field_of, field_bits}
-use Rattle.st_bin.specs.declared.fields.Field.{Field}
 
 -- what holds of each size of a byte holds of all
 pub each_byte : (P : ℕ → Type 0) → P 1 → P 2 → P 3 → P 4 → P 5 → P 6 → P 7 → P 8 → (b : ℕ) → 1 ≤ b → b ≤ 8 → P b

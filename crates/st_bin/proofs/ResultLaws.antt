@@ -1,5 +1,5 @@
 -- What every result keeps: the bits of a field that is written have room in it.
-use Rattle.std.proofs.Common.{◌≡◌, ℕ, ◌+◌, ◌-◌, ◌*◌, ◌%◌, ◌^◌, ◌<◌, ◌≤◌, Bool, true, false, refl, subst, arith, ◌==◌}
+use Rattle.std.proofs.Common.{◌≡◌, ℕ, ◌^◌, ◌<◌, Bool, true, false, refl, subst, arith, ◌==◌}
 use Rattle.std.proofs.Math.Nat.{mod-lt}
 use Rattle.std.specs.Prelude.{IfSome, cond}
 use Rattle.std.proofs.Math.Pow.{pow_pos}

@@ -1,5 +1,5 @@
 -- The parts of a binary field: magnitude, sign, flags and zone, as whole numbers.
-use Rattle.std.specs.Prelude.{ℕ, ◌≡◌, ◌+◌, ◌-◌, ◌*◌, ◌/◌, ◌%◌, ◌^◌, ◌<◌, ◌≤◌, Bool, true, false, ◌==◌, if◌then◌else◌}
+use Rattle.std.specs.Prelude.{ℕ, ◌≡◌, ◌+◌, ◌-◌, ◌*◌, ◌/◌, ◌%◌, ◌^◌, ◌<◌, ◌≤◌, Bool, false, ◌==◌, if◌then◌else◌}
 use Rattle.st_bin.specs.declared.fields.Field.{Field}
 use Rattle.st_bin.specs.declared.fields.Shape.{Shape}
 

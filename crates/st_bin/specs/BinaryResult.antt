@@ -1,5 +1,5 @@
 -- What each binary operation makes of the accumulator, the field and the registers.
-use Rattle.std.specs.Prelude.{ℕ, zero, suc, ◌+◌, ◌-◌, ◌*◌, ◌/◌, ◌%◌, ◌^◌, ℤ, pos, negsuc, ◌+ℤ◌, neg_ℤ, unsigned_abs, Bool, true, false, nat_le, ◌==◌, ◌||◌, if◌then◌else◌, None, Some}
+use Rattle.std.specs.Prelude.{ℕ, ◌+◌, ◌-◌, ◌*◌, ◌/◌, ◌%◌, ◌^◌, ℤ, ◌+ℤ◌, unsigned_abs, Bool, true, false, nat_le, ◌==◌, ◌||◌, if◌then◌else◌, None, Some}
 use Rattle.std.specs.declared.cmp.Ordering.{Ordering}
 use Rattle.std.specs.Ordering.{int_cmp}
 use Rattle.st_bits.specs.declared.operations.VflOp.{VflOp}
@@ -9,7 +9,7 @@ use Rattle.st_bin.specs.declared.accumulator.Acc.{Acc}
 use Rattle.st_bin.specs.declared.outcome.Done.{Done}
 use Rattle.st_bin.specs.declared.fields.Field.{Field}
 use Rattle.st_bin.specs.declared.fields.Shape.{Shape}
-use Rattle.st_bin.specs.Indicators.{indicator, lost_carry, partial_field, flag_indicators, by_number, without_number, by_order, by_order_if_equal, by_range}
+use Rattle.st_bin.specs.Indicators.{indicator, lost_carry, partial_field, flag_indicators, by_number, by_order, by_order_if_equal, by_range}
 use Rattle.st_bin.specs.BinaryOperand.{magnitude_bits, zone_of, sign_of, flags_of, sign_byte, field_of, field_bits}
 use Rattle.st_bin.specs.Numbers.{signed, exactly_one, sign_after, exceeds}
 use Rattle.st_bin.specs.Digits.{value_of, digits_of}
@@ -44,18 +44,18 @@ placing f h = flag_indicators f.flags + partial_field (exceeds (f.mag * 2 ^ h.of
 abbrev pub from_offset : Acc → Shape → ℕ
 from_offset a h = a.mag / 2 ^ h.offset
 
--- nothing but indicators changes
-abbrev pub unchanged : Acc → Ind → Done
-unchanged a ind = record { acc = a; field = None; rm = None; ft = None; tr = None; ind = ind }
+-- an operation that leaves the accumulator a and writes no field and no register
+abbrev pub done_with : Acc → Ind → Done
+done_with a ind = record { acc = a; field = None; rm = None; ft = None; tr = None; ind = ind }
 
 -- the accumulator changes, and is the result number
 abbrev pub in_accumulator : Acc → ℕ → Done
-in_accumulator a on = unchanged a (by_number false (is_minus a) a.mag on)
+in_accumulator a on = done_with a (by_number false (is_minus a) a.mag on)
 
 -- the field becomes f, and is the result number
 abbrev pub in_field : Acc → Field → Shape → ℕ → Done
 in_field a f h on =
-    record (unchanged a (by_number true f.negative f.mag on)) { field = Some (field_bits f h) }
+    record (done_with a (by_number true f.negative f.mag on)) { field = Some (field_bits f h) }
 
 -- a magnitude and a sign byte put into the accumulator
 abbrev pub load : ℕ → ℕ → ℕ → Done
@@ -71,7 +71,7 @@ loaded_with_flags f h = load (placed f h) (sign_byte f.zone (operand_minus f h) 
 
 -- the operand is the result number
 abbrev pub operand_kept : Acc → Field → Shape → ℕ → Done
-operand_kept a f h on = unchanged a (by_number false (operand_minus f h) f.mag on)
+operand_kept a f h on = done_with a (by_number false (operand_minus f h) f.mag on)
 
 -- LTRS: the magnitude goes to the transit register
 unfoldable pub transit_set : Acc → Field → Shape → Done
@@ -156,27 +156,27 @@ order_of_fields a f h =
 
 -- K, and KF for as much as the field holds
 unfoldable pub compared : Acc → Field → Shape → Done
-compared a f h = unchanged a (by_order (order_of_numbers a f h) (placing f h))
+compared a f h = done_with a (by_order (order_of_numbers a f h) (placing f h))
 
 unfoldable pub field_compared : Acc → Field → Shape → Done
-field_compared a f h = unchanged a (by_order (order_of_fields a f h) (flag_indicators f.flags))
+field_compared a f h = done_with a (by_order (order_of_fields a f h) (flag_indicators f.flags))
 
 -- KE and KFE, which act only if AE is on
 unfoldable pub compared_if_equal : Acc → Field → Shape → ℕ → Done
 compared_if_equal a f h ind =
-    unchanged a (by_order_if_equal ind (order_of_numbers a f h) (placing f h))
+    done_with a (by_order_if_equal ind (order_of_numbers a f h) (placing f h))
 
 unfoldable pub field_compared_if_equal : Acc → Field → Shape → ℕ → Done
 field_compared_if_equal a f h ind =
-    unchanged a (by_order_if_equal ind (order_of_fields a f h) (flag_indicators f.flags))
+    done_with a (by_order_if_equal ind (order_of_fields a f h) (flag_indicators f.flags))
 
 -- KR and KFR, which act only if AL is off
 unfoldable pub range_compared : Acc → Field → Shape → ℕ → Done
-range_compared a f h ind = unchanged a (by_range ind (order_of_numbers a f h) (placing f h))
+range_compared a f h ind = done_with a (by_range ind (order_of_numbers a f h) (placing f h))
 
 unfoldable pub field_range_compared : Acc → Field → Shape → ℕ → Done
 field_range_compared a f h ind =
-    unchanged a (by_range ind (order_of_fields a f h) (flag_indicators f.flags))
+    done_with a (by_range ind (order_of_fields a f h) (flag_indicators f.flags))
 
 -- a product or quotient put into the accumulator: minus where exactly one of both is minus
 abbrev pub multiplied : Acc → Field → Shape → ℕ → ℕ → Done
@@ -202,7 +202,7 @@ product_added a f h ft = product_summed a f h (ft * f.mag * 2 ^ h.offset)
 -- /: the quotient, and the remainder in its register; for a zero divisor ZD comes on, and that is all
 unfoldable pub divided : Acc → Field → Shape → Done
 divided a f h =
-    if f.mag == 0 then unchanged a (record { on = indicator 24; off = 0 })
+    if f.mag == 0 then done_with a (record { on = indicator 24; off = 0 })
     else record (multiplied a f h (from_offset a h / f.mag) (flag_indicators f.flags)) {
       rm = Some (from_offset a h % f.mag);
     }
@@ -210,7 +210,7 @@ divided a f h =
 -- decimal digits put into the accumulator, whose value is the result number
 abbrev pub digits_loaded : Bool → ℕ → ℕ → Done
 digits_loaded minus digits on =
-    unchanged (record { mag = digits; sb = sign_byte 0 minus 0 })
+    done_with (record { mag = digits; sb = sign_byte 0 minus 0 })
     (by_number false minus (value_of 32 digits) on)
 
 -- LCV: the number t in decimal; digits past the 32nd are lost

@@ -1,5 +1,4 @@
-ghost use Rattle.std.specs.Prelude.{◌≡◌, ◌<◌, ◌^◌};
-ghost use Rattle.st_bin.specs.BinaryOperand.{zone_of, flags_of};
+ghost use Rattle.std.specs.Prelude.{◌≡◌, ◌<◌};
 ghost use Rattle.st_bin.specs.BinaryResult.{is_minus as minus_of, with_number as with_number_of, from_offset as from_offset_of, addend_minus};
 
 use crate::fields::{Shape, is_minus, sign_byte};

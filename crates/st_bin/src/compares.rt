@@ -6,10 +6,10 @@ ghost use Rattle.st_bin.specs.BinaryResult.{compared, compared_if_equal, range_c
 ghost use Rattle.st_bin.specs.BinaryResult.{field_compared, field_compared_if_equal, field_range_compared};
 
 use crate::accumulator::{Acc, number};
-use crate::outcome::{Done, unchanged};
+use crate::fields::{Field, Shape, magnitude_bits};
 use crate::indicators::{by_order, by_order_if_equal, by_range, flag_indicators};
 use crate::operand::{operand, place};
-use crate::fields::{Field, Shape, magnitude_bits};
+use crate::outcome::{Done, done_with};
 use crate::signed::{Signed, low_bits, order};
 use std::cmp::Ordering;
 
@@ -64,7 +64,7 @@ pub fn compare(acc: &Acc, f: &Field, shape: &Shape) -> Done
     ensures { result ≡ compared acc.now f.now shape.now }
 {
     let sides = numbers(acc, f, shape);
-    unchanged(acc, by_order(sides.order, sides.on))
+    done_with(acc, by_order(sides.order, sides.on))
 }
 
 /// Compare field: the same by as much of the accumulator as the field holds.
@@ -75,7 +75,7 @@ pub fn compare_field(acc: &Acc, f: &Field, shape: &Shape) -> Done
     ensures { result ≡ field_compared acc.now f.now shape.now }
 {
     let sides = fields(acc, f, shape);
-    unchanged(acc, by_order(sides.order, sides.on))
+    done_with(acc, by_order(sides.order, sides.on))
 }
 
 /// Compare if equal: as `compare`, only where AE is on in `ind`.
@@ -86,7 +86,7 @@ pub fn compare_if_equal(acc: &Acc, f: &Field, shape: &Shape, ind: u64) -> Done
     ensures { result ≡ compared_if_equal acc.now f.now shape.now ind }
 {
     let sides = numbers(acc, f, shape);
-    unchanged(acc, by_order_if_equal(ind, sides.order, sides.on))
+    done_with(acc, by_order_if_equal(ind, sides.order, sides.on))
 }
 
 /// Compare field if equal: as `compare_field`, only where AE is on in `ind`.
@@ -97,7 +97,7 @@ pub fn compare_field_if_equal(acc: &Acc, f: &Field, shape: &Shape, ind: u64) -> 
     ensures { result ≡ field_compared_if_equal acc.now f.now shape.now ind }
 {
     let sides = fields(acc, f, shape);
-    unchanged(acc, by_order_if_equal(ind, sides.order, sides.on))
+    done_with(acc, by_order_if_equal(ind, sides.order, sides.on))
 }
 
 /// Compare for range: the operand is the upper end of a range; acts only where AL is off in `ind`.
@@ -108,7 +108,7 @@ pub fn compare_range(acc: &Acc, f: &Field, shape: &Shape, ind: u64) -> Done
     ensures { result ≡ range_compared acc.now f.now shape.now ind }
 {
     let sides = numbers(acc, f, shape);
-    unchanged(acc, by_range(ind, sides.order, sides.on))
+    done_with(acc, by_range(ind, sides.order, sides.on))
 }
 
 /// Compare field for range: as `compare_range`, by as much of the accumulator as the field holds.
@@ -119,5 +119,5 @@ pub fn compare_field_range(acc: &Acc, f: &Field, shape: &Shape, ind: u64) -> Don
     ensures { result ≡ field_range_compared acc.now f.now shape.now ind }
 {
     let sides = fields(acc, f, shape);
-    unchanged(acc, by_range(ind, sides.order, sides.on))
+    done_with(acc, by_range(ind, sides.order, sides.on))
 }

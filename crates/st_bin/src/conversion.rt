@@ -4,15 +4,15 @@ ghost use Rattle.st_bin.specs.BinaryResult.{converted};
 
 use crate::accumulator::Acc;
 use crate::digits::to_digits;
-use crate::outcome::{Done, unchanged};
+use crate::fields::{Field, Shape, sign_byte};
 use crate::indicators::{by_number, flag_indicators, partial_field};
 use crate::operand::operand;
-use crate::fields::{Field, Shape, sign_byte};
+use crate::outcome::{Done, done_with};
 use crate::signed::Signed;
 
 /// Ten to the power of `n`, at most 32.
 #[tactic(auto, using(crate::proofs::DigitLemmas::power_rules))]
-fn power_of_ten(n: u8) -> u128
+pub fn power_of_ten(n: u8) -> u128
     requires { n ≤ 32 }
     ensures value { result ≡ 10 ^ n }
     ensures some { 0 < result }
@@ -47,5 +47,5 @@ pub fn load_converted(f: &Field, shape: &Shape) -> Done
         sb: sign_byte(0, negative, 0),
     };
     let on = flag_indicators(f.flags) + partial_field(is_lost);
-    unchanged(&acc, by_number(false, Signed { negative, mag }, on))
+    done_with(&acc, by_number(false, Signed { negative, mag }, on))
 }

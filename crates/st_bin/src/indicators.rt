@@ -1,10 +1,10 @@
 //! The indicators that an operation on a field sets, and what it turns on and off in the end. Indicator n of a word is
 //! the bit of value 2^(63 - n).
-ghost use Rattle.std.specs.Prelude.{◌≡◌, ◌<◌, ◌≤◌, ◌*◌, ◌^◌};
+ghost use Rattle.std.specs.Prelude.{◌≡◌, ◌<◌, ◌≤◌, ◌^◌};
 ghost use Rattle.st_bin.specs.Indicators.{flag_indicators as flag_indicators_of, number_indicators as number_indicators_of};
 ghost use Rattle.st_bin.specs.Indicators.{by_number as by_number_of, without_number as without_number_of, by_order as by_order_of};
 ghost use Rattle.st_bin.specs.Indicators.{by_order_if_equal as by_order_if_equal_of, by_range as by_range_of};
-ghost use Rattle.st_bin.specs.Indicators.{indicator, is_on as is_on_of, lost_carry as lost_carry_of, partial_field as partial_field_of, order_indicator};
+ghost use Rattle.st_bin.specs.Indicators.{lost_carry as lost_carry_of, partial_field as partial_field_of};
 
 use crate::signed::Signed;
 use st_bits::Ind;
@@ -18,12 +18,17 @@ pub const BINARY_TRANSIT: u64 = 1 << 24;
 const TO_MEMORY: u64 = 1 << 8;
 /// RLZ, RZ and RGZ: the result number is below, equal to and above zero. RN: its sign is minus.
 const RESULT_BELOW: u64 = 1 << 7;
+
 const RESULT_ZERO: u64 = 1 << 6;
+
 const RESULT_ABOVE: u64 = 1 << 5;
+
 const RESULT_MINUS: u64 = 1 << 4;
 /// AL, AE and AH: the accumulator's side of a comparison is below, equal to and above the operand.
 const LOW: u64 = 1 << 3;
+
 const EQUAL: u64 = 1 << 2;
+
 const HIGH: u64 = 1 << 1;
 
 /// LC, where a carry is lost.

@@ -6,7 +6,7 @@ use crate::accumulator::Acc;
 use crate::fields::{Field, Shape, sign_byte};
 use crate::indicators::{BINARY_TRANSIT, by_number, flag_indicators};
 use crate::operand::{Placed, operand, place};
-use crate::outcome::{Done, in_accumulator, unchanged};
+use crate::outcome::{Done, done_with, in_accumulator};
 
 /// Load: the operand at the offset, with no zone and no flags.
 #[tactic(auto, unfolding(crate::specs::BinaryResult::loaded))]
@@ -48,7 +48,7 @@ pub fn load_transit(acc: &Acc, f: &Field, shape: &Shape) -> Done
     let on = flag_indicators(f.flags) + BINARY_TRANSIT;
     Done {
         tr: Some(f.mag),
-        ..unchanged(acc, by_number(false, operand(f, shape), on))
+        ..done_with(acc, by_number(false, operand(f, shape), on))
     }
 }
 
@@ -62,6 +62,6 @@ pub fn load_factor(acc: &Acc, f: &Field, shape: &Shape) -> Done
     let on = flag_indicators(f.flags);
     Done {
         ft: Some(f.mag),
-        ..unchanged(acc, by_number(false, operand(f, shape), on))
+        ..done_with(acc, by_number(false, operand(f, shape), on))
     }
 }

@@ -3,14 +3,16 @@ ghost use Rattle.st_bin.specs.BinaryOperand.{IsShape, HasRoom};
 ghost use Rattle.st_bin.specs.BinaryResult.{result as binary_result, result_of};
 
 use crate::accumulator::Acc;
-use crate::compares::{compare, compare_field, compare_field_if_equal};
-use crate::compares::{compare_field_range, compare_if_equal, compare_range};
+use crate::compares::{
+    compare, compare_field, compare_field_if_equal, compare_field_range, compare_if_equal,
+    compare_range,
+};
 use crate::conversion::load_converted;
-use crate::outcome::Done;
-use crate::loads::{load, load_factor, load_transit, load_with_flags};
 use crate::fields::{Field, Shape, read_field};
-use crate::stores::store;
+use crate::loads::{load, load_factor, load_transit, load_with_flags};
+use crate::outcome::Done;
 use crate::products::{divide, multiply, multiply_and_add};
+use crate::stores::store;
 use crate::sums::{add, add_one_to_field, add_to_field, add_to_field_magnitude, add_to_magnitude};
 use st_bits::VflOp;
 

@@ -1,10 +1,10 @@
 ghost use Rattle.std.specs.Prelude.{◌≡◌, ◌<◌, ◌^◌};
 ghost use Rattle.st_bin.specs.BinaryOperand.{IsShape, HasRoom};
-ghost use Rattle.st_bin.specs.BinaryResult.{unchanged as unchanged_of, in_accumulator as in_accumulator_of, in_field as in_field_of};
+ghost use Rattle.st_bin.specs.BinaryResult.{done_with as done_with_of, in_accumulator as in_accumulator_of, in_field as in_field_of};
 
 use crate::accumulator::{Acc, number};
-use crate::indicators::by_number;
 use crate::fields::{Field, Shape, write_field};
+use crate::indicators::by_number;
 use crate::signed::Signed;
 use st_bits::Ind;
 
@@ -25,9 +25,9 @@ pub struct Done {
     pub ind: Ind,
 }
 
-/// Nothing but indicators changes.
-pub fn unchanged(acc: &Acc, ind: Ind) -> Done
-    ensures { result ≡ unchanged_of acc.now ind }
+/// The accumulator becomes `acc`, and no field and no register is written.
+pub fn done_with(acc: &Acc, ind: Ind) -> Done
+    ensures { result ≡ done_with_of acc.now ind }
 {
     Done {
         acc: *acc,
@@ -44,7 +44,7 @@ pub fn in_accumulator(acc: Acc, on: u64) -> Done
     requires { on < 2 ^ 63 }
     ensures { result ≡ in_accumulator_of acc on }
 {
-    unchanged(&acc, by_number(false, number(&acc), on))
+    done_with(&acc, by_number(false, number(&acc), on))
 }
 
 /// The field becomes `f`, which is the result number; the indicators `on` go on too.
@@ -60,6 +60,6 @@ pub fn in_field(acc: &Acc, f: &Field, shape: &Shape, on: u64) -> Done
     };
     Done {
         field: Some(write_field(f, shape)),
-        ..unchanged(acc, by_number(true, number, on))
+        ..done_with(acc, by_number(true, number, on))
     }
 }

@@ -3,10 +3,10 @@ ghost use Rattle.st_bin.specs.BinaryOperand.{IsShape, HasRoom};
 ghost use Rattle.st_bin.specs.BinaryResult.{multiplied as multiplied_of, product, product_added, divided};
 
 use crate::accumulator::{Acc, number, with_number};
-use crate::outcome::{Done, in_accumulator, unchanged};
+use crate::fields::{Field, Shape, is_minus};
 use crate::indicators::{ZERO_DIVISOR, flag_indicators, lost_carry, partial_field};
 use crate::operand::{operand, shift};
-use crate::fields::{Field, Shape, is_minus};
+use crate::outcome::{Done, done_with, in_accumulator};
 use crate::signed::{Signed, add, exactly_one, exceeds, low_bits};
 use st_bits::Ind;
 
@@ -61,7 +61,7 @@ pub fn divide(acc: &Acc, f: &Field, shape: &Shape) -> Done
     ensures { result ≡ divided acc.now f.now shape.now }
 {
     if f.mag == 0 {
-        return unchanged(
+        return done_with(
             acc,
             Ind {
                 on: ZERO_DIVISOR,

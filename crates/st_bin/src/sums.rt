@@ -5,10 +5,10 @@ ghost use Rattle.st_bin.specs.BinaryResult.{added, magnitude_added, added_to_fie
 ghost use Rattle.st_bin.specs.BinaryResult.{field_summed};
 
 use crate::accumulator::{Acc, addend, number, with_number};
-use crate::outcome::{Done, in_accumulator, in_field};
+use crate::fields::{Field, Shape, magnitude_bits};
 use crate::indicators::{flag_indicators, lost_carry};
 use crate::operand::place;
-use crate::fields::{Field, Shape, magnitude_bits};
+use crate::outcome::{Done, in_accumulator, in_field};
 use crate::signed::{Signed, Sum, add as sum_of, exceeds, low_bits, magnitude_sum};
 
 /// Add: the operand at the offset is added to the accumulator.
@@ -42,10 +42,8 @@ pub fn add_to_magnitude(acc: &Acc, f: &Field, shape: &Shape) -> Done
 #[tactic(auto, using(crate::proofs::FieldLemmas::exceeds_kept))]
 fn is_lost(sum: Sum, bits: u8) -> bool
     requires { bits ≤ 64 }
-    ensures {
-        (t : ℕ) → sum.number.mag ≡ t % 2 ^ 128 → sum.carry ≡ exceeds_of t 128 →
-        result ≡ exceeds_of t bits
-    }
+    ensures { (t : ℕ) → sum.number.mag ≡ t % 2 ^ 128 → sum.carry ≡ exceeds_of t 128 →
+        result ≡ exceeds_of t bits }
 {
     sum.carry || exceeds(sum.number.mag, bits)
 }
@@ -55,10 +53,8 @@ fn is_lost(sum: Sum, bits: u8) -> bool
 fn put_in_field(acc: &Acc, f: &Field, shape: &Shape, sum: Sum) -> Done
     requires shape { IsShape shape.now }
     requires room { HasRoom f.now shape.now }
-    ensures {
-        (t : ℕ) → sum.number.mag ≡ t % 2 ^ 128 → sum.carry ≡ exceeds_of t 128 →
-        result ≡ field_summed acc.now f.now shape.now t sum.number.negative
-    }
+    ensures { (t : ℕ) → sum.number.mag ≡ t % 2 ^ 128 → sum.carry ≡ exceeds_of t 128 →
+        result ≡ field_summed acc.now f.now shape.now t sum.number.negative }
 {
     let bits = magnitude_bits(shape);
     let field = Field {
@@ -100,7 +96,10 @@ pub fn add_to_field_magnitude(acc: &Acc, f: &Field, shape: &Shape) -> Done
     ensures { result ≡ magnitude_added_to_field acc.now f.now shape.now }
 {
     let (mag, carry) = magnitude_sum(u128::from(f.mag), addend(acc, shape));
-    let number = Signed { mag, ..number_in(f) };
+    let number = Signed {
+        mag,
+        ..number_in(f)
+    };
     put_in_field(acc, f, shape, Sum { number, carry })
 }
 

@@ -1,4 +1,4 @@
-use Rattle.std.proofs.Common.{lit<, lit≤, ℕ, ◌≡◌, ◌<◌, ◌≤◌, ◌+◌, ◌*◌, ◌%◌, ◌^◌, arith, refl, sym}
+use Rattle.std.proofs.Common.{lit<, ℕ, ◌≡◌, ◌<◌, ◌≤◌, ◌+◌, ◌*◌, ◌%◌, ◌^◌, arith, refl, sym}
 use Rattle.std.proofs.Math.Nat.{pow-le-pow_right, mul-le-mul_right}
 use Rattle.st_bin.specs.Digits.{value_of}
 use Rattle.st_bin.proofs.DigitLemmas.{value_of-next, rest-next, power_suc, value_of-bound}

@@ -1,4 +1,4 @@
-use Rattle.std.proofs.Common.{◌≡◌, ◌/◌, ◌^◌, ◌≤◌}
+use Rattle.std.proofs.Common.{◌≡◌, ◌/◌, ◌^◌}
 use Rattle.st_bin.specs.Digits.{value_of}
 use Rattle.st_bin.proofs.digits.digits_value.Given as goal
 

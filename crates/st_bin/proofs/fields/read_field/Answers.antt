@@ -1,4 +1,4 @@
-use Rattle.std.proofs.Common.{arith, ◌<◌}
+use Rattle.std.proofs.Common.{arith}
 use Rattle.st_bin.proofs.FieldLemmas.{front_below, field_bits-field_of, magnitude_bits-signed}
 use Rattle.st_bin.proofs.fields.read_field.Goals as goal
 

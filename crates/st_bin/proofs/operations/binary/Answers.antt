@@ -1,4 +1,3 @@
-use Rattle.st_bin.specs.BinaryResult.{result}
 use Rattle.st_bin.proofs.ResultLaws.{result_of-fits}
 use Rattle.st_bin.proofs.operations.binary.Goals as goal
 
