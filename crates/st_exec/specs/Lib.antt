@@ -1,3 +1,7 @@
 pub mod Instructions
 pub mod Step
 pub mod Run
+pub mod Operand
+pub mod Outcome
+pub mod Deed
+pub mod Completion
