@@ -4,12 +4,11 @@ use Rattle.std.specs.Prelude.{nat_le, List}
 use Rattle.std.proofs.lemmas.Bool.{leb-true, leb-false, eqb-true}
 use Rattle.st_bits.specs.Storage.{words_of_storage}
 use Rattle.st_bits.specs.declared.operations.HalfOp.{HalfOp}
-use Rattle.st_format.specs.declared.instruction.Instr.{Instr}
 use Rattle.st_format.specs.declared.instruction.Instr.TheVariants.{Half, Move, BitBranch, StoreCounter}
 use Rattle.st_state.specs.Machine.{Machine}
 use Rattle.st_prep.specs.declared.entries.Words.{Words}
 use Rattle.st_prep.specs.Entry.{no_words, one_run, field_words, operand_words, is_index_store, reads, writes}
-use Rattle.st_prep.specs.Ranges.{AreInside, IsStored}
+use Rattle.st_prep.specs.Ranges.{AreInside}
 use Rattle.st_exec.specs.Operand.{AreRead}
 use Rattle.st_exec.specs.Deed.{IsField, AreRuns}
 

@@ -4,3 +4,6 @@ pub mod MoveLemmas
 pub mod InsideLemmas
 pub mod FieldLemmas
 pub mod Unchanged
+pub mod ApartLemmas
+pub mod SparedLemmas
+pub mod AheadLemmas

@@ -1,10 +1,9 @@
 -- What the parts of a step leave as it was: the number done, and words that they do not name.
-use Rattle.std.proofs.Common.{◌≡◌, ◌≢◌, ℕ, zero, suc, ◌+◌, ◌<◌, ◌≤◌, Bool, true, false, if◌then◌else◌, List, Option, None, Some, refl, sym, ◌∙◌, ap, arith, get_or, get_or-set_other}
-use Rattle.std.specs.Prelude.{IfSome, is_some}
+use Rattle.std.proofs.Common.{◌≡◌, ◌≢◌, ℕ, zero, suc, ◌+◌, ◌<◌, ◌≤◌, Bool, true, false, List, Option, None, Some, refl, sym, ◌∙◌, arith, get_or-set_other}
+use Rattle.std.specs.Prelude.{IfSome}
 use Rattle.st_bits.specs.Registers.{fixed}
-use Rattle.st_state.specs.Machine.{Machine, word, with_word, stored}
+use Rattle.st_state.specs.Machine.{Machine, word, stored}
 use Rattle.st_state.specs.declared.devices.Order.{Order}
-use Rattle.st_prep.specs.declared.entries.Words.{Words}
 use Rattle.st_prep.specs.declared.entries.IndexChange.{IndexChange}
 use Rattle.st_prep.specs.declared.entries.Prepared.{Prepared}
 use Rattle.st_prep.specs.Plan.{opened}

@@ -1,5 +1,5 @@
 -- What an entry that is prepared makes of a state: its early change, its deed, and the counter after it.
-use Rattle.std.specs.Prelude.{ℕ, ◌+◌, ◌%◌, Bool, true, false, not, ◌&&◌, ◌==◌, if◌then◌else◌, Option, None, Some}
+use Rattle.std.specs.Prelude.{ℕ, ◌+◌, ◌%◌, Bool, false, not, ◌&&◌, ◌==◌, if◌then◌else◌, Option, None, Some}
 use Rattle.st_bits.specs.Bits.{part}
 use Rattle.st_format.specs.Formats.{bit_of}
 use Rattle.st_format.specs.declared.instruction.Instr.{Instr}

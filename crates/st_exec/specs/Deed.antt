@@ -1,5 +1,5 @@
 -- What an operation does once its operands are there.
-use Rattle.std.specs.Prelude.{ℕ, zero, suc, ◌+◌, ◌-◌, ◌*◌, ◌/◌, ◌%◌, ◌≤◌, ◌<◌, ◌^◌, Bool, true, false, if◌then◌else◌, Option, None, Some, is_some, IfSome}
+use Rattle.std.specs.Prelude.{ℕ, zero, suc, ◌+◌, ◌-◌, ◌*◌, ◌/◌, ◌%◌, ◌≤◌, ◌<◌, ◌^◌, Bool, true, false, if◌then◌else◌, Option, Some, is_some, IfSome}
 use Rattle.st_bits.specs.Bits.{bits}
 use Rattle.st_bits.specs.Storage.{words_of_storage}
 use Rattle.st_bits.specs.declared.operations.HalfOp.{HalfOp}

@@ -5,3 +5,4 @@ pub mod Operand
 pub mod Outcome
 pub mod Deed
 pub mod Completion
+pub mod Ahead

@@ -8,6 +8,7 @@ mod effects;
 mod fields;
 mod indicators;
 mod instruction;
+mod laws;
 mod operands;
 mod outcomes;
 mod step;
@@ -15,6 +16,9 @@ mod transmission;
 
 pub use completing::complete;
 pub use instruction::Instruction;
+pub use laws::{
+    entries_ahead_leave_the_rest, entries_are_bounded, only_indicator_branches_are_missed,
+};
 pub use step::{Step, interrupt, is_at_rest, one};
 
 #[cfg(test)]

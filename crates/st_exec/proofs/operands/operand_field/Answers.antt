@@ -1,4 +1,4 @@
-use Rattle.std.proofs.Common.{sym, ◌∙◌, ap, arith}
+use Rattle.std.proofs.Common.{◌∙◌, arith}
 use Rattle.st_exec.proofs.OperandLemmas.{field-one, field-two, read-first, read-next}
 use Rattle.st_exec.proofs.operands.operand_field.Goals as goal
 
