@@ -77,6 +77,7 @@ above_side (Some n) h = ltb-false n 32 h
 
 record Runs (place : Place) (f : Fetched) (x : List ℕ) : Type 0 where
   alone : is_alone place f ≡ false
+  operation : acts_alone (executed f) ≡ false
   side : is_register (side x (executed f) (effective x (executed f))) ≡ false
   reads : has_register (reads (executed f) (effective x (executed f))) ≡ false
   writes : has_register (writes (executed f) (effective x (executed f))) ≡ false
@@ -91,6 +92,7 @@ runs place f x h =
     let before_side = or-left _ (is_register (side x instr e)) before_reads in
     record {
       alone = or-left (is_alone place f) (acts_alone instr) before_side;
+      operation = or-right (is_alone place f) (acts_alone instr) before_side;
       side = or-right _ (is_register (side x instr e)) before_reads;
       reads = or-right _ (has_register (reads instr e)) before_writes;
       writes = or-right _ (has_register (writes instr e)) h;
@@ -134,6 +136,7 @@ entry-prepared s r k some p =
       suppressed = λ h. cc;
       ahead = λ h. let q = runs s.place s.fetched s.x h in record {
         table = not_table s.place s.fetched q.alone;
+        operation = λ _. q.operation;
         reads = words-above (reads instr e) q.reads;
         writes = words-above (writes instr e) q.writes;
       };
@@ -156,7 +159,12 @@ suppressed-prepared s i k = record {
   cost = omega arith;
   entry = λ h. cc;
   suppressed = λ _. record { index = refl; indicator = refl; reads = refl; writes = refl; cost = refl };
-  ahead = λ h. record { table = not_table s.place s.fetched h; reads = none-above; writes = none-above };
+  ahead = λ h. record {
+    table = not_table s.place s.fetched h;
+    operation = λ e. cc;
+    reads = none-above;
+    writes = none-above;
+  };
 }
 
 passes_by : (s : Sight) → fault_of s ≡ None → Passes s.fetched s.x s.bounds s.enabled
