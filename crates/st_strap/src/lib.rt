@@ -1,0 +1,8 @@
+//! Statements: what a card of the assembler says.
+#![tactic(auto)]
+
+mod operations;
+mod parts;
+mod statement;
+
+pub use statement::{Form, Spot, Statement};
