@@ -1,3 +1,5 @@
 pub mod Text
 pub mod Fields
 pub mod Table
+pub mod Order
+pub mod Describing
