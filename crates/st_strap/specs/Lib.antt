@@ -3,3 +3,5 @@ pub mod Fields
 pub mod Table
 pub mod Order
 pub mod Describing
+pub mod Forming
+pub mod Reading

@@ -2,6 +2,7 @@
 
 ghost use Rattle.std.specs.Prelude.{◌≡◌, ◌≤◌, length, IfSome};
 ghost use Rattle.st_card.specs.Tables.{row_of as row_in};
+ghost use Rattle.st_card.specs.Pieces.{parted};
 ghost use Rattle.st_format.specs.Validity.{misfits as misfits_of};
 ghost use Rattle.st_strap.specs.Describing as spec;
 ghost use Rattle.st_strap.specs.Fields.{texts};

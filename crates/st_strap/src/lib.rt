@@ -1,6 +1,9 @@
 //! Statements: what a card of the assembler says.
 #![tactic(auto)]
 
+mod descriptions;
+mod fields;
+mod forms;
 mod operations;
 mod parts;
 mod statement;
