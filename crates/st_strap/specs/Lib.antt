@@ -5,3 +5,4 @@ pub mod Order
 pub mod Describing
 pub mod Forming
 pub mod Reading
+pub mod Saying

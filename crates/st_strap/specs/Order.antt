@@ -1,13 +1,14 @@
 -- Of two faults on one card the one that stands earlier in the list counts.
 use Rattle.std.specs.Prelude.{ℕ, nat_lt, Option, Some, None, Result, Ok, Err, if◌then◌else◌}
 use Rattle.st_card.specs.declared.faults.Fault.{Fault}
-use Rattle.st_card.specs.declared.faults.Fault.TheVariants.{BadExpression, BadIndex}
+use Rattle.st_card.specs.declared.faults.Fault.TheVariants.{BadFieldCount, BadExpression, BadIndex}
 
--- the place in the list of the faults that a field may have: the last is a number too large
+-- the places in the list of the faults that fields may have: the last is a number too large
 abbrev pub rank : Fault → ℕ
-rank BadExpression = 0
-rank BadIndex = 1
-rank _ = 2
+rank BadFieldCount = 0
+rank BadExpression = 1
+rank BadIndex = 2
+rank _ = 3
 
 -- the earlier of two faults
 abbrev pub earlier : Fault → Fault → Fault

@@ -100,7 +100,13 @@ signed_number field = unindexed (index_part field) (signed_of (front field))
 abbrev pub selector : ℕ → ℕ
 selector j = 2 ^ 15 / 2 ^ j
 
--- a list of index words from fields that name them
+-- an index word put to a list of them; either may be none
+abbrev pub with_selected : Result ℕ Fault → Result ℕ Fault → Result ℕ Fault
+with_selected (Ok j) (Ok list) = Ok (bit_or (selector j) list)
+with_selected (Ok j) (Err e) = Err BadIndex
+with_selected (Err e) list = Err BadIndex
+
+-- the list of index words that fields name
 abbrev pub selected : List (List ℕ) → Result ℕ Fault
 selected [] = Ok 0
-selected (field ∷ more) = mapped (λ p. bit_or (selector p.0) p.1) (both_of (index_field field) (selected more))
+selected (field ∷ more) = with_selected (index_field field) (selected more)

@@ -7,8 +7,9 @@ ghost use Rattle.st_format.specs.Validity.{misfits as misfits_of};
 ghost use Rattle.st_strap.specs.Describing as spec;
 ghost use Rattle.st_strap.specs.Fields.{texts};
 
+use crate::field::Field;
 use crate::operations::Operation;
-use crate::parts::{Field, ends_with, pieces};
+use crate::parts::{ends_with, pieces};
 use crate::statement::Form;
 use st_bits::VflOp;
 use st_card::{Reading, read_number, row_of};
@@ -30,10 +31,34 @@ pub(crate) enum Description {
 }
 
 const MODES: [(&[u8], Mode); 6] = [
-    (b"B", Mode::Field { decimal: false, unsigned: false }),
-    (b"BU", Mode::Field { decimal: false, unsigned: true }),
-    (b"D", Mode::Field { decimal: true, unsigned: false }),
-    (b"DU", Mode::Field { decimal: true, unsigned: true }),
+    (
+        b"B",
+        Mode::Field {
+            decimal: false,
+            unsigned: false,
+        },
+    ),
+    (
+        b"BU",
+        Mode::Field {
+            decimal: false,
+            unsigned: true,
+        },
+    ),
+    (
+        b"D",
+        Mode::Field {
+            decimal: true,
+            unsigned: false,
+        },
+    ),
+    (
+        b"DU",
+        Mode::Field {
+            decimal: true,
+            unsigned: true,
+        },
+    ),
     (b"N", Mode::Normalized),
     (b"U", Mode::Unnormalized),
 ];
@@ -76,7 +101,9 @@ fn in_mode(mode: Mode, more: &[Field]) -> Option<Description>
 {
     match mode {
         Mode::Field { decimal, unsigned } => in_form(decimal, unsigned, more),
-        Mode::Normalized if more.is_empty() => Some(Description::Floating { unnormalized: false }),
+        Mode::Normalized if more.is_empty() => Some(Description::Floating {
+            unnormalized: false,
+        }),
         Mode::Unnormalized if more.is_empty() => Some(Description::Floating { unnormalized: true }),
         _ => None,
     }

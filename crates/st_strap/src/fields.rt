@@ -6,7 +6,8 @@ ghost use Rattle.st_strap.specs.Order as order;
 ghost use Rattle.st_strap.specs.Fields.{texts};
 ghost use Rattle.st_strap.specs.Reading as spec;
 
-use crate::parts::{Field, begins_with, ends_with};
+use crate::field::Field;
+use crate::parts::{begins_with, ends_with};
 use crate::statement::Spot;
 use st_card::{Fault, Reading, read_number, row_of};
 use st_expr::{Expr, read_expr};
@@ -48,14 +49,15 @@ const INDEX_PARTS: [(&[u8], u8); 15] = [
     (b"($X15)", 15),
 ];
 
-// The place in the list of the faults that a field may have.
+// The places in the list of the faults that fields may have.
 fn rank(fault: Fault) -> u8
     ensures { result ≡ order.rank fault }
 {
     match fault {
-        Fault::BadExpression => 0,
-        Fault::BadIndex => 1,
-        _ => 2,
+        Fault::BadFieldCount => 0,
+        Fault::BadExpression => 1,
+        Fault::BadIndex => 2,
+        _ => 3,
     }
 }
 
@@ -67,7 +69,10 @@ fn earlier(a: Fault, b: Fault) -> Fault
 }
 
 // Two readings, or the earlier of their faults.
-pub(crate) fn both<A: Drop, B: Drop>(a: Result<A, Fault>, b: Result<B, Fault>) -> Result<(A, B), Fault>
+pub(crate) fn both<A: Drop, B: Drop>(
+    a: Result<A, Fault>,
+    b: Result<B, Fault>,
+) -> Result<(A, B), Fault>
     ensures { result ≡ order.both_of a b }
 {
     match (a, b) {
@@ -133,7 +138,8 @@ fn part_row(part: &[u8]) -> Option<u8>
 // The index word that an index field names.
 #[tactic(auto, unfolding(crate::specs::Reading::index_field))]
 pub(crate) fn index_field(field: &[u8]) -> Result<u8, Fault>
-    ensures { result ≡ spec.index_field field.now }
+    ensures value { result ≡ spec.index_field field.now }
+    ensures within { IfOk result (λ j. j < 16) }
 {
     field_row(field).ok_or(Fault::BadIndex)
 }
@@ -254,9 +260,9 @@ pub(crate) fn selected(fields: &[Field]) -> Result<u16, Fault>
 {
     match fields {
         [] => Ok(0),
-        [field, more @ ..] => match both(index_field(field.text), selected(more)) {
-            Ok((j, list)) => Ok(selector(j) | list),
-            Err(fault) => Err(fault),
+        [field, more @ ..] => match (index_field(field.text), selected(more)) {
+            (Ok(j), Ok(list)) => Ok(selector(j) | list),
+            _ => Err(Fault::BadIndex),
         },
     }
 }

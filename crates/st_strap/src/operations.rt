@@ -97,18 +97,90 @@ const OTHER_OPERATIONS: [(&[u8], Operation); 32] = [
     (b"NOP", Operation::Bare(BranchOp::Nop)),
     (b"T", Operation::Move { swap: false }),
     (b"SWAP", Operation::Move { swap: true }),
-    (b"BB0", Operation::BitBranch { sense: false, change: 0 }),
-    (b"BB0Z", Operation::BitBranch { sense: false, change: 1 }),
-    (b"BB0S", Operation::BitBranch { sense: false, change: 2 }),
-    (b"BB0V", Operation::BitBranch { sense: false, change: 3 }),
-    (b"BB1", Operation::BitBranch { sense: true, change: 0 }),
-    (b"BB1Z", Operation::BitBranch { sense: true, change: 1 }),
-    (b"BB1S", Operation::BitBranch { sense: true, change: 2 }),
-    (b"BB1V", Operation::BitBranch { sense: true, change: 3 }),
-    (b"BI0", Operation::IndBranch { sense: false, off: false }),
-    (b"BI0Z", Operation::IndBranch { sense: false, off: true }),
-    (b"BI1", Operation::IndBranch { sense: true, off: false }),
-    (b"BI1Z", Operation::IndBranch { sense: true, off: true }),
+    (
+        b"BB0",
+        Operation::BitBranch {
+            sense: false,
+            change: 0,
+        },
+    ),
+    (
+        b"BB0Z",
+        Operation::BitBranch {
+            sense: false,
+            change: 1,
+        },
+    ),
+    (
+        b"BB0S",
+        Operation::BitBranch {
+            sense: false,
+            change: 2,
+        },
+    ),
+    (
+        b"BB0V",
+        Operation::BitBranch {
+            sense: false,
+            change: 3,
+        },
+    ),
+    (
+        b"BB1",
+        Operation::BitBranch {
+            sense: true,
+            change: 0,
+        },
+    ),
+    (
+        b"BB1Z",
+        Operation::BitBranch {
+            sense: true,
+            change: 1,
+        },
+    ),
+    (
+        b"BB1S",
+        Operation::BitBranch {
+            sense: true,
+            change: 2,
+        },
+    ),
+    (
+        b"BB1V",
+        Operation::BitBranch {
+            sense: true,
+            change: 3,
+        },
+    ),
+    (
+        b"BI0",
+        Operation::IndBranch {
+            sense: false,
+            off: false,
+        },
+    ),
+    (
+        b"BI0Z",
+        Operation::IndBranch {
+            sense: false,
+            off: true,
+        },
+    ),
+    (
+        b"BI1",
+        Operation::IndBranch {
+            sense: true,
+            off: false,
+        },
+    ),
+    (
+        b"BI1Z",
+        Operation::IndBranch {
+            sense: true,
+            off: true,
+        },
+    ),
     (b"SIC", Operation::StoreCounter),
     (b"RD", Operation::Transfer { write: false }),
     (b"WR", Operation::Transfer { write: true }),

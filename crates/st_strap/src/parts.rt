@@ -5,22 +5,9 @@ ghost use Rattle.st_card.specs.Pieces.{parted};
 ghost use Rattle.st_strap.specs.Text as spec;
 ghost use Rattle.st_strap.specs.Fields.{texts};
 
+use crate::field::{Field, Fields};
 use arrayvec::ArrayVec;
 use st_card::cut;
-
-// What stands between commas.
-#[derive(Clone, Copy)]
-pub(crate) struct Field<'a> {
-    pub text: &'a [u8],
-}
-
-impl Default for Field<'_> {
-    fn default() -> Self {
-        Field { text: &[] }
-    }
-}
-
-pub(crate) type Fields<'a> = ArrayVec<Field<'a>, 64>;
 
 // How many bytes stand before the first of two bytes.
 pub(crate) fn stop(text: &[u8], a: u8, b: u8) -> usize
@@ -116,4 +103,3 @@ pub(crate) fn pieces(text: &[u8]) -> Fields<'_>
     fields.push(Field { text: rest });
     fields
 }
-
