@@ -1,5 +1,5 @@
 -- The first field and the rest, and two readings joined.
-use Rattle.std.proofs.Common.{◌≡◌, ◌≤◌, ◌-◌, ℕ, suc, List, [], ◌∷◌, length, get_or, take, drop, Result, ap, sym, ◌∙◌, arith}
+use Rattle.std.proofs.Common.{◌≡◌, ◌≤◌, ◌-◌, suc, List, [], ◌∷◌, length, get_or, take, drop, Result, ap, sym, ◌∙◌, arith}
 use Rattle.std.proofs.Math.Seq.{take-length}
 use Rattle.st_card.specs.declared.faults.Fault.{Fault}
 use Rattle.st_strap.specs.Order.{both_of}

@@ -1,10 +1,10 @@
 -- What the rows of a table have in common.
-use Rattle.std.proofs.Common.{◌≡◌, ◌<◌, ℕ, List, [], ◌∷◌, true, false, cond, Option, Some, None, Result, Ok, Err, subst, sym, lit<}
+use Rattle.std.proofs.Common.{◌≡◌, ◌<◌, ℕ, List, [], ◌∷◌, true, false, cond, Option, Some, None, Result, subst, sym, lit<}
 use Rattle.std.specs.Option.{IfSome, ok_or}
 use Rattle.std.specs.Result.{IfOk}
 use Rattle.st_card.specs.declared.faults.Fault.{Fault}
 use Rattle.st_card.specs.Tables.{is_same, row_of}
-use Rattle.st_strap.specs.Reading.{index_fields, index_field}
+use Rattle.st_strap.specs.Reading.{index_fields}
 
 -- the values of all rows are below a bound
 abbrev pub AllBelow : ℕ → List (List ℕ × ℕ) → Type 0

@@ -1,5 +1,5 @@
 -- Data descriptions: modes, lengths and byte sizes in parentheses.
-use Rattle.std.specs.Prelude.{ℕ, ◌+◌, ◌-◌, ◌==◌, ◌||◌, Bool, true, false, not, List, [], ◌∷◌, length, take, drop, codes, Option, None, Some, if◌then◌else◌}
+use Rattle.std.specs.Prelude.{ℕ, ◌+◌, ◌-◌, ◌==◌, ◌||◌, Bool, true, false, not, List, [], ◌∷◌, length, take, codes, Option, None, Some, if◌then◌else◌}
 use Rattle.std.specs.Option.{option_map, option_and_then}
 use Rattle.st_card.specs.Number.{reading}
 use Rattle.st_card.specs.Pieces.{parted}
@@ -7,7 +7,6 @@ use Rattle.st_card.specs.Tables.{row_of}
 use Rattle.st_card.specs.declared.numbers.Reading.{Reading}
 use Rattle.st_card.specs.declared.numbers.Reading.TheVariants.{Bad, Large, Good}
 use Rattle.st_format.specs.Validity.{misfits}
-use Rattle.st_bits.specs.declared.operations.VflOp.{VflOp}
 use Rattle.st_bits.specs.declared.operations.VflOp.TheVariants.{L, St, Add, K, Mul, Div}
 use Rattle.st_strap.specs.Text.{ends_with}
 use Rattle.st_strap.specs.declared.statement.Form.{Form}

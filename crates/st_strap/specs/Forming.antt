@@ -3,7 +3,6 @@ use Rattle.std.specs.Prelude.{ℕ, ◌==◌, ◌&&◌, ◌||◌, Bool, true, fal
 use Rattle.std.specs.Option.{option_and_then}
 use Rattle.st_card.specs.Tables.{row_of}
 use Rattle.st_format.specs.Operations.{writes_field}
-use Rattle.st_format.specs.declared.operations.FullOp.{FullOp}
 use Rattle.st_format.specs.declared.operations.FullOp.TheVariants.{Variable, Connective}
 use Rattle.st_strap.specs.Text.{begins_with, group, behind_group}
 use Rattle.st_strap.specs.declared.statement.Form.{Form}

@@ -1,9 +1,8 @@
 -- The operations by their words.
-use Rattle.std.specs.Prelude.{ℕ, ◌+◌, ◌-◌, ◌==◌, ◌&&◌, Bool, true, false, List, [], ◌∷◌, length, take, drop, codes, Option, None, Some, if◌then◌else◌}
+use Rattle.std.specs.Prelude.{ℕ, ◌-◌, Bool, true, false, List, [], ◌∷◌, length, take, drop, codes, Option, None, if◌then◌else◌}
 use Rattle.std.specs.Option.{option_map, option_or, option_zip}
 use Rattle.st_bits.specs.declared.operations.HalfOp.{HalfOp}
 use Rattle.st_bits.specs.declared.operations.HalfOp.TheVariants.{Lx, Lv, Lc, Lr, Sx, Sv, Sc, Sr, Sva, VPlus, VPlusC, Kv, Lvi, Lci, Lri, VPlusI, VMinusI, VPlusIC, VPlusICR, Kvi, Kc, Kci, Cb, Cbr}
-use Rattle.st_bits.specs.declared.operations.BranchOp.{BranchOp}
 use Rattle.st_bits.specs.declared.operations.BranchOp.TheVariants.{B, Br, Be, Bd, Bew, Nop}
 use Rattle.st_bits.specs.declared.operations.VflOp.{VflOp}
 use Rattle.st_bits.specs.declared.operations.VflOp.TheVariants.{L, Lwf, Ltrs, Lft, St, Add, AddMg, MAdd, MAddMg, MAdd1, K, Kf, Ke, Kfe, Kr, Kfr, Mul, MulAdd, Div, Lcv}
