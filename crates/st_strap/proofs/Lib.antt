@@ -1,0 +1,2 @@
+pub mod TableBounds
+pub mod FieldLemmas

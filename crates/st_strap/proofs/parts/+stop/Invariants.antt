@@ -1,0 +1,5 @@
+use Rattle.std.proofs.Common.{length}
+use Rattle.st_strap.proofs.parts.+stop.Given as goal
+
+abbrev pub decreases-stop : goal.decreases-stop
+decreases-stop l = length l.text.now

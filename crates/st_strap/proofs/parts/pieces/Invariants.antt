@@ -1,0 +1,13 @@
+use Rattle.std.proofs.Common.{◌≡◌, ◌≤◌, ◌+◌, ◌++◌, length}
+use Rattle.st_card.specs.Pieces.{parted}
+use Rattle.st_strap.specs.Fields.{texts}
+use Rattle.st_strap.proofs.parts.pieces.Given as goal
+
+abbrev pub invariant-pieces : goal.invariant-pieces
+invariant-pieces l = record {
+  so_far : texts l.fields.items ++ parted 44 l.rest ≡ parted 44 l.text;
+  room : length l.fields.items + length l.rest ≤ 63;
+}
+
+abbrev pub decreases-pieces : goal.decreases-pieces
+decreases-pieces l = length l.rest

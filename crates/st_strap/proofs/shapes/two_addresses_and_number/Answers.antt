@@ -1,0 +1,11 @@
+use Rattle.std.proofs.Common.{◌∙◌, ap, sym, List, ℕ}
+use Rattle.st_strap.specs.Saying.{two_addresses_and_number}
+use Rattle.st_strap.proofs.FieldLemmas.{texts_first, joined}
+use Rattle.st_strap.proofs.shapes.two_addresses_and_number.Goals as goal
+
+pub returns-in-len1-up : goal.returns-in-len1-up
+unfolding two_addresses_and_number
+returns-in-len1-up c =
+    let first = texts_first c.args.fields.now c.at-item.result c.in-len1-up.len_at_least c.at-item.is in
+    joined _ _ _ _ _ c.both.ensures c.spot.ensures c.address_and_number.ensures
+    ∙ sym (ap (λ (fields : List (List ℕ)). two_addresses_and_number fields) first)

@@ -1,0 +1,100 @@
+-- Data descriptions: modes, lengths and byte sizes in parentheses.
+use Rattle.std.specs.Prelude.{ℕ, ◌+◌, ◌-◌, ◌==◌, ◌||◌, Bool, true, false, not, List, [], ◌∷◌, length, take, codes, Option, None, Some, if◌then◌else◌}
+use Rattle.std.specs.Option.{option_map, option_and_then}
+use Rattle.st_card.specs.Number.{reading}
+use Rattle.st_card.specs.Pieces.{parted}
+use Rattle.st_card.specs.Tables.{row_of}
+use Rattle.st_card.specs.declared.numbers.Reading.{Reading}
+use Rattle.st_card.specs.declared.numbers.Reading.TheVariants.{Bad, Large, Good}
+use Rattle.st_format.specs.Validity.{misfits}
+use Rattle.st_bits.specs.declared.operations.VflOp.TheVariants.{L, St, Add, K, Mul, Div}
+use Rattle.st_strap.specs.Text.{ends_with}
+use Rattle.st_strap.specs.declared.statement.Form.{Form}
+use Rattle.st_strap.specs.declared.descriptions.Mode.{Mode}
+use Rattle.st_strap.specs.declared.descriptions.Mode.TheVariants.{Field, Normalized, Unnormalized}
+use Rattle.st_strap.specs.declared.descriptions.Description.{Description}
+use Rattle.st_strap.specs.declared.descriptions.Description.TheVariants.{Absent, InForm, Floating}
+use Rattle.st_strap.specs.declared.operations.Operation.{Operation}
+use Rattle.st_strap.specs.declared.operations.Operation.TheVariants.{Vfl, Connect, Data, Floating as FloatingOperation}
+
+-- the modes: decimal or not and unsigned or not, or of the floating group
+unfoldable pub modes : List (List ℕ × Mode)
+modes =
+    (codes "B", Field false false) ∷ (codes "BU", Field false true) ∷ (codes "D", Field true false)
+    ∷ (codes "DU", Field true true) ∷ (codes "N", Normalized) ∷ (codes "U", Unnormalized) ∷ []
+
+-- a form without a progressive form
+abbrev pub plain_form : Bool → Bool → ℕ → ℕ → Form
+plain_form decimal unsigned bits byte = record {
+  decimal = decimal;
+  unsigned = unsigned;
+  length = bits;
+  byte = byte;
+  p = 0;
+}
+
+-- the form where no description stands
+abbrev pub default_form : Form
+default_form = plain_form false true 64 8
+
+-- the byte size where a description has none
+abbrev pub usual_byte : Bool → ℕ
+usual_byte decimal = if decimal then 4 else 8
+
+-- a number that is not zero
+abbrev pub some_number : Reading → Option ℕ
+some_number (Good n) = if n == 0 then None else Some n
+some_number Large = None
+some_number Bad = None
+
+-- the number from 1 on that a text is, up to the most
+unfoldable pub number_to : ℕ → List ℕ → Option ℕ
+number_to most text = some_number (reading most text)
+
+-- what a length, a byte size or neither say behind a mode
+unfoldable pub in_mode : Mode → List (List ℕ) → Option Description
+in_mode (Field d u) [] = Some (InForm (plain_form d u 64 (usual_byte d)))
+in_mode (Field d u) (bits ∷ []) = option_map (λ n. InForm (plain_form d u n (usual_byte d))) (number_to 64 bits)
+in_mode (Field d u) (bits ∷ byte ∷ []) =
+    option_and_then (λ n. option_map (λ b. InForm (plain_form d u n b)) (number_to 8 byte)) (number_to 64 bits)
+in_mode (Field d u) _ = None
+in_mode Normalized [] = Some (Floating false)
+in_mode Normalized _ = None
+in_mode Unnormalized [] = Some (Floating true)
+in_mode Unnormalized _ = None
+
+-- what the pieces of a description say
+abbrev pub in_pieces : List (List ℕ) → Option Description
+in_pieces [] = None
+in_pieces (mode ∷ more) = option_and_then (λ m. in_mode m more) (row_of mode modes)
+
+-- what a group says as a description: nothing where it lacks its last parenthesis
+unfoldable pub description_of : List ℕ → Option Description
+description_of [] = Some Absent
+description_of (c ∷ cs) =
+    if ends_with 41 (c ∷ cs) then in_pieces (parted 44 (take (length (c ∷ cs) - 2) cs)) else None
+
+-- whether an operation may have a form: one on a field and a laid number a valid one, a connective a
+-- binary unsigned one
+unfoldable pub may_have : Operation → Form → Bool
+may_have (Vfl op negated) form = not (misfits form.decimal form.unsigned form.length form.byte)
+may_have Data form = not (misfits form.decimal form.unsigned form.length form.byte)
+may_have (Connect kind table) form = not (form.decimal || not form.unsigned)
+may_have _ form = false
+
+-- the numbers of normalized floating operations
+unfoldable pub floating_number : Operation → Option ℕ
+floating_number (Vfl L false) = Some 1
+floating_number (Vfl St false) = Some 2
+floating_number (Vfl Add false) = Some 3
+floating_number (Vfl K false) = Some 4
+floating_number (Vfl Mul false) = Some 5
+floating_number (Vfl Div false) = Some 6
+floating_number _ = None
+
+-- the operation and the form that a description makes of an operation, where it may stand there
+unfoldable pub described : Operation → Description → Option (Operation × Form)
+described op Absent = Some (op, default_form)
+described op (InForm form) = if may_have op form then Some (op, form) else None
+described op (Floating unnormalized) = option_map
+    (λ n. (FloatingOperation (if unnormalized then n + 8 else n), default_form)) (floating_number op)

@@ -1,0 +1,7 @@
+-- The texts of fields.
+use Rattle.std.specs.Prelude.{ℕ, List, map}
+use Rattle.st_strap.specs.declared.field.Field.{Field}
+
+-- the texts that fields have
+abbrev pub texts : List Field → List (List ℕ)
+texts fields = map (λ f. f.text.now) fields

@@ -1,0 +1,67 @@
+-- Progressive forms, and which group is the data description.
+use Rattle.std.specs.Prelude.{ℕ, ◌==◌, ◌&&◌, ◌||◌, Bool, true, false, not, nat_le, List, [], ◌∷◌, length, codes, Option, None, Some, is_some, if◌then◌else◌}
+use Rattle.std.specs.Option.{option_and_then}
+use Rattle.st_card.specs.Tables.{row_of}
+use Rattle.st_format.specs.Operations.{writes_field}
+use Rattle.st_format.specs.declared.operations.FullOp.TheVariants.{Variable, Connective}
+use Rattle.st_strap.specs.Text.{begins_with, group, behind_group}
+use Rattle.st_strap.specs.declared.statement.Form.{Form}
+use Rattle.st_strap.specs.declared.operations.Operation.{Operation}
+use Rattle.st_strap.specs.declared.operations.Operation.TheVariants.{Vfl, Connect}
+
+-- the progressive forms
+unfoldable pub forms : List (List ℕ × ℕ)
+forms =
+    (codes "(IM)", 1) ∷ (codes "(V+I)", 2) ∷ (codes "(V+IC)", 3) ∷ (codes "(V+ICR)", 4)
+    ∷ (codes "(V-I)", 5) ∷ (codes "(V-IC)", 6) ∷ (codes "(V-ICR)", 7) ∷ []
+
+-- whether a group is a progressive form
+abbrev pub is_form : List ℕ → Bool
+is_form group = is_some (row_of group forms)
+
+-- the data description: a first group that is no progressive form
+unfoldable pub description_in : List ℕ → List ℕ
+description_in text = if is_form (group text) then [] else group text
+
+-- what stands behind the data description
+unfoldable pub behind_description : List ℕ → List ℕ
+behind_description text = if is_form (group text) then text else behind_group text
+
+-- the progressive form that a group is, 0 where there is no group
+unfoldable pub form_number : List ℕ → Option ℕ
+form_number [] = Some 0
+form_number (c ∷ cs) = row_of (c ∷ cs) forms
+
+-- whether an operation may have a progressive form
+abbrev pub may_progress : Operation → Bool
+may_progress (Vfl op negated) = true
+may_progress (Connect kind table) = true
+may_progress _ = false
+
+-- whether an operation writes its field
+abbrev pub writes : Operation → Bool
+writes (Vfl op negated) = writes_field (Variable op)
+writes (Connect kind table) = writes_field (Connective kind)
+writes _ = false
+
+-- whether the operand may stand in the address: it is not written and has at most 24 bits
+abbrev pub may_be_immediate : Operation → ℕ → Bool
+may_be_immediate op bits = not (writes op) && nat_le bits 24
+
+-- whether an operation whose field has so many bits may have a progressive form by its number
+unfoldable pub may_have_form : Operation → ℕ → ℕ → Bool
+may_have_form op bits p =
+    p == 0 || (may_progress op && (not (p == 1) || may_be_immediate op bits))
+
+-- whether fields or nothing may stand here
+abbrev pub is_end : List ℕ → Bool
+is_end text = length text == 0 || begins_with 44 text
+
+-- a form with a progressive form
+abbrev pub with_number : Operation → Form → ℕ → Option Form
+with_number op form n = if may_have_form op form.length n then Some (record form { p = n }) else None
+
+-- the form with the progressive form that a text begins with, where nothing but fields stands behind it
+unfoldable pub progressed : Operation → Form → List ℕ → Option Form
+progressed op form text =
+    if is_end (behind_group text) then option_and_then (with_number op form) (form_number (group text)) else None

@@ -1,0 +1,112 @@
+-- What the fields of a statement say, each by itself.
+use Rattle.std.specs.Prelude.{ℕ, ◌+◌, ◌==◌, ◌^◌, ◌/◌, Bool, true, false, bit_or, List, [], ◌∷◌, length, take, drop, codes, Option, None, Some, unwrap_or, Result, Ok, Err, if◌then◌else◌}
+use Rattle.std.specs.Option.{option_map, option_or, ok_or}
+use Rattle.arrayvec.specs.ArrayVec.{ArrayVec}
+use Rattle.st_card.specs.Number.{reading}
+use Rattle.st_card.specs.Tables.{row_of}
+use Rattle.st_card.specs.declared.faults.Fault.{Fault}
+use Rattle.st_card.specs.declared.faults.Fault.TheVariants.{BadExpression, BadIndex, NumberTooLarge}
+use Rattle.st_card.specs.declared.numbers.Reading.{Reading}
+use Rattle.st_card.specs.declared.numbers.Reading.TheVariants.{Bad, Large, Good}
+use Rattle.st_expr.specs.Expression.{expr_of}
+use Rattle.st_expr.specs.declared.terms.Term.{Term}
+use Rattle.st_strap.specs.Order.{earlier, both_of, mapped}
+use Rattle.st_strap.specs.Text.{begins_with, ends_with}
+use Rattle.st_strap.specs.declared.statement.Spot.{Spot}
+
+-- where the last opening parenthesis of a text stands
+abbrev pub last_open : List ℕ → Option ℕ
+last_open [] = None
+last_open (c ∷ cs) = option_or (option_map (λ n. n + 1) (last_open cs)) (if c == 40 then Some 0 else None)
+
+-- where the index part of a field begins: at its last `(` where it ends with `)`; the field's end where
+-- it has none
+unfoldable pub index_start : List ℕ → ℕ
+index_start field = if ends_with 41 field then unwrap_or (last_open field) (length field) else length field
+
+-- a field without its index part, and that part
+abbrev pub front : List ℕ → List ℕ
+front field = take (index_start field) field
+
+abbrev pub index_part : List ℕ → List ℕ
+index_part field = drop (index_start field) field
+
+-- the index fields
+unfoldable pub index_fields : List (List ℕ × ℕ)
+index_fields =
+    (codes "$X0", 0) ∷ (codes "$X1", 1) ∷ (codes "$X2", 2) ∷ (codes "$X3", 3) ∷ (codes "$X4", 4)
+    ∷ (codes "$X5", 5) ∷ (codes "$X6", 6) ∷ (codes "$X7", 7) ∷ (codes "$X8", 8) ∷ (codes "$X9", 9)
+    ∷ (codes "$X10", 10) ∷ (codes "$X11", 11) ∷ (codes "$X12", 12) ∷ (codes "$X13", 13)
+    ∷ (codes "$X14", 14) ∷ (codes "$X15", 15) ∷ []
+
+-- the index parts
+unfoldable pub index_parts : List (List ℕ × ℕ)
+index_parts =
+    (codes "($X1)", 1) ∷ (codes "($X2)", 2) ∷ (codes "($X3)", 3) ∷ (codes "($X4)", 4)
+    ∷ (codes "($X5)", 5) ∷ (codes "($X6)", 6) ∷ (codes "($X7)", 7) ∷ (codes "($X8)", 8)
+    ∷ (codes "($X9)", 9) ∷ (codes "($X10)", 10) ∷ (codes "($X11)", 11) ∷ (codes "($X12)", 12)
+    ∷ (codes "($X13)", 13) ∷ (codes "($X14)", 14) ∷ (codes "($X15)", 15) ∷ []
+
+-- an index field
+unfoldable pub index_field : List ℕ → Result ℕ Fault
+index_field field = ok_or (row_of field index_fields) BadIndex
+
+-- the index word that an index part names: 0 where no part stands and none must
+unfoldable pub index_of : Bool → List ℕ → Result ℕ Fault
+index_of must [] = if must then Err BadIndex else Ok 0
+index_of must (c ∷ cs) = ok_or (row_of (c ∷ cs) index_parts) BadIndex
+
+-- an address that may have, or must have, an index part
+unfoldable pub spot : Bool → List ℕ → Result Spot Fault
+spot must field = mapped (λ p. record { expr = p.0; index = p.1 })
+    (both_of (expr_of (front field)) (index_of must (index_part field)))
+
+-- a reading behind which no index part may stand
+abbrev pub unindexed : {A : Type 0} → List ℕ → Result A Fault → Result A Fault
+unindexed [] value = value
+unindexed (c ∷ cs) (Ok a) = Err BadIndex
+unindexed (c ∷ cs) (Err e) = Err (earlier e BadIndex)
+
+-- an address without an index part
+unfoldable pub expression : List ℕ → Result (ArrayVec Term) Fault
+expression field = unindexed (index_part field) (expr_of (front field))
+
+-- a number that was read
+abbrev pub number_in : Reading → Result ℕ Fault
+number_in Bad = Err BadExpression
+number_in Large = Err NumberTooLarge
+number_in (Good n) = Ok n
+
+-- a plain number below 2^64
+unfoldable pub number_of : List ℕ → Result ℕ Fault
+number_of text = number_in (reading 18446744073709551615 text)
+
+-- a field that is a plain number
+unfoldable pub plain_number : List ℕ → Result ℕ Fault
+plain_number field = unindexed (index_part field) (number_of (front field))
+
+-- whether a minus stands before a number, and the number: it may have a sign
+unfoldable pub signed_of : List ℕ → Result (Bool × ℕ) Fault
+signed_of text =
+    if begins_with 45 text then mapped (λ n. (true, n)) (number_of (drop 1 text))
+    else (if begins_with 43 text then mapped (λ n. (false, n)) (number_of (drop 1 text))
+    else mapped (λ n. (false, n)) (number_of text))
+
+-- a field that is a number with a sign or none
+unfoldable pub signed_number : List ℕ → Result (Bool × ℕ) Fault
+signed_number field = unindexed (index_part field) (signed_of (front field))
+
+-- the bit of a list of index words that stands for one of them
+abbrev pub selector : ℕ → ℕ
+selector j = 2 ^ 15 / 2 ^ j
+
+-- an index word put to a list of them; either may be none
+abbrev pub with_selected : Result ℕ Fault → Result ℕ Fault → Result ℕ Fault
+with_selected (Ok j) (Ok list) = Ok (bit_or (selector j) list)
+with_selected (Ok j) (Err e) = Err BadIndex
+with_selected (Err e) list = Err BadIndex
+
+-- the list of index words that fields name
+abbrev pub selected : List (List ℕ) → Result ℕ Fault
+selected [] = Ok 0
+selected (field ∷ more) = with_selected (index_field field) (selected more)

@@ -1,0 +1,164 @@
+-- What a statement says.
+use Rattle.std.specs.Prelude.{ℕ, ◌&&◌, ◌||◌, Bool, false, not, nat_le, List, [], ◌∷◌, length, Option, None, Some, Result, Ok, Err, if◌then◌else◌}
+use Rattle.std.specs.Option.{option_and_then, option_map_or}
+use Rattle.arrayvec.specs.ArrayVec.{ArrayVec}
+use Rattle.st_bits.specs.declared.operations.HalfOp.TheVariants.{Ex}
+use Rattle.st_card.specs.Number.{is_filled}
+use Rattle.st_card.specs.declared.faults.Fault.{Fault}
+use Rattle.st_card.specs.declared.faults.Fault.TheVariants.{BadName, UnknownOperation, BadDataDescription, BadProgressive, BadFieldCount}
+use Rattle.st_expr.specs.Name.{is_name}
+use Rattle.st_expr.specs.declared.terms.Term.{Term}
+use Rattle.st_strap.specs.Order.{both_of, mapped, judged}
+use Rattle.st_strap.specs.Text.{clean, word_of, behind_word, behind_group, fields_of}
+use Rattle.st_strap.specs.Table.{operation_of}
+use Rattle.st_strap.specs.Describing.{description_of, described}
+use Rattle.st_strap.specs.Forming.{description_in, behind_description, progressed}
+use Rattle.st_strap.specs.Reading.{index_field, spot, expression, plain_number, signed_number, selected}
+use Rattle.st_strap.specs.declared.statement.Spot.{Spot}
+use Rattle.st_strap.specs.declared.statement.Form.{Form}
+use Rattle.st_strap.specs.declared.statement.Statement.{Statement}
+use Rattle.st_strap.specs.declared.statement.Statement.TheVariants.{Half, Sum, Refill, Branch, Floating, Vfl, Connect, Move, BitBranch, IndBranch, StoreCounter, Transfer, Data, IndexWord, Synonym, SetLocation, Reserve, End}
+use Rattle.st_strap.specs.declared.operations.Operation.{Operation}
+use Rattle.st_strap.specs.declared.operations.Operation.TheVariants.{Half as HalfOperation, Sum as SumOperation, Refill as RefillOperation, Execute as ExecuteOperation, Branch as BranchOperation, Bare as BareOperation, Floating as FloatingOperation, Vfl as VflOperation, Connect as ConnectOperation, Move as MoveOperation, BitBranch as BitBranchOperation, IndBranch as IndBranchOperation, StoreCounter as StoreCounterOperation, Transfer as TransferOperation, Data as DataOperation, IndexWord as IndexWordOperation, Synonym as SynonymOperation, SetLocation as SetLocationOperation, Reserve as ReserveOperation, End as EndOperation}
+
+-- one field that is an index word
+unfoldable pub index_alone : List (List ℕ) → Result ℕ Fault
+index_alone (j ∷ []) = index_field j
+index_alone _ = Err BadFieldCount
+
+-- one address that may have an index part
+unfoldable pub spot_alone : List (List ℕ) → Result Spot Fault
+spot_alone (place ∷ []) = spot false place
+spot_alone _ = Err BadFieldCount
+
+-- one address without an index part
+unfoldable pub expression_alone : List (List ℕ) → Result (ArrayVec Term) Fault
+expression_alone (place ∷ []) = expression place
+expression_alone _ = Err BadFieldCount
+
+-- one number with a sign or none
+unfoldable pub number_alone : List (List ℕ) → Result (Bool × ℕ) Fault
+number_alone (n ∷ []) = signed_number n
+number_alone _ = Err BadFieldCount
+
+-- an index word and an address
+unfoldable pub index_and_spot : List (List ℕ) → Result (ℕ × Spot) Fault
+index_and_spot (j ∷ place ∷ []) = both_of (index_field j) (spot false place)
+index_and_spot _ = Err BadFieldCount
+
+-- an index word, and 1 to 15 that are listed
+unfoldable pub index_and_list : List (List ℕ) → Result (ℕ × ℕ) Fault
+index_and_list (j ∷ k ∷ ks) =
+    if nat_le (length ks) 14 then both_of (index_field j) (selected (k ∷ ks)) else Err BadFieldCount
+index_and_list _ = Err BadFieldCount
+
+-- the address of a field and an offset or none; a progressive form but the first needs an index part
+unfoldable pub operand : Form → List (List ℕ) → Result (Spot × ℕ) Fault
+operand form (place ∷ []) = both_of (spot (nat_le 2 form.p) place) (Ok 0)
+operand form (place ∷ offset ∷ []) = both_of (spot (nat_le 2 form.p) place) (plain_number offset)
+operand form _ = Err BadFieldCount
+
+-- an address and a second one
+unfoldable pub two_addresses : List (List ℕ) → Result (Spot × ArrayVec Term) Fault
+two_addresses (place ∷ second ∷ []) = both_of (spot false place) (expression second)
+two_addresses _ = Err BadFieldCount
+
+-- an address and a number
+unfoldable pub spot_and_number : List (List ℕ) → Result (Spot × ℕ) Fault
+spot_and_number (place ∷ n ∷ []) = both_of (spot false place) (plain_number n)
+spot_and_number _ = Err BadFieldCount
+
+-- an address without an index part and a number
+unfoldable pub address_and_number : List (List ℕ) → Result (ArrayVec Term × ℕ) Fault
+address_and_number (place ∷ n ∷ []) = both_of (expression place) (plain_number n)
+address_and_number _ = Err BadFieldCount
+
+-- two addresses and a number
+unfoldable pub two_addresses_and_number : List (List ℕ) → Result (Spot × (ArrayVec Term × ℕ)) Fault
+two_addresses_and_number [] = Err BadFieldCount
+two_addresses_and_number (place ∷ more) = both_of (spot false place) (address_and_number more)
+
+-- a refill address, and flags or none
+unfoldable pub refill_and_flags : List (List ℕ) → Result (ArrayVec Term × ℕ) Fault
+refill_and_flags (refill ∷ []) = both_of (expression refill) (Ok 0)
+refill_and_flags (refill ∷ flags ∷ []) = both_of (expression refill) (plain_number flags)
+refill_and_flags _ = Err BadFieldCount
+
+-- a count, a refill address, and flags or none
+unfoldable pub count_and_refill : List (List ℕ) → Result (ℕ × (ArrayVec Term × ℕ)) Fault
+count_and_refill [] = Err BadFieldCount
+count_and_refill (count ∷ more) = both_of (plain_number count) (refill_and_flags more)
+
+-- the parts of an index word: a value, and those
+unfoldable pub index_word : List (List ℕ) → Result (ArrayVec Term × (ℕ × (ArrayVec Term × ℕ))) Fault
+index_word [] = Err BadFieldCount
+index_word (value ∷ more) = both_of (expression value) (count_and_refill more)
+
+-- a statement without fields
+unfoldable pub without_fields : Statement → List (List ℕ) → Result Statement Fault
+without_fields statement [] = Ok statement
+without_fields statement _ = Err BadFieldCount
+
+-- what an operation says with its form and its fields
+unfoldable pub with_fields : Operation → Form → List (List ℕ) → Result Statement Fault
+with_fields (HalfOperation op) form fields = mapped (λ p. Half op p.0 p.1) (index_and_spot fields)
+with_fields SumOperation form fields = mapped (λ p. Sum p.0 p.1) (index_and_list fields)
+with_fields RefillOperation form fields = mapped (λ j. Refill j) (index_alone fields)
+with_fields ExecuteOperation form fields = mapped (λ at. Half Ex 0 at) (spot_alone fields)
+with_fields (BranchOperation op) form fields = mapped (λ at. Branch op (Some at)) (spot_alone fields)
+with_fields (BareOperation op) form fields = without_fields (Branch op None) fields
+with_fields (FloatingOperation number) form fields = mapped (λ at. Floating number at) (spot_alone fields)
+with_fields (VflOperation op negated) form fields =
+    mapped (λ p. Vfl op negated form p.0 p.1) (operand form fields)
+with_fields (ConnectOperation kind table) form fields =
+    mapped (λ p. Connect kind table form p.0 p.1) (operand form fields)
+with_fields (MoveOperation swap) form fields =
+    mapped (λ p. Move swap p.0 p.1.0 p.1.1) (two_addresses_and_number fields)
+with_fields (BitBranchOperation sense change) form fields =
+    mapped (λ p. BitBranch sense change p.0 p.1) (two_addresses fields)
+with_fields (IndBranchOperation sense off) form fields =
+    mapped (λ p. IndBranch sense off p.0 p.1) (two_addresses fields)
+with_fields StoreCounterOperation form fields = mapped (λ p. StoreCounter p.0 p.1) (two_addresses fields)
+with_fields (TransferOperation write) form fields =
+    mapped (λ p. Transfer write p.0 p.1) (spot_and_number fields)
+with_fields DataOperation form fields = mapped (λ p. Data form p.0 p.1) (number_alone fields)
+with_fields IndexWordOperation form fields =
+    mapped (λ p. IndexWord p.0 p.1.0 p.1.1.0 p.1.1.1) (index_word fields)
+with_fields SynonymOperation form fields = mapped (λ at. Synonym at) (expression_alone fields)
+with_fields SetLocationOperation form fields = mapped (λ at. SetLocation at) (expression_alone fields)
+with_fields ReserveOperation form fields = mapped (λ at. Reserve at) (expression_alone fields)
+with_fields EndOperation form fields = mapped (λ at. End at) (expression_alone fields)
+
+-- whether a card of this operation may not have a name, or must have one
+abbrev pub misnames : Bool → Operation → Bool
+misnames named SynonymOperation = not named
+misnames named SetLocationOperation = named
+misnames named EndOperation = named
+misnames named _ = false
+
+-- whether the name is none, or the operation is one of those that ask for a name or for none
+unfoldable pub is_misnamed : List ℕ → Option Operation → Bool
+is_misnamed name op =
+    (is_filled name && not (is_name name)) || option_map_or (misnames (is_filled name)) op false
+
+-- what an operation says with an allowed description and the text behind that
+unfoldable pub formed : Operation → Form → List ℕ → Result Statement Fault
+formed op form text = judged BadProgressive (progressed op form text)
+    (λ f. with_fields op f (fields_of (behind_group text)))
+
+-- what an operation says with the text behind it
+unfoldable pub said : Operation → List ℕ → Result Statement Fault
+said op text =
+    judged BadDataDescription (option_and_then (described op) (description_of (description_in text)))
+    (λ d. formed d.0 d.1 (behind_description text))
+
+-- what a statement without comment and blanks says on a card with this name
+unfoldable pub clean_statement_of : List ℕ → List ℕ → Result Statement Fault
+clean_statement_of name statement =
+    let op = operation_of (word_of statement) in
+    if is_misnamed name op then Err BadName
+    else judged UnknownOperation op (λ found. said found (behind_word statement))
+
+-- what the card of a name and a text says: its statement, or the first of its faults
+abbrev pub statement_of : List ℕ → List ℕ → Result Statement Fault
+statement_of name text = clean_statement_of name (clean text)

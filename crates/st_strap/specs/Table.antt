@@ -1,0 +1,87 @@
+-- The operations by their words.
+use Rattle.std.specs.Prelude.{ℕ, ◌-◌, Bool, true, false, List, [], ◌∷◌, length, take, drop, codes, Option, None, if◌then◌else◌}
+use Rattle.std.specs.Option.{option_map, option_or, option_zip}
+use Rattle.st_bits.specs.declared.operations.HalfOp.{HalfOp}
+use Rattle.st_bits.specs.declared.operations.HalfOp.TheVariants.{Lx, Lv, Lc, Lr, Sx, Sv, Sc, Sr, Sva, VPlus, VPlusC, Kv, Lvi, Lci, Lri, VPlusI, VMinusI, VPlusIC, VPlusICR, Kvi, Kc, Kci, Cb, Cbr}
+use Rattle.st_bits.specs.declared.operations.BranchOp.TheVariants.{B, Br, Be, Bd, Bew, Nop}
+use Rattle.st_bits.specs.declared.operations.VflOp.{VflOp}
+use Rattle.st_bits.specs.declared.operations.VflOp.TheVariants.{L, Lwf, Ltrs, Lft, St, Add, AddMg, MAdd, MAddMg, MAdd1, K, Kf, Ke, Kfe, Kr, Kfr, Mul, MulAdd, Div, Lcv}
+use Rattle.st_bits.specs.declared.operations.ConnKind.{ConnKind}
+use Rattle.st_bits.specs.declared.operations.ConnKind.TheVariants.{C, Cm, Ct}
+use Rattle.st_card.specs.Tables.{row_of}
+use Rattle.st_strap.specs.Text.{ends_with}
+use Rattle.st_strap.specs.declared.operations.Operation.{Operation}
+use Rattle.st_strap.specs.declared.operations.Operation.TheVariants.{Half, Sum, Refill, Execute, Branch, Bare, Vfl, Connect, Move, BitBranch, IndBranch, StoreCounter, Transfer, Data, IndexWord, Synonym, SetLocation, Reserve, End}
+
+-- on an index word and an address
+unfoldable pub index_operations : List (List ℕ × HalfOp)
+index_operations =
+    (codes "LX", Lx) ∷ (codes "LV", Lv) ∷ (codes "LC", Lc) ∷ (codes "LR", Lr) ∷ (codes "SX", Sx)
+    ∷ (codes "SV", Sv) ∷ (codes "SC", Sc) ∷ (codes "SR", Sr) ∷ (codes "SVA", Sva) ∷ (codes "V+", VPlus)
+    ∷ (codes "V+C", VPlusC) ∷ (codes "KV", Kv) ∷ (codes "LVI", Lvi) ∷ (codes "LCI", Lci)
+    ∷ (codes "LRI", Lri) ∷ (codes "V+I", VPlusI) ∷ (codes "V-I", VMinusI) ∷ (codes "V+IC", VPlusIC)
+    ∷ (codes "V+ICR", VPlusICR) ∷ (codes "KVI", Kvi) ∷ (codes "KC", Kc) ∷ (codes "KCI", Kci)
+    ∷ (codes "CB", Cb) ∷ (codes "CBR", Cbr) ∷ []
+
+-- on a field
+unfoldable pub field_operations : List (List ℕ × VflOp)
+field_operations =
+    (codes "L", L) ∷ (codes "LWF", Lwf) ∷ (codes "LTRS", Ltrs) ∷ (codes "LFT", Lft) ∷ (codes "ST", St)
+    ∷ (codes "+", Add) ∷ (codes "+MG", AddMg) ∷ (codes "M+", MAdd) ∷ (codes "M+MG", MAddMg)
+    ∷ (codes "M+1", MAdd1) ∷ (codes "K", K) ∷ (codes "KF", Kf) ∷ (codes "KE", Ke) ∷ (codes "KFE", Kfe)
+    ∷ (codes "KR", Kr) ∷ (codes "KFR", Kfr) ∷ (codes "*", Mul) ∷ (codes "*+", MulAdd) ∷ (codes "/", Div)
+    ∷ (codes "LCV", Lcv) ∷ []
+
+-- the others, but for the connectives
+unfoldable pub other_operations : List (List ℕ × Operation)
+other_operations =
+    (codes "LVS", Sum) ∷ (codes "R", Refill) ∷ (codes "EX", Execute)
+    ∷ (codes "B", Branch B) ∷ (codes "BR", Branch Br) ∷ (codes "BE", Branch Be) ∷ (codes "BD", Branch Bd)
+    ∷ (codes "BEW", Bare Bew) ∷ (codes "NOP", Bare Nop)
+    ∷ (codes "T", Move false) ∷ (codes "SWAP", Move true)
+    ∷ (codes "BB0", BitBranch false 0) ∷ (codes "BB0Z", BitBranch false 1)
+    ∷ (codes "BB0S", BitBranch false 2) ∷ (codes "BB0V", BitBranch false 3)
+    ∷ (codes "BB1", BitBranch true 0) ∷ (codes "BB1Z", BitBranch true 1)
+    ∷ (codes "BB1S", BitBranch true 2) ∷ (codes "BB1V", BitBranch true 3)
+    ∷ (codes "BI0", IndBranch false false) ∷ (codes "BI0Z", IndBranch false true)
+    ∷ (codes "BI1", IndBranch true false) ∷ (codes "BI1Z", IndBranch true true)
+    ∷ (codes "SIC", StoreCounter) ∷ (codes "RD", Transfer false) ∷ (codes "WR", Transfer true)
+    ∷ (codes "DD", Data) ∷ (codes "XW", IndexWord) ∷ (codes "SYN", Synonym) ∷ (codes "SLC", SetLocation)
+    ∷ (codes "DR", Reserve) ∷ (codes "END", End) ∷ []
+
+-- where connectives put their results
+unfoldable pub kinds : List (List ℕ × ConnKind)
+kinds = (codes "C", C) ∷ (codes "CM", Cm) ∷ (codes "CT", Ct) ∷ []
+
+-- truth tables: the results for 00, 01, 10 and 11
+unfoldable pub truth_tables : List (List ℕ × ℕ)
+truth_tables =
+    (codes "0000", 0) ∷ (codes "0001", 1) ∷ (codes "0010", 2) ∷ (codes "0011", 3) ∷ (codes "0100", 4)
+    ∷ (codes "0101", 5) ∷ (codes "0110", 6) ∷ (codes "0111", 7) ∷ (codes "1000", 8) ∷ (codes "1001", 9)
+    ∷ (codes "1010", 10) ∷ (codes "1011", 11) ∷ (codes "1100", 12) ∷ (codes "1101", 13)
+    ∷ (codes "1110", 14) ∷ (codes "1111", 15) ∷ []
+
+-- an operation on an index word
+abbrev pub index_operation : List ℕ → Option Operation
+index_operation word = option_map (λ op. Half op) (row_of word index_operations)
+
+-- an operation on a field
+abbrev pub field_operation : Bool → List ℕ → Option Operation
+field_operation negated word = option_map (λ op. Vfl op negated) (row_of word field_operations)
+
+-- an operation on a field with a last letter N, for negated
+unfoldable pub negated_operation : List ℕ → Option Operation
+negated_operation word =
+    if ends_with 78 word then field_operation true (take (length word - 1) word) else None
+
+-- a connective: its kind, and four digits for its truth table
+unfoldable pub connective : List ℕ → Option Operation
+connective word =
+    let place = length word - 4 in
+    option_map (λ p. Connect p.0 p.1) (option_zip (row_of (take place word) kinds) (row_of (drop place word) truth_tables))
+
+-- the operation that a word names
+unfoldable pub operation_of : List ℕ → Option Operation
+operation_of word =
+    option_or (option_or (option_or (option_or (row_of word other_operations) (index_operation word))
+    (field_operation false word)) (negated_operation word)) (connective word)

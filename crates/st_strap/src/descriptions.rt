@@ -1,0 +1,223 @@
+//! Data descriptions: modes, lengths and byte sizes in parentheses.
+
+ghost use Rattle.std.specs.Prelude.{◌≡◌, ◌≤◌, length, IfSome};
+ghost use Rattle.st_card.specs.Tables.{row_of as row_in};
+ghost use Rattle.st_card.specs.Pieces.{parted};
+ghost use Rattle.st_format.specs.Validity.{misfits as misfits_of};
+ghost use Rattle.st_strap.specs.Describing as spec;
+ghost use Rattle.st_strap.specs.Fields.{texts};
+
+use crate::field::Field;
+use crate::operations::Operation;
+use crate::parts::{ends_with, pieces};
+use crate::statement::Form;
+use st_bits::VflOp;
+use st_card::{Reading, read_number, row_of};
+
+// The first word of a description.
+#[derive(Clone, Copy)]
+pub(crate) enum Mode {
+    Field { decimal: bool, unsigned: bool },
+    // Of the floating group.
+    Normalized,
+    Unnormalized,
+}
+
+#[derive(Clone, Copy)]
+pub(crate) enum Description {
+    Absent,
+    InForm(Form),
+    Floating { unnormalized: bool },
+}
+
+const MODES: [(&[u8], Mode); 6] = [
+    (
+        b"B",
+        Mode::Field {
+            decimal: false,
+            unsigned: false,
+        },
+    ),
+    (
+        b"BU",
+        Mode::Field {
+            decimal: false,
+            unsigned: true,
+        },
+    ),
+    (
+        b"D",
+        Mode::Field {
+            decimal: true,
+            unsigned: false,
+        },
+    ),
+    (
+        b"DU",
+        Mode::Field {
+            decimal: true,
+            unsigned: true,
+        },
+    ),
+    (b"N", Mode::Normalized),
+    (b"U", Mode::Unnormalized),
+];
+
+// The form where no description stands.
+fn default_form() -> Form
+    ensures { result ≡ spec.default_form }
+{
+    Form {
+        decimal: false,
+        unsigned: true,
+        length: 64,
+        byte: 8,
+        p: 0,
+    }
+}
+
+#[tactic(auto, unfolding(crate::specs::Describing::modes))]
+fn mode_of(word: &[u8]) -> Option<Mode>
+    ensures { result ≡ row_in word.now spec.modes }
+{
+    row_of(&MODES, word)
+}
+
+// The number from 1 on that a text is, up to the most.
+#[tactic(auto, unfolding(crate::specs::Describing::number_to))]
+fn number_to(most: u8, text: &[u8]) -> Option<u8>
+    ensures { result ≡ spec.number_to most text.now }
+{
+    match read_number(text, u64::from(most)) {
+        Reading::Good(number) if number != 0 => Some(number as u8),
+        _ => None,
+    }
+}
+
+// What a length, a byte size or neither say behind a mode.
+#[tactic(auto, unfolding(crate::specs::Describing::in_mode))]
+fn in_mode(mode: Mode, more: &[Field]) -> Option<Description>
+    ensures { result ≡ spec.in_mode mode (texts more.now) }
+{
+    match mode {
+        Mode::Field { decimal, unsigned } => in_form(decimal, unsigned, more),
+        Mode::Normalized if more.is_empty() => Some(Description::Floating {
+            unnormalized: false,
+        }),
+        Mode::Unnormalized if more.is_empty() => Some(Description::Floating { unnormalized: true }),
+        _ => None,
+    }
+}
+
+#[tactic(auto, unfolding(crate::specs::Describing::in_mode))]
+fn in_form(decimal: bool, unsigned: bool, more: &[Field]) -> Option<Description>
+    ensures { result ≡ spec.in_mode (Mode.Field decimal unsigned) (texts more.now) }
+{
+    let usual = usual_byte(decimal);
+    let (length, byte) = match more {
+        [] => (64, usual),
+        [length] => (number_to(64, length.text)?, usual),
+        [length, byte] => (number_to(64, length.text)?, number_to(8, byte.text)?),
+        _ => return None,
+    };
+    Some(Description::InForm(Form {
+        decimal,
+        unsigned,
+        length,
+        byte,
+        p: 0,
+    }))
+}
+
+fn usual_byte(decimal: bool) -> u8
+    ensures { result ≡ spec.usual_byte decimal }
+{
+    if decimal { 4 } else { 8 }
+}
+
+// What a group says as a description.
+#[tactic(auto, unfolding(crate::specs::Describing::description_of))]
+pub(crate) fn description_of(group: &[u8]) -> Option<Description>
+    requires { length group.now ≤ 63 }
+    ensures { result ≡ spec.description_of group.now }
+{
+    match group {
+        [] => Some(Description::Absent),
+        [_, rest @ ..] => {
+            if !ends_with(group, b')') {
+                return None;
+            }
+            in_pieces(rest.split_at(group.len().saturating_sub(2)).0)
+        }
+    }
+}
+
+// What a description says between its parentheses.
+fn in_pieces(text: &[u8]) -> Option<Description>
+    requires { length text.now ≤ 63 }
+    ensures { result ≡ spec.in_pieces (parted 44 text.now) }
+{
+    let fields = pieces(text);
+    match fields.as_slice() {
+        [] => None,
+        [mode, more @ ..] => in_mode(mode_of(mode.text)?, more),
+    }
+}
+
+// Whether an operation may have a form.
+#[tactic(auto, unfolding(crate::specs::Describing::may_have))]
+fn may_have(op: Operation, form: Form) -> bool
+    ensures { result ≡ spec.may_have op form }
+{
+    match op {
+        Operation::Vfl { .. } | Operation::Data => {
+            !misfits(form.decimal, form.unsigned, form.length, form.byte)
+        }
+        Operation::Connect { .. } => !form.decimal && form.unsigned,
+        _ => false,
+    }
+}
+
+// Whether a form is none: a decimal field has bytes of at least four bits and is made of whole bytes, and
+// a signed field has room for its sign byte.
+fn misfits(decimal: bool, unsigned: bool, length: u8, byte: u8) -> bool
+    ensures { result ≡ misfits_of decimal unsigned length byte }
+{
+    (decimal && (byte < 4 || length % byte != 0)) || (!unsigned && length < byte)
+}
+
+#[tactic(auto, unfolding(crate::specs::Describing::floating_number))]
+fn floating_number(op: Operation) -> Option<u8>
+    ensures value { result ≡ spec.floating_number op }
+    ensures bound { IfSome result (λ n. n ≤ 6) }
+{
+    match op {
+        Operation::Vfl { op, negated: false } => match op {
+            VflOp::L => Some(1),
+            VflOp::St => Some(2),
+            VflOp::Add => Some(3),
+            VflOp::K => Some(4),
+            VflOp::Mul => Some(5),
+            VflOp::Div => Some(6),
+            _ => None,
+        },
+        _ => None,
+    }
+}
+
+// The operation and the form that a description makes of an operation, where it may stand there.
+#[tactic(auto, unfolding(crate::specs::Describing::described))]
+pub(crate) fn described(op: Operation, description: Description) -> Option<(Operation, Form)>
+    ensures { result ≡ spec.described op description }
+{
+    match description {
+        Description::Absent => Some((op, default_form())),
+        Description::InForm(form) if may_have(op, form) => Some((op, form)),
+        Description::InForm(_) => None,
+        Description::Floating { unnormalized } => {
+            let number = floating_number(op)?;
+            let number = if unnormalized { number + 8 } else { number };
+            Some((Operation::Floating(number), default_form()))
+        }
+    }
+}

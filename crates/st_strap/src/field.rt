@@ -1,0 +1,20 @@
+//! A field of a statement.
+
+ghost use Rattle.std.specs.Prelude.{◌≤◌, length};
+
+use arrayvec::ArrayVec;
+
+// What stands between commas.
+#[derive(Clone, Copy)]
+pub(crate) struct Field<'a> {
+    pub text: &'a [u8],
+    ghost fits: { length text.now ≤ 63 },
+}
+
+impl Default for Field<'_> {
+    fn default() -> Self {
+        Field { text: &[] }
+    }
+}
+
+pub(crate) type Fields<'a> = ArrayVec<Field<'a>, 64>;

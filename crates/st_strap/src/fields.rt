@@ -1,0 +1,268 @@
+//! What the fields of a statement say, each by itself.
+
+ghost use Rattle.std.specs.Prelude.{◌≡◌, ◌≤◌, ◌<◌, ◌^◌, length, IfOk, IfSome};
+ghost use Rattle.st_card.specs.Tables.{row_of as row_in};
+ghost use Rattle.st_strap.specs.Order as order;
+ghost use Rattle.st_strap.specs.Fields.{texts};
+ghost use Rattle.st_strap.specs.Reading as spec;
+
+use crate::field::Field;
+use crate::parts::{begins_with, ends_with};
+use crate::statement::Spot;
+use st_card::{Fault, Reading, read_number, row_of};
+use st_expr::{Expr, read_expr};
+
+const INDEX_FIELDS: [(&[u8], u8); 16] = [
+    (b"$X0", 0),
+    (b"$X1", 1),
+    (b"$X2", 2),
+    (b"$X3", 3),
+    (b"$X4", 4),
+    (b"$X5", 5),
+    (b"$X6", 6),
+    (b"$X7", 7),
+    (b"$X8", 8),
+    (b"$X9", 9),
+    (b"$X10", 10),
+    (b"$X11", 11),
+    (b"$X12", 12),
+    (b"$X13", 13),
+    (b"$X14", 14),
+    (b"$X15", 15),
+];
+
+const INDEX_PARTS: [(&[u8], u8); 15] = [
+    (b"($X1)", 1),
+    (b"($X2)", 2),
+    (b"($X3)", 3),
+    (b"($X4)", 4),
+    (b"($X5)", 5),
+    (b"($X6)", 6),
+    (b"($X7)", 7),
+    (b"($X8)", 8),
+    (b"($X9)", 9),
+    (b"($X10)", 10),
+    (b"($X11)", 11),
+    (b"($X12)", 12),
+    (b"($X13)", 13),
+    (b"($X14)", 14),
+    (b"($X15)", 15),
+];
+
+// The places in the list of the faults that fields may have.
+fn rank(fault: Fault) -> u8
+    ensures { result ≡ order.rank fault }
+{
+    match fault {
+        Fault::BadFieldCount => 0,
+        Fault::BadExpression => 1,
+        Fault::BadIndex => 2,
+        _ => 3,
+    }
+}
+
+// The earlier of two faults.
+fn earlier(a: Fault, b: Fault) -> Fault
+    ensures { result ≡ order.earlier a b }
+{
+    if rank(b) < rank(a) { b } else { a }
+}
+
+// Two readings, or the earlier of their faults.
+pub(crate) fn both<A: Drop, B: Drop>(
+    a: Result<A, Fault>,
+    b: Result<B, Fault>,
+) -> Result<(A, B), Fault>
+    ensures { result ≡ order.both_of a b }
+{
+    match (a, b) {
+        (Ok(a), Ok(b)) => Ok((a, b)),
+        (Ok(_), Err(fault)) | (Err(fault), Ok(_)) => Err(fault),
+        (Err(a), Err(b)) => Err(earlier(a, b)),
+    }
+}
+
+// Where the last opening parenthesis of a text stands.
+fn last_open(text: &[u8]) -> Option<usize>
+    ensures value { result ≡ spec.last_open text.now }
+    ensures within { IfSome result (λ n. n < length text.now) }
+{
+    match text {
+        [] => None,
+        [first, rest @ ..] => match last_open(rest) {
+            Some(place) => Some(place + 1),
+            None if *first == b'(' => Some(0),
+            None => None,
+        },
+    }
+}
+
+// Where the index part of a field begins, the field's end where it has none.
+#[tactic(auto, unfolding(crate::specs::Reading::index_start))]
+fn index_start(field: &[u8]) -> usize
+    ensures value { result ≡ spec.index_start field.now }
+    ensures within { result ≤ length field.now }
+{
+    if !ends_with(field, b')') {
+        return field.len();
+    }
+    match last_open(field) {
+        Some(place) => place,
+        None => field.len(),
+    }
+}
+
+// A field without its index part, and that part.
+fn split_index(field: &[u8]) -> (&[u8], &[u8])
+    ensures front { result.0.now ≡ spec.front field.now }
+    ensures part { result.1.now ≡ spec.index_part field.now }
+    ensures within { length result.0.now ≤ length field.now }
+{
+    field.split_at(index_start(field))
+}
+
+#[tactic(auto, unfolding(crate::specs::Reading::index_fields))]
+fn field_row(field: &[u8]) -> Option<u8>
+    ensures { result ≡ row_in field.now spec.index_fields }
+{
+    row_of(&INDEX_FIELDS, field)
+}
+
+#[tactic(auto, unfolding(crate::specs::Reading::index_parts))]
+fn part_row(part: &[u8]) -> Option<u8>
+    ensures { result ≡ row_in part.now spec.index_parts }
+{
+    row_of(&INDEX_PARTS, part)
+}
+
+// The index word that an index field names.
+#[tactic(auto, unfolding(crate::specs::Reading::index_field))]
+pub(crate) fn index_field(field: &[u8]) -> Result<u8, Fault>
+    ensures value { result ≡ spec.index_field field.now }
+    ensures within { IfOk result (λ j. j < 16) }
+{
+    field_row(field).ok_or(Fault::BadIndex)
+}
+
+// The index word that an index part names, 0 where no part stands and none must.
+#[tactic(auto, unfolding(crate::specs::Reading::index_of))]
+fn index_of(must: bool, part: &[u8]) -> Result<u8, Fault>
+    ensures { result ≡ spec.index_of must part.now }
+{
+    match part {
+        [] if must => Err(Fault::BadIndex),
+        [] => Ok(0),
+        _ => part_row(part).ok_or(Fault::BadIndex),
+    }
+}
+
+// An address that may have, or must have, an index part.
+#[tactic(auto, unfolding(crate::specs::Reading::spot))]
+pub(crate) fn spot(must: bool, field: &[u8]) -> Result<Spot, Fault>
+    requires { length field.now ≤ 63 }
+    ensures { result ≡ spec.spot must field.now }
+{
+    let (front, part) = split_index(field);
+    match both(read_expr(front), index_of(must, part)) {
+        Ok((expr, index)) => Ok(Spot { expr, index }),
+        Err(fault) => Err(fault),
+    }
+}
+
+// A reading behind which no index part may stand.
+fn unindexed<A: Drop>(part: &[u8], value: Result<A, Fault>) -> Result<A, Fault>
+    ensures { result ≡ spec.unindexed part.now value }
+{
+    if part.is_empty() {
+        return value;
+    }
+    match value {
+        Ok(_) => Err(Fault::BadIndex),
+        Err(fault) => Err(earlier(fault, Fault::BadIndex)),
+    }
+}
+
+// An address without an index part.
+#[tactic(auto, unfolding(crate::specs::Reading::expression))]
+pub(crate) fn expression(field: &[u8]) -> Result<Expr, Fault>
+    requires { length field.now ≤ 63 }
+    ensures { result ≡ spec.expression field.now }
+{
+    let (front, part) = split_index(field);
+    unindexed(part, read_expr(front))
+}
+
+// A plain number below 2^64.
+#[tactic(auto, unfolding(crate::specs::Reading::number_of))]
+fn number_of(text: &[u8]) -> Result<u64, Fault>
+    ensures { result ≡ spec.number_of text.now }
+{
+    match read_number(text, u64::MAX) {
+        Reading::Bad => Err(Fault::BadExpression),
+        Reading::Large => Err(Fault::NumberTooLarge),
+        Reading::Good(number) => Ok(number),
+    }
+}
+
+// A field that is a plain number.
+#[tactic(auto, unfolding(crate::specs::Reading::plain_number))]
+pub(crate) fn plain_number(field: &[u8]) -> Result<u64, Fault>
+    ensures { result ≡ spec.plain_number field.now }
+{
+    let (front, part) = split_index(field);
+    unindexed(part, number_of(front))
+}
+
+// A sign and a number, the sign being the caller's.
+fn with_sign(minus: bool, text: &[u8]) -> Result<(bool, u64), Fault>
+    ensures { result ≡ order.mapped (λ n. (minus, n)) (spec.number_of text.now) }
+{
+    match number_of(text) {
+        Ok(number) => Ok((minus, number)),
+        Err(fault) => Err(fault),
+    }
+}
+
+// Whether a minus stands before a number, and the number.
+#[tactic(auto, unfolding(crate::specs::Reading::signed_of))]
+fn signed_of(text: &[u8]) -> Result<(bool, u64), Fault>
+    ensures { result ≡ spec.signed_of text.now }
+{
+    if begins_with(text, b'-') {
+        return with_sign(true, text.split_at(1).1);
+    }
+    if begins_with(text, b'+') {
+        return with_sign(false, text.split_at(1).1);
+    }
+    with_sign(false, text)
+}
+
+// A field that is a number with a sign or none.
+#[tactic(auto, unfolding(crate::specs::Reading::signed_number))]
+pub(crate) fn signed_number(field: &[u8]) -> Result<(bool, u64), Fault>
+    ensures { result ≡ spec.signed_number field.now }
+{
+    let (front, part) = split_index(field);
+    unindexed(part, signed_of(front))
+}
+
+// The bit of a list of index words that stands for one of them.
+fn selector(j: u8) -> u16
+    requires { j < 16 }
+    ensures { result ≡ spec.selector j }
+{
+    0x8000 >> j
+}
+
+// A list of index words from fields that name them.
+pub(crate) fn selected(fields: &[Field]) -> Result<u16, Fault>
+    ensures { result ≡ spec.selected (texts fields.now) }
+{
+    match fields {
+        [] => Ok(0),
+        [field, more @ ..] => match (index_field(field.text), selected(more)) {
+            (Ok(j), Ok(list)) => Ok(selector(j) | list),
+            _ => Err(Fault::BadIndex),
+        },
+    }
+}

@@ -1,0 +1,121 @@
+//! Progressive forms, and which group is the data description.
+
+ghost use Rattle.std.specs.Prelude.{◌≡◌, ◌≤◌, length};
+ghost use Rattle.std.specs.Option.{option_and_then};
+ghost use Rattle.st_card.specs.Tables.{row_of as row_in};
+ghost use Rattle.st_strap.specs.Text.{behind_group};
+ghost use Rattle.st_strap.specs.Forming as spec;
+
+use crate::operations::Operation;
+use crate::parts::{begins_with, group_length};
+use crate::statement::Form;
+use st_bits::{ConnKind, VflOp};
+use st_card::row_of;
+
+const FORMS: [(&[u8], u8); 7] = [
+    (b"(IM)", 1),
+    (b"(V+I)", 2),
+    (b"(V+IC)", 3),
+    (b"(V+ICR)", 4),
+    (b"(V-I)", 5),
+    (b"(V-IC)", 6),
+    (b"(V-ICR)", 7),
+];
+
+#[tactic(auto, unfolding(crate::specs::Forming::forms))]
+fn form_row(group: &[u8]) -> Option<u8>
+    ensures { result ≡ row_in group.now spec.forms }
+{
+    row_of(&FORMS, group)
+}
+
+// The data description, empty where there is none, and what stands behind it.
+#[tactic(auto, unfolding(crate::specs::Forming::description_in, crate::specs::Forming::behind_description))]
+pub(crate) fn split_description(text: &[u8]) -> (&[u8], &[u8])
+    ensures description { result.0.now ≡ spec.description_in text.now }
+    ensures behind { result.1.now ≡ spec.behind_description text.now }
+    ensures lengths { length result.0.now ≤ length text.now }
+    ensures shorter { length result.1.now ≤ length text.now }
+{
+    let (group, behind) = text.split_at(group_length(text));
+    if form_row(group).is_some() {
+        (&[], text)
+    } else {
+        (group, behind)
+    }
+}
+
+// The form with the progressive form that a text begins with, and what stands behind that.
+#[tactic(auto, unfolding(crate::specs::Forming::progressed))]
+pub(crate) fn progressed(op: Operation, form: Form, text: &[u8]) -> (Option<Form>, &[u8])
+    ensures form { result.0 ≡ spec.progressed op form text.now }
+    ensures behind { result.1.now ≡ behind_group text.now }
+    ensures shorter { length result.1.now ≤ length text.now }
+{
+    let (group, behind) = text.split_at(group_length(text));
+    if is_end(behind) {
+        (with_group(op, form, group), behind)
+    } else {
+        (None, behind)
+    }
+}
+
+fn with_group(op: Operation, form: Form, group: &[u8]) -> Option<Form>
+    ensures { result ≡ option_and_then (spec.with_number op form) (spec.form_number group.now) }
+{
+    with_number(op, form, form_number(group)?)
+}
+
+fn with_number(op: Operation, form: Form, number: u8) -> Option<Form>
+    ensures { result ≡ spec.with_number op form number }
+{
+    if may_have_form(op, form.length, number) {
+        Some(Form { p: number, ..form })
+    } else {
+        None
+    }
+}
+
+// Whether fields or nothing may stand here.
+fn is_end(text: &[u8]) -> bool
+    ensures { result ≡ spec.is_end text.now }
+{
+    text.is_empty() || begins_with(text, b',')
+}
+
+// The progressive form that a group is, 0 where there is no group.
+#[tactic(auto, unfolding(crate::specs::Forming::form_number))]
+fn form_number(group: &[u8]) -> Option<u8>
+    ensures { result ≡ spec.form_number group.now }
+{
+    match group {
+        [] => Some(0),
+        _ => form_row(group),
+    }
+}
+
+// Whether an operation whose field has so many bits may have a progressive form by its number.
+#[tactic(auto, unfolding(crate::specs::Forming::may_have_form))]
+fn may_have_form(op: Operation, length: u8, p: u8) -> bool
+    ensures { result ≡ spec.may_have_form op length p }
+{
+    p == 0 || (may_progress(op) && (p != 1 || (!writes(op) && length <= 24)))
+}
+
+fn may_progress(op: Operation) -> bool
+    ensures { result ≡ spec.may_progress op }
+{
+    matches!(op, Operation::Vfl { .. } | Operation::Connect { .. })
+}
+
+fn writes(op: Operation) -> bool
+    ensures { result ≡ spec.writes op }
+{
+    match op {
+        Operation::Vfl { op, .. } => {
+            matches!(op, VflOp::St | VflOp::MAdd | VflOp::MAddMg | VflOp::MAdd1)
+        }
+        Operation::Connect { kind, .. } => kind == ConnKind::Cm,
+        _ => false,
+    }
+}

@@ -1,0 +1,15 @@
+//! Statements: what a card of the assembler says.
+#![tactic(auto)]
+
+mod descriptions;
+mod field;
+mod fields;
+mod forms;
+mod operations;
+mod parts;
+mod reading;
+mod shapes;
+mod statement;
+
+pub use reading::read_statement;
+pub use statement::{Form, Spot, Statement};

@@ -1,0 +1,300 @@
+//! The operations by their words.
+
+ghost use Rattle.std.specs.Prelude.{◌≡◌};
+ghost use Rattle.st_card.specs.Tables.{row_of as row_in};
+ghost use Rattle.st_strap.specs.Table as spec;
+
+use crate::parts::ends_with;
+use st_bits::{BranchOp, ConnKind, HalfOp, VflOp};
+use st_card::row_of;
+
+// An operation, with what its word says.
+#[derive(Clone, Copy)]
+pub(crate) enum Operation {
+    Half(HalfOp),
+    Sum,
+    Refill,
+    Execute,
+    Branch(BranchOp),
+    // A branch without an address.
+    Bare(BranchOp),
+    // An operation of the floating group, which only a data description tells from one on a field.
+    Floating(u8),
+    Vfl { op: VflOp, negated: bool },
+    Connect { kind: ConnKind, table: u8 },
+    Move { swap: bool },
+    BitBranch { sense: bool, change: u8 },
+    IndBranch { sense: bool, off: bool },
+    StoreCounter,
+    Transfer { write: bool },
+    Data,
+    IndexWord,
+    Synonym,
+    SetLocation,
+    Reserve,
+    End,
+}
+
+const INDEX_OPERATIONS: [(&[u8], HalfOp); 24] = [
+    (b"LX", HalfOp::Lx),
+    (b"LV", HalfOp::Lv),
+    (b"LC", HalfOp::Lc),
+    (b"LR", HalfOp::Lr),
+    (b"SX", HalfOp::Sx),
+    (b"SV", HalfOp::Sv),
+    (b"SC", HalfOp::Sc),
+    (b"SR", HalfOp::Sr),
+    (b"SVA", HalfOp::Sva),
+    (b"V+", HalfOp::VPlus),
+    (b"V+C", HalfOp::VPlusC),
+    (b"KV", HalfOp::Kv),
+    (b"LVI", HalfOp::Lvi),
+    (b"LCI", HalfOp::Lci),
+    (b"LRI", HalfOp::Lri),
+    (b"V+I", HalfOp::VPlusI),
+    (b"V-I", HalfOp::VMinusI),
+    (b"V+IC", HalfOp::VPlusIC),
+    (b"V+ICR", HalfOp::VPlusICR),
+    (b"KVI", HalfOp::Kvi),
+    (b"KC", HalfOp::Kc),
+    (b"KCI", HalfOp::Kci),
+    (b"CB", HalfOp::Cb),
+    (b"CBR", HalfOp::Cbr),
+];
+
+const FIELD_OPERATIONS: [(&[u8], VflOp); 20] = [
+    (b"L", VflOp::L),
+    (b"LWF", VflOp::Lwf),
+    (b"LTRS", VflOp::Ltrs),
+    (b"LFT", VflOp::Lft),
+    (b"ST", VflOp::St),
+    (b"+", VflOp::Add),
+    (b"+MG", VflOp::AddMg),
+    (b"M+", VflOp::MAdd),
+    (b"M+MG", VflOp::MAddMg),
+    (b"M+1", VflOp::MAdd1),
+    (b"K", VflOp::K),
+    (b"KF", VflOp::Kf),
+    (b"KE", VflOp::Ke),
+    (b"KFE", VflOp::Kfe),
+    (b"KR", VflOp::Kr),
+    (b"KFR", VflOp::Kfr),
+    (b"*", VflOp::Mul),
+    (b"*+", VflOp::MulAdd),
+    (b"/", VflOp::Div),
+    (b"LCV", VflOp::Lcv),
+];
+
+const OTHER_OPERATIONS: [(&[u8], Operation); 32] = [
+    (b"LVS", Operation::Sum),
+    (b"R", Operation::Refill),
+    (b"EX", Operation::Execute),
+    (b"B", Operation::Branch(BranchOp::B)),
+    (b"BR", Operation::Branch(BranchOp::Br)),
+    (b"BE", Operation::Branch(BranchOp::Be)),
+    (b"BD", Operation::Branch(BranchOp::Bd)),
+    (b"BEW", Operation::Bare(BranchOp::Bew)),
+    (b"NOP", Operation::Bare(BranchOp::Nop)),
+    (b"T", Operation::Move { swap: false }),
+    (b"SWAP", Operation::Move { swap: true }),
+    (
+        b"BB0",
+        Operation::BitBranch {
+            sense: false,
+            change: 0,
+        },
+    ),
+    (
+        b"BB0Z",
+        Operation::BitBranch {
+            sense: false,
+            change: 1,
+        },
+    ),
+    (
+        b"BB0S",
+        Operation::BitBranch {
+            sense: false,
+            change: 2,
+        },
+    ),
+    (
+        b"BB0V",
+        Operation::BitBranch {
+            sense: false,
+            change: 3,
+        },
+    ),
+    (
+        b"BB1",
+        Operation::BitBranch {
+            sense: true,
+            change: 0,
+        },
+    ),
+    (
+        b"BB1Z",
+        Operation::BitBranch {
+            sense: true,
+            change: 1,
+        },
+    ),
+    (
+        b"BB1S",
+        Operation::BitBranch {
+            sense: true,
+            change: 2,
+        },
+    ),
+    (
+        b"BB1V",
+        Operation::BitBranch {
+            sense: true,
+            change: 3,
+        },
+    ),
+    (
+        b"BI0",
+        Operation::IndBranch {
+            sense: false,
+            off: false,
+        },
+    ),
+    (
+        b"BI0Z",
+        Operation::IndBranch {
+            sense: false,
+            off: true,
+        },
+    ),
+    (
+        b"BI1",
+        Operation::IndBranch {
+            sense: true,
+            off: false,
+        },
+    ),
+    (
+        b"BI1Z",
+        Operation::IndBranch {
+            sense: true,
+            off: true,
+        },
+    ),
+    (b"SIC", Operation::StoreCounter),
+    (b"RD", Operation::Transfer { write: false }),
+    (b"WR", Operation::Transfer { write: true }),
+    (b"DD", Operation::Data),
+    (b"XW", Operation::IndexWord),
+    (b"SYN", Operation::Synonym),
+    (b"SLC", Operation::SetLocation),
+    (b"DR", Operation::Reserve),
+    (b"END", Operation::End),
+];
+
+const KINDS: [(&[u8], ConnKind); 3] = [
+    (b"C", ConnKind::C),
+    (b"CM", ConnKind::Cm),
+    (b"CT", ConnKind::Ct),
+];
+
+const TRUTH_TABLES: [(&[u8], u8); 16] = [
+    (b"0000", 0),
+    (b"0001", 1),
+    (b"0010", 2),
+    (b"0011", 3),
+    (b"0100", 4),
+    (b"0101", 5),
+    (b"0110", 6),
+    (b"0111", 7),
+    (b"1000", 8),
+    (b"1001", 9),
+    (b"1010", 10),
+    (b"1011", 11),
+    (b"1100", 12),
+    (b"1101", 13),
+    (b"1110", 14),
+    (b"1111", 15),
+];
+
+// The operation that a word names.
+#[tactic(auto, unfolding(crate::specs::Table::operation_of))]
+pub(crate) fn operation_of(word: &[u8]) -> Option<Operation>
+    ensures { result ≡ spec.operation_of word.now }
+{
+    other_operation(word)
+        .or(index_operation(word))
+        .or(field_operation(word, false))
+        .or(negated_operation(word))
+        .or(connective(word))
+}
+
+#[tactic(auto, unfolding(crate::specs::Table::other_operations))]
+fn other_operation(word: &[u8]) -> Option<Operation>
+    ensures { result ≡ row_in word.now spec.other_operations }
+{
+    row_of(&OTHER_OPERATIONS, word)
+}
+
+fn index_operation(word: &[u8]) -> Option<Operation>
+    ensures { result ≡ spec.index_operation word.now }
+{
+    index_row(word).map(Operation::Half)
+}
+
+#[tactic(auto, unfolding(crate::specs::Table::index_operations))]
+fn index_row(word: &[u8]) -> Option<HalfOp>
+    ensures { result ≡ row_in word.now spec.index_operations }
+{
+    row_of(&INDEX_OPERATIONS, word)
+}
+
+fn field_operation(word: &[u8], negated: bool) -> Option<Operation>
+    ensures { result ≡ spec.field_operation negated word.now }
+{
+    field_row(word).map(|op| Operation::Vfl { op, negated })
+}
+
+#[tactic(auto, unfolding(crate::specs::Table::field_operations))]
+fn field_row(word: &[u8]) -> Option<VflOp>
+    ensures { result ≡ row_in word.now spec.field_operations }
+{
+    row_of(&FIELD_OPERATIONS, word)
+}
+
+// An operation on a field with a last letter N, for negated.
+#[tactic(auto, unfolding(crate::specs::Table::negated_operation))]
+fn negated_operation(word: &[u8]) -> Option<Operation>
+    ensures { result ≡ spec.negated_operation word.now }
+{
+    if ends_with(word, b'N') {
+        field_operation(word.split_at(word.len().saturating_sub(1)).0, true)
+    } else {
+        None
+    }
+}
+
+// A connective: its kind, and four digits for its truth table.
+#[tactic(auto, unfolding(crate::specs::Table::connective))]
+fn connective(word: &[u8]) -> Option<Operation>
+    ensures { result ≡ spec.connective word.now }
+{
+    let (kind, digits) = word.split_at(word.len().saturating_sub(4));
+    kind_row(kind)
+        .zip(table_row(digits))
+        .map(|(kind, table)| Operation::Connect { kind, table })
+}
+
+#[tactic(auto, unfolding(crate::specs::Table::kinds))]
+fn kind_row(word: &[u8]) -> Option<ConnKind>
+    ensures { result ≡ row_in word.now spec.kinds }
+{
+    row_of(&KINDS, word)
+}
+
+#[tactic(auto, unfolding(crate::specs::Table::truth_tables))]
+fn table_row(digits: &[u8]) -> Option<u8>
+    ensures { result ≡ row_in digits.now spec.truth_tables }
+{
+    row_of(&TRUTH_TABLES, digits)
+}

@@ -1,0 +1,105 @@
+//! The text of a statement, cut into its parts.
+
+ghost use Rattle.std.specs.Prelude.{◌≡◌, ◌≤◌, ◌==◌, not, length, filter};
+ghost use Rattle.st_card.specs.Pieces.{parted};
+ghost use Rattle.st_strap.specs.Text as spec;
+ghost use Rattle.st_strap.specs.Fields.{texts};
+
+use crate::field::{Field, Fields};
+use arrayvec::ArrayVec;
+use st_card::cut;
+
+// How many bytes stand before the first of two bytes.
+pub(crate) fn stop(text: &[u8], a: u8, b: u8) -> usize
+    ensures value { result ≡ spec.stop a b text.now }
+    ensures within { result ≤ length text.now }
+{
+    match text {
+        [] => 0,
+        [first, rest @ ..] => {
+            if *first == a || *first == b {
+                0
+            } else {
+                stop(rest, a, b) + 1
+            }
+        }
+    }
+}
+
+pub(crate) fn begins_with(text: &[u8], byte: u8) -> bool
+    ensures { result ≡ spec.begins_with byte text.now }
+{
+    text.first().is_some_and(|first| *first == byte)
+}
+
+pub(crate) fn ends_with(text: &[u8], byte: u8) -> bool
+    ensures { result ≡ spec.ends_with byte text.now }
+{
+    text.last().is_some_and(|last| *last == byte)
+}
+
+// A statement without its comment and its blanks.
+#[tactic(auto, unfolding(crate::specs::Text::clean))]
+pub(crate) fn clean(text: &[u8]) -> ArrayVec<u8, 63>
+    requires { length text.now ≤ 63 }
+    ensures value { result.items ≡ spec.clean text.now }
+    ensures within { length result.items ≤ 63 }
+{
+    without_blanks(text.split_at(stop(text, b';', b';')).0)
+}
+
+fn without_blanks(text: &[u8]) -> ArrayVec<u8, 63>
+    requires { length text.now ≤ 63 }
+    ensures value { result.items ≡ filter (λ c. not (c == 32)) text.now }
+    ensures within { length result.items ≤ 63 }
+{
+    let mut kept = ArrayVec::new();
+    let mut rest = text;
+    'bytes: while let [byte, after @ ..] = rest {
+        if *byte != b' ' {
+            kept.push(*byte);
+        }
+        rest = after;
+    }
+    kept
+}
+
+// The length of the group that a text begins with.
+#[tactic(auto, unfolding(crate::specs::Text::group_length))]
+pub(crate) fn group_length(text: &[u8]) -> usize
+    ensures value { result ≡ spec.group_length text.now }
+    ensures within { result ≤ length text.now }
+{
+    if begins_with(text, b'(') {
+        (stop(text, b')', b')') + 1).min(text.len())
+    } else {
+        0
+    }
+}
+
+// The fields, each behind a comma.
+#[tactic(auto, unfolding(crate::specs::Text::fields_of))]
+pub(crate) fn fields(text: &[u8]) -> Fields<'_>
+    requires { length text.now ≤ 63 }
+    ensures { texts result.items ≡ spec.fields_of text.now }
+{
+    match text {
+        [] => Fields::new(),
+        [_, rest @ ..] => pieces(rest),
+    }
+}
+
+// What stands between the commas of a text.
+pub(crate) fn pieces(text: &[u8]) -> Fields<'_>
+    requires { length text.now ≤ 63 }
+    ensures { texts result.items ≡ parted 44 text.now }
+{
+    let mut fields = Fields::new();
+    let mut rest = text;
+    'pieces: while let Some((piece, after)) = cut(rest, b',') {
+        fields.push(Field { text: piece });
+        rest = after;
+    }
+    fields.push(Field { text: rest });
+    fields
+}

@@ -1,0 +1,181 @@
+//! The shapes that the fields of operations have.
+
+ghost use Rattle.std.specs.Prelude.{◌≡◌};
+ghost use Rattle.st_strap.specs.Fields.{texts};
+ghost use Rattle.st_strap.specs.Saying as spec;
+
+use crate::field::Field;
+use crate::fields::{both, expression, index_field, plain_number, selected, signed_number, spot};
+use crate::statement::{Form, Spot, Statement};
+use st_card::Fault;
+use st_expr::Expr;
+
+// One field that is an index word.
+#[tactic(auto, unfolding(crate::specs::Saying::index_alone))]
+pub(crate) fn index_alone(fields: &[Field]) -> Result<u8, Fault>
+    ensures { result ≡ spec.index_alone (texts fields.now) }
+{
+    match fields {
+        [j] => index_field(j.text),
+        _ => Err(Fault::BadFieldCount),
+    }
+}
+
+// One address that may have an index part.
+#[tactic(auto, unfolding(crate::specs::Saying::spot_alone))]
+pub(crate) fn spot_alone(fields: &[Field]) -> Result<Spot, Fault>
+    ensures { result ≡ spec.spot_alone (texts fields.now) }
+{
+    match fields {
+        [at] => spot(false, at.text),
+        _ => Err(Fault::BadFieldCount),
+    }
+}
+
+// One address without an index part.
+#[tactic(auto, unfolding(crate::specs::Saying::expression_alone))]
+pub(crate) fn expression_alone(fields: &[Field]) -> Result<Expr, Fault>
+    ensures { result ≡ spec.expression_alone (texts fields.now) }
+{
+    match fields {
+        [at] => expression(at.text),
+        _ => Err(Fault::BadFieldCount),
+    }
+}
+
+// One number with a sign or none.
+#[tactic(auto, unfolding(crate::specs::Saying::number_alone))]
+pub(crate) fn number_alone(fields: &[Field]) -> Result<(bool, u64), Fault>
+    ensures { result ≡ spec.number_alone (texts fields.now) }
+{
+    match fields {
+        [number] => signed_number(number.text),
+        _ => Err(Fault::BadFieldCount),
+    }
+}
+
+// An index word and an address.
+#[tactic(auto, unfolding(crate::specs::Saying::index_and_spot))]
+pub(crate) fn index_and_spot(fields: &[Field]) -> Result<(u8, Spot), Fault>
+    ensures { result ≡ spec.index_and_spot (texts fields.now) }
+{
+    match fields {
+        [j, at] => both(index_field(j.text), spot(false, at.text)),
+        _ => Err(Fault::BadFieldCount),
+    }
+}
+
+// An index word, and 1 to 15 that are listed.
+#[tactic(auto, unfolding(crate::specs::Saying::index_and_list))]
+pub(crate) fn index_and_list(fields: &[Field]) -> Result<(u8, u16), Fault>
+    ensures { result ≡ spec.index_and_list (texts fields.now) }
+{
+    match fields {
+        [j, list @ ..] if !list.is_empty() && list.len() <= 15 => {
+            both(index_field(j.text), selected(list))
+        }
+        _ => Err(Fault::BadFieldCount),
+    }
+}
+
+// The address of a field and an offset or none.
+#[tactic(auto, unfolding(crate::specs::Saying::operand))]
+pub(crate) fn operand(form: Form, fields: &[Field]) -> Result<(Spot, u64), Fault>
+    ensures { result ≡ spec.operand form (texts fields.now) }
+{
+    match fields {
+        [at] => both(spot(form.p >= 2, at.text), Ok(0)),
+        [at, offset] => both(spot(form.p >= 2, at.text), plain_number(offset.text)),
+        _ => Err(Fault::BadFieldCount),
+    }
+}
+
+// An address and a second one.
+#[tactic(auto, unfolding(crate::specs::Saying::two_addresses))]
+pub(crate) fn two_addresses(fields: &[Field]) -> Result<(Spot, Expr), Fault>
+    ensures { result ≡ spec.two_addresses (texts fields.now) }
+{
+    match fields {
+        [at, second] => both(spot(false, at.text), expression(second.text)),
+        _ => Err(Fault::BadFieldCount),
+    }
+}
+
+// An address and a number.
+#[tactic(auto, unfolding(crate::specs::Saying::spot_and_number))]
+pub(crate) fn spot_and_number(fields: &[Field]) -> Result<(Spot, u64), Fault>
+    ensures { result ≡ spec.spot_and_number (texts fields.now) }
+{
+    match fields {
+        [at, number] => both(spot(false, at.text), plain_number(number.text)),
+        _ => Err(Fault::BadFieldCount),
+    }
+}
+
+// An address without an index part and a number.
+#[tactic(auto, unfolding(crate::specs::Saying::address_and_number))]
+fn address_and_number(fields: &[Field]) -> Result<(Expr, u64), Fault>
+    ensures { result ≡ spec.address_and_number (texts fields.now) }
+{
+    match fields {
+        [at, number] => both(expression(at.text), plain_number(number.text)),
+        _ => Err(Fault::BadFieldCount),
+    }
+}
+
+// Two addresses and a number.
+#[tactic(auto, unfolding(crate::specs::Saying::two_addresses_and_number))]
+pub(crate) fn two_addresses_and_number(fields: &[Field]) -> Result<(Spot, (Expr, u64)), Fault>
+    ensures { result ≡ spec.two_addresses_and_number (texts fields.now) }
+{
+    match fields {
+        [] => Err(Fault::BadFieldCount),
+        [at, more @ ..] => both(spot(false, at.text), address_and_number(more)),
+    }
+}
+
+// A refill address, and flags or none.
+#[tactic(auto, unfolding(crate::specs::Saying::refill_and_flags))]
+fn refill_and_flags(fields: &[Field]) -> Result<(Expr, u64), Fault>
+    ensures { result ≡ spec.refill_and_flags (texts fields.now) }
+{
+    match fields {
+        [refill] => both(expression(refill.text), Ok(0)),
+        [refill, flags] => both(expression(refill.text), plain_number(flags.text)),
+        _ => Err(Fault::BadFieldCount),
+    }
+}
+
+// A count, a refill address, and flags or none.
+#[tactic(auto, unfolding(crate::specs::Saying::count_and_refill))]
+fn count_and_refill(fields: &[Field]) -> Result<(u64, (Expr, u64)), Fault>
+    ensures { result ≡ spec.count_and_refill (texts fields.now) }
+{
+    match fields {
+        [] => Err(Fault::BadFieldCount),
+        [count, more @ ..] => both(plain_number(count.text), refill_and_flags(more)),
+    }
+}
+
+// The parts of an index word.
+#[tactic(auto, unfolding(crate::specs::Saying::index_word))]
+pub(crate) fn index_word(fields: &[Field]) -> Result<(Expr, (u64, (Expr, u64))), Fault>
+    ensures { result ≡ spec.index_word (texts fields.now) }
+{
+    match fields {
+        [] => Err(Fault::BadFieldCount),
+        [value, more @ ..] => both(expression(value.text), count_and_refill(more)),
+    }
+}
+
+// A statement without fields.
+#[tactic(auto, unfolding(crate::specs::Saying::without_fields))]
+pub(crate) fn without_fields(statement: Statement, fields: &[Field]) -> Result<Statement, Fault>
+    ensures { result ≡ spec.without_fields statement (texts fields.now) }
+{
+    if fields.is_empty() {
+        Ok(statement)
+    } else {
+        Err(Fault::BadFieldCount)
+    }
+}

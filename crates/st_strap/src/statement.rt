@@ -1,0 +1,134 @@
+//! What a statement says.
+
+use st_bits::{BranchOp, ConnKind, HalfOp, VflOp};
+use st_expr::Expr;
+
+/// An address, and the index word that changes it.
+#[derive(Drop, Debug, PartialEq)]
+pub struct Spot {
+    /// The address, a bit address.
+    pub expr: Expr,
+    /// The number of the index word, 1 to 15, or 0 where there is none.
+    pub index: u8,
+}
+
+/// The form of a field in storage.
+#[derive(Clone, Copy, Debug, PartialEq, Eq)]
+pub struct Form {
+    pub decimal: bool,
+    pub unsigned: bool,
+    /// The number of bits, 1 to 64.
+    pub length: u8,
+    /// The bits of a byte, 1 to 8.
+    pub byte: u8,
+    /// The progressive form, 0 to 7: 0 is none, 1 takes the operand from the address, and the others
+    /// change the index word.
+    pub p: u8,
+}
+
+/// A statement: an instruction, or an order to the assembler.
+#[derive(Drop, Debug, PartialEq)]
+pub enum Statement {
+    /// An operation on the index word `j`, 0 to 15; EX has `j` 0.
+    Half {
+        op: HalfOp,
+        j: u8,
+        at: Spot,
+    },
+    /// LVS: the highest bit of `list` stands for index word 0, the lowest for index word 15.
+    Sum {
+        j: u8,
+        list: u16,
+    },
+    /// R.
+    Refill {
+        j: u8,
+    },
+    /// An operation of the branch group; BEW and NOP have no address.
+    Branch {
+        op: BranchOp,
+        at: Option<Spot>,
+    },
+    /// An operation of the floating group by its number, 1 to 6 or 9 to 14.
+    Floating {
+        number: u8,
+        at: Spot,
+    },
+    /// An operation on a field.
+    Vfl {
+        op: VflOp,
+        negated: bool,
+        form: Form,
+        at: Spot,
+        offset: u64,
+    },
+    /// A connective with its truth table, 0 to 15.
+    Connect {
+        kind: ConnKind,
+        table: u8,
+        form: Form,
+        at: Spot,
+        offset: u64,
+    },
+    /// T, or SWAP where `swap` says so.
+    Move {
+        swap: bool,
+        at: Spot,
+        second: Expr,
+        count: u64,
+    },
+    /// BB: what becomes of the bit is 0 to 3: it is left, zeroed, set to one or inverted.
+    BitBranch {
+        sense: bool,
+        change: u8,
+        at: Spot,
+        second: Expr,
+    },
+    /// BI, which turns the indicator off where `off` says so.
+    IndBranch {
+        sense: bool,
+        off: bool,
+        at: Spot,
+        second: Expr,
+    },
+    /// SIC.
+    StoreCounter {
+        at: Spot,
+        second: Expr,
+    },
+    /// RD, or WR where `write` says so: the order takes effect `count` instructions later.
+    Transfer {
+        write: bool,
+        at: Spot,
+        count: u64,
+    },
+    /// DD: a number that is laid as a field.
+    Data {
+        form: Form,
+        minus: bool,
+        number: u64,
+    },
+    /// XW: an index word.
+    IndexWord {
+        value: Expr,
+        count: u64,
+        refill: Expr,
+        flags: u64,
+    },
+    /// SYN: the card's name gets the value.
+    Synonym {
+        at: Expr,
+    },
+    /// SLC: the location is set.
+    SetLocation {
+        at: Expr,
+    },
+    /// DR: so many bits are passed over.
+    Reserve {
+        at: Expr,
+    },
+    /// END, with the start.
+    End {
+        at: Expr,
+    },
+}
