@@ -5,6 +5,7 @@ mod completing;
 mod deeds;
 mod early;
 mod effects;
+mod execution;
 mod fields;
 mod indicators;
 mod instruction;
@@ -15,6 +16,7 @@ mod step;
 mod transmission;
 
 pub use completing::complete;
+pub use execution::{execute, read_operands};
 pub use instruction::Instruction;
 pub use laws::{
     entries_ahead_leave_the_rest, entries_are_bounded, only_indicator_branches_are_missed,
