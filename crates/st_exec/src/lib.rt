@@ -19,7 +19,8 @@ pub use completing::complete;
 pub use execution::{execute, read_operands};
 pub use instruction::Instruction;
 pub use laws::{
-    entries_ahead_leave_the_rest, entries_are_bounded, only_indicator_branches_are_missed,
+    entries_ahead_leave_the_rest, entries_are_bounded, entries_count_as_one,
+    only_indicator_branches_are_missed,
 };
 pub use step::{Step, interrupt, is_at_rest, one};
 
