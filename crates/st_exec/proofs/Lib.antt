@@ -7,3 +7,4 @@ pub mod Unchanged
 pub mod ApartLemmas
 pub mod SparedLemmas
 pub mod AheadLemmas
+pub mod ReadLemmas

@@ -1,5 +1,5 @@
 -- What the parts of a step leave as it was: the number done, and words that they do not name.
-use Rattle.std.proofs.Common.{◌≡◌, ◌≢◌, ℕ, zero, suc, ◌+◌, ◌<◌, ◌≤◌, Bool, true, false, List, Option, None, Some, refl, sym, ◌∙◌, arith, get_or-set_other}
+use Rattle.std.proofs.Common.{◌≡◌, ◌≢◌, ℕ, zero, suc, ◌+◌, ◌<◌, ◌≤◌, Bool, true, false, if◌then◌else◌, List, Option, None, Some, refl, sym, ◌∙◌, ap, arith, get_or-set_other}
 use Rattle.std.specs.Prelude.{IfSome}
 use Rattle.st_bits.specs.Registers.{fixed}
 use Rattle.st_state.specs.Machine.{Machine, word, stored}
@@ -12,8 +12,8 @@ use Rattle.st_prep.proofs.Choices.{of_choice}
 use Rattle.st_exec.specs.Operand.{AreOperands, AreRead}
 use Rattle.st_exec.specs.Outcome.{with_register, with_registers, with_field, settled}
 use Rattle.st_exec.specs.declared.outcomes.Outcome.{Outcome}
-use Rattle.st_exec.specs.Deed.{copied, exchanged, with_order, given, done}
-use Rattle.st_exec.specs.Completion.{with_change, early}
+use Rattle.st_exec.specs.Deed.{copied, exchanged, with_order, given, deed, done}
+use Rattle.st_exec.specs.Completion.{with_change, early, counter, counted, finished, completed}
 use Rattle.st_exec.specs.declared.deeds.Deed.{Deed}
 use Rattle.st_exec.specs.declared.deeds.Deed.TheVariants.{Rest, Put, Copy, Exchange, TurnOff, Enable, Wait, Give, Settle}
 
@@ -80,6 +80,18 @@ done-done (Enable enabled) t = refl
 done-done Wait t = refl
 done-done (Give write order) t = given-done write order t
 done-done (Settle outcome a n) t = settled-done outcome a n t
+
+finished-done : (b : Bool) (p : Prepared) (t : Machine)
+    → (if b then counted t p.following else counted (done (deed p t) t) (counter p t)).done ≡ t.done + 1
+finished-done true p t = refl
+finished-done false p t = ap (λ n. n + 1) (done-done (deed p t) t)
+
+-- each entry is one instruction
+pub completed-done : (p : Prepared) (s : Machine) → (completed p s).done ≡ s.done + 1
+unfolding completed finished
+completed-done p s =
+    finished-done p.suppressed p (early p (opened p.place.table s))
+    ∙ ap (λ n. n + 1) (early-done p (opened p.place.table s) ∙ opened-done p.place.table s)
 
 -- ---- words above the registers, before the operands are read
 

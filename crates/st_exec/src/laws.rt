@@ -13,6 +13,11 @@ pub fn entries_are_bounded()
     ensures reads { (p : Prepared) → IsPrepared p → p.reads.len + p.reads.len2 ≤ 32 }
 {}
 
+/// Each entry counts as one instruction.
+pub fn entries_count_as_one()
+    ensures { (p : Prepared) (s : Machine) → (completed p s).done ≡ s.done + 1 }
+{}
+
 /// An entry that is not done alone leaves of a state what the entries behind it were prepared by: the index words of its
 /// early change, each word above the registers that it does not name, and the rest of `IsPast`.
 pub fn entries_ahead_leave_the_rest()

@@ -5,6 +5,7 @@ mod completing;
 mod deeds;
 mod early;
 mod effects;
+mod execution;
 mod fields;
 mod indicators;
 mod instruction;
@@ -15,9 +16,11 @@ mod step;
 mod transmission;
 
 pub use completing::complete;
+pub use execution::{execute, read_operands};
 pub use instruction::Instruction;
 pub use laws::{
-    entries_ahead_leave_the_rest, entries_are_bounded, only_indicator_branches_are_missed,
+    entries_ahead_leave_the_rest, entries_are_bounded, entries_count_as_one,
+    only_indicator_branches_are_missed,
 };
 pub use step::{Step, interrupt, is_at_rest, one};
 

@@ -1,0 +1,14 @@
+-- Operand words that are read one after the other.
+use Rattle.std.proofs.Common.{◌≡◌, ℕ, ◌+◌, ◌-◌, ◌<◌, ◌≤◌, List, length, get_or}
+use Rattle.st_state.specs.Machine.{Machine, word}
+use Rattle.st_prep.specs.declared.entries.Words.{Words}
+
+-- what stands in place k, where it is an operand
+pub record IsOperand (w : Words) (s : Machine) (k x : ℕ) : Type 0 where
+  pub first : k < w.len → x ≡ word s (w.first + k)
+  pub second : w.len ≤ k → k < w.len + w.len2 → x ≡ word s (w.first2 + (k - w.len))
+
+-- the first j places hold their operands
+pub record FilledTo (j : ℕ) (w : Words) (operands : List ℕ) (s : Machine) : Type 0 where
+  pub size : length operands ≡ 32
+  pub each : (k : ℕ) → k < j → IsOperand w s k (get_or operands k 0)

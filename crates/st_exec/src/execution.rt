@@ -1,0 +1,56 @@
+//! One entry from its preparation to its completion.
+ghost use Rattle.std.specs.Prelude.{◌≡◌, ℕ, ◌+◌, ◌-◌, ◌<◌, ◌≤◌, ◌^◌, IfSome, slice_index};
+ghost use Rattle.st_state.specs.Machine.{word as word_of};
+ghost use Rattle.st_prep.specs.Ranges.{IsRuns, AreInside};
+ghost use Rattle.st_exec.specs.Operand.{AreOperands};
+ghost use Rattle.st_exec.specs.Completion.{executed};
+
+use crate::completing::complete;
+use st_prep::{Words, plan};
+use st_state::State;
+
+/// The operand in place `k`, which is 0 where there is none.
+fn operand_at(words: Words, k: u8, state: &State) -> u64
+    requires runs { IsRuns words }
+    requires inside { AreInside words }
+    ensures first { k < words.len → result ≡ word_of state.now (words.first + k) }
+    ensures second { words.len ≤ k → k < words.len + words.len2
+        → result ≡ word_of state.now (words.first2 + (k - words.len)) }
+{
+    if k < words.len {
+        return state.word(words.first + u32::from(k));
+    }
+    let rest = k - words.len;
+    if rest < words.len2 {
+        state.word(words.first2 + u32::from(rest))
+    } else {
+        0
+    }
+}
+
+/// The operand words that are named, in order, as they stand in the state.
+pub fn read_operands(words: Words, state: &State) -> [u64; 32]
+    requires runs { IsRuns words }
+    requires inside { AreInside words }
+    ensures { AreOperands words result state.now }
+{
+    let mut operands = [0; 32];
+    for k in 0..32 {
+        operands[k as usize] = operand_at(words, k, state);
+    }
+    operands
+}
+
+/// Executes the next entry of a state, or the table instruction of an interrupt by the indicator in `table`.
+pub fn execute(table: Option<u8>, state: &mut State)
+    requires indicator { IfSome table (λ i. i < 64) }
+    requires few { state.old.done < 2 ^ 63 }
+    ensures { state.new ≡ executed table state.old }
+{
+    let p = plan(state, table);
+    let operands = read_operands(p.reads, state);
+    complete(&p, &operands, state);
+}
+
+#[cfg(test)]
+mod tests;
