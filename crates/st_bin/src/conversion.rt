@@ -12,7 +12,7 @@ use crate::signed::Signed;
 
 /// Ten to the power of `n`, at most 32.
 #[tactic(auto, using(crate::proofs::DigitLemmas::power_rules))]
-fn power_of_ten(n: u8) -> u128
+pub fn power_of_ten(n: u8) -> u128
     requires { n ≤ 32 }
     ensures value { result ≡ 10 ^ n }
     ensures some { 0 < result }

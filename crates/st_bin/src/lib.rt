@@ -2,18 +2,18 @@
 //! `docs/variable-fields.md` has the rules.
 #![tactic(auto)]
 
-mod accumulator;
+pub mod accumulator;
 mod compares;
-mod conversion;
+pub mod conversion;
 mod digits;
-mod fields;
-mod indicators;
-mod loads;
-mod operand;
+pub mod fields;
+pub mod indicators;
+pub mod loads;
+pub mod operand;
 mod operations;
-mod outcome;
+pub mod outcome;
 mod products;
-mod signed;
+pub mod signed;
 mod stores;
 mod sums;
 

@@ -1,11 +1,13 @@
 -- Cards, line by line.
-use Rattle.std.proofs.Common.{◌≡◌, ◌≤◌, ◌<◌, ◌+◌, ◌-◌, ◌==◌, ℕ, List, [], ◌∷◌, ◌++◌, true, false, if◌then◌else◌, length, take, refl, ap, sym, subst, ◌∙◌, arith, append_assoc, append-nil}
+use Rattle.std.proofs.Common.{◌≡◌, ◌≤◌, ◌<◌, ◌+◌, ◌-◌, ℕ, List, [], ◌∷◌, ◌++◌, length, take, All, refl, ap, sym, subst, ◌∙◌, arith, append_assoc, append-nil}
 use Rattle.std.proofs.lemmas.List.{take_all}
 use Rattle.std.proofs.Math.Seq.{take-append_seam}
 use Rattle.std.specs.Str.Lines.{strip_carriage_return}
-use Rattle.st_card.specs.Pieces.{parted}
+use Rattle.std.proofs.lemmas.List.Elements.{All-push}
+use Rattle.st_card.specs.Pieces.{parted, IsFront, IsBehind}
 use Rattle.st_card.proofs.PieceLemmas.{first_piece}
-use Rattle.st_card.specs.Cards.{card_at, cards_from}
+use Rattle.st_card.proofs.TextLemmas.{card_described}
+use Rattle.st_card.specs.Cards.{card_at, cards_from, IsCardOf}
 use Rattle.st_card.specs.declared.cards.Card.{Card}
 
 -- a line that ends is a card
@@ -53,3 +55,12 @@ cards_done n cards rest all so_far none few =
 pub cards_full : (n : ℕ) (cards rest all : List Card) → cards ++ rest ≡ all → length cards ≡ n → cards ≡ take n all
 cards_full n cards rest all so_far full =
     sym (take-append_seam cards rest) ∙ (ap (λ k. take k (cards ++ rest)) full ∙ ap (λ (x : List Card). take n x) so_far)
+
+-- a card further on, and what each says of its text
+pub texts_further : (n : ℕ) (job rest shown : List ℕ) (cards longer : List Card) (card : Card) →
+    All (IsCardOf job) cards → IsBehind rest job → IsFront shown rest →
+    card ≡ card_at n (length job - length rest) shown → longer ≡ cards ++ card ∷ [] → All (IsCardOf job) longer
+texts_further n job rest shown cards longer card texts behind front is_card more =
+    subst (λ (x : List Card). All (IsCardOf job) x) (sym more)
+    (All-push (IsCardOf job) cards card texts
+    (subst (λ (x : Card). IsCardOf job x) (sym is_card) (card_described n job rest shown behind front)))

@@ -3,3 +3,5 @@ pub mod NumberLemmas
 pub mod PieceLemmas
 pub mod CardLemmas
 pub mod TableLemmas
+pub mod TextLemmas
+pub mod LimitLemmas

@@ -1,6 +1,9 @@
 -- Cutting a text at a byte.
-use Rattle.std.proofs.Common.{◌≡◌, ℕ, List, [], ◌∷◌, ◌++◌, Bool, true, false, refl, ap, sym, ◌∙◌, append_assoc, append-nil, if◌then◌else◌, ◌==◌, arith}
-use Rattle.st_card.specs.Pieces.{onto_first, parted}
+use Rattle.std.proofs.Common.{◌≡◌, ◌&&◌, ℕ, List, [], ◌∷◌, ◌++◌, Bool, true, false, not, IsTrue, length, take, drop, refl, ap, sym, subst, ◌∙◌, append_assoc, append-nil, if◌then◌else◌, ◌==◌, arith}
+use Rattle.std.proofs.Math.Seq.{take-length}
+use Rattle.std.proofs.lemmas.List.{take-append-drop}
+use Rattle.std.proofs.lemmas.List.Folds.{list_all-append}
+use Rattle.st_card.specs.Pieces.{onto_first, parted, lacks}
 
 -- a text put in front of the first piece
 abbrev pub onto_front : List ℕ → List (List ℕ) → List (List ℕ)
@@ -52,3 +55,30 @@ first_piece at (c ∷ cs) =
       | true ↦ ([], (parted at cs, refl))
       | false ↦ elim (parted at cs) as (λ p. F (onto_first c p)) [ [] ↦ (c ∷ [], ([], refl)) | q ∷ qs ↦ (c ∷ q, (qs, refl)) ]
     ]
+
+both_hold : (a b : Bool) → IsTrue a → b ≡ true → IsTrue (a && b)
+both_hold true b first second = second
+both_hold false b first second = cc
+
+-- a byte further on that is not the one at which a text is cut
+pub lacks_on : (at c : ℕ) (front longer : List ℕ) → longer ≡ front ++ c ∷ [] → (c ≡ at → ⊥) → IsTrue (lacks at front) →
+    IsTrue (lacks at longer)
+lacks_on at c front longer more differs lacking =
+    let other : (not (c == at) && true) ≡ true = grind arith in
+    let P : List ℕ → Type 0 = λ s. IsTrue (lacks at s) in
+    subst P (sym more)
+    (subst (λ v. IsTrue v) (sym (list_all-append (λ x. not (x == at)) front (c ∷ [])))
+    (both_hold (lacks at front) (not (c == at) && true) lacking other))
+
+-- the whole text was gone over
+pub lacks_all : (at n : ℕ) (text : List ℕ) → n ≡ length text → IsTrue (lacks at (take n text)) → IsTrue (lacks at text)
+lacks_all at n text full lacking =
+    let P : List ℕ → Type 0 = λ s. IsTrue (lacks at s) in
+    subst P (ap (λ k. take k text) full ∙ take-length text) lacking
+
+-- a text around a byte
+pub around : (text front rest tail : List ℕ) (n c : ℕ) → front ≡ take n text → rest ≡ drop n text → rest ≡ c ∷ tail →
+    text ≡ front ++ c ∷ tail
+around text front rest tail n c before behind parts =
+    sym (take-append-drop n text)
+    ∙ (ap (λ (s : List ℕ). s ++ drop n text) (sym before) ∙ ap (λ (s : List ℕ). front ++ s) (sym behind ∙ parts))

@@ -1,5 +1,5 @@
 -- The cards of a job: its lines, with their kinds and the faults that a line has by itself.
-use Rattle.std.specs.Prelude.{ℕ, ◌+◌, ◌==◌, ◌&&◌, ◌||◌, Bool, not, nat_le, nat_lt, min, List, [], ◌∷◌, length, take, Option, Some, None, if◌then◌else◌}
+use Rattle.std.specs.Prelude.{◌≡◌, ◌≤◌, ℕ, ◌+◌, ◌==◌, ◌&&◌, ◌||◌, Bool, true, not, nat_le, nat_lt, min, List, [], ◌∷◌, length, take, drop, Option, Some, None, if◌then◌else◌}
 use Rattle.std.specs.List.{list_all}
 use Rattle.std.specs.Str.Lines.{strip_carriage_return}
 use Rattle.st_card.specs.Pieces.{parted}
@@ -71,3 +71,15 @@ cards_from n place (line ∷ next ∷ more) =
 -- the cards of a job, up to the 20,001st
 abbrev pub cards_of : List ℕ → List Card
 cards_of job = take 20001 (cards_from 1 0 (parted 10 job))
+
+-- the text of a card
+abbrev pub text_in : List ℕ → Card → List ℕ
+text_in job card = take card.len (drop card.start job)
+
+-- what a card says of its text: it stands in the job, its kind is the text's, and without a fault each
+-- of its bytes is printable
+pub record IsCardOf (job : List ℕ) (card : Card) : Type 0 where
+  pub within : card.start + card.len ≤ length job
+  pub short : card.len ≤ 80
+  pub kind : card.kind ≡ kind_of (text_in job card)
+  pub printable : card.fault ≡ None → is_printable (text_in job card) ≡ true

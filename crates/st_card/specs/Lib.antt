@@ -4,4 +4,5 @@ pub mod Faults
 pub mod Cards
 pub mod Tables
 pub mod Controls
+pub mod Limits
 pub mod Answers

@@ -1,9 +1,9 @@
 //! A job cut into cards.
 
-ghost use Rattle.std.specs.Prelude.{◌≡◌, ◌+◌, ◌-◌, ◌^◌, ◌<◌, ℕ, length, [], ◌∷◌, ◌++◌, OnOk, MatchOption, IfSome, IfOk};
+ghost use Rattle.std.specs.Prelude.{◌≡◌, ◌+◌, ◌-◌, ◌^◌, ◌<◌, ◌≤◌, ℕ, length, [], ◌∷◌, ◌++◌, OnOk, All, MatchOption, IfSome, IfOk};
 ghost use Rattle.std.specs.Str.Lines.{strip_carriage_return};
 ghost use Rattle.st_card.specs.Cards as spec;
-ghost use Rattle.st_card.specs.Pieces.{parted};
+ghost use Rattle.st_card.specs.Pieces.{parted, IsFront, IsBehind};
 
 use crate::faults::Fault;
 use crate::pieces::cut;
@@ -46,6 +46,17 @@ pub struct Card {
     pub fault: Option<Fault>,
 }
 
+impl Card {
+    /// The card's text in its job: all but its line's end, and at most 80 bytes.
+    pub fn text<'a>(&self, job: &'a [u8]) -> &'a [u8]
+        requires { self.now.start + self.now.len ≤ length job.now }
+        ensures { result.now ≡ spec.text_in job.now self.now }
+    {
+        let behind = job.split_at(self.start as usize).1;
+        behind.split_at(usize::from(self.len)).0
+    }
+}
+
 /// The cards of a job.
 ///
 /// A line ends at a line feed, with a carriage return before it or none. The last line may lack its
@@ -53,7 +64,8 @@ pub struct Card {
 /// and none follows it. The one error is that memory ran out.
 pub fn split(alloc: Global, job: &[u8]) -> Result<Vec<Card>, NoMemory>
     requires { length job.now < 2 ^ 32 }
-    ensures { IfOk result (λ cards. cards.items ≡ spec.cards_of job.now) }
+    ensures cards { IfOk result (λ cards. cards.items ≡ spec.cards_of job.now) }
+    ensures texts { IfOk result (λ cards. All (spec.IsCardOf job.now) cards.items) }
 {
     let mut cards = Vec::new(alloc);
     let mut number = 1;
@@ -88,9 +100,12 @@ pub fn columns(text: &[u8]) -> &[u8]
 fn first_line(text: &[u8]) -> Option<(&[u8], &[u8])>
     ensures cards { MatchOption result
         ((n place : ℕ) → spec.cards_from n place (parted 10 text.now) ≡ [])
-        (λ p. (n place : ℕ) → spec.cards_from n place (parted 10 text.now) ≡ spec.card_at n place p.0.now
-        ∷ spec.cards_from (n + 1) (place + (length text.now - length p.1.now)) (parted 10 p.1.now)) }
+        (λ p. (n place : ℕ) → spec.cards_from n place (parted 10 text.now)
+        ≡ spec.card_at n place p.0.now ∷ spec.cards_from (n + 1)
+        (place + (length text.now - length p.1.now)) (parted 10 p.1.now)) }
     ensures shorter { IfSome result (λ p. length p.1.now < length text.now) }
+    ensures front { IfSome result (λ p. IsFront p.0.now text.now) }
+    ensures behind { IfSome result (λ p. IsBehind p.1.now text.now) }
 {
     match cut(text, b'\n') {
         Some((line, after)) => Some((without_return(line), after)),
@@ -101,7 +116,8 @@ fn first_line(text: &[u8]) -> Option<(&[u8], &[u8])>
 
 // A line without the carriage return at its end, if it has one.
 fn without_return(line: &[u8]) -> &[u8]
-    ensures { result.now ≡ strip_carriage_return line.now }
+    ensures text { result.now ≡ strip_carriage_return line.now }
+    ensures front { IsFront result.now line.now }
 {
     match line {
         [front @ .., b'\r'] => front,

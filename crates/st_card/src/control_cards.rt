@@ -5,6 +5,7 @@ ghost use Rattle.std.specs.List.{list_all};
 ghost use Rattle.std.specs.Option.{option_map};
 ghost use Rattle.st_card.specs.Controls as spec;
 ghost use Rattle.st_card.specs.Pieces.{words};
+ghost use Rattle.st_card.specs.Limits.{IsWithinLimits};
 ghost use Rattle.st_card.specs.Answers.{Settles, Appends, Marks, Explains};
 
 use crate::cards::columns;
@@ -15,21 +16,25 @@ use arrayvec::ArrayVec;
 use std::alloc::Global;
 use std::marker::Model;
 
-// The most of each number that a control card gives, and how many there may be.
+// The most instructions that `/BUDGET` gives.
 const MOST_BUDGET: u64 = 10_000_000;
 
+// The longest delay, in ticks, and how many delays there may be.
 const MOST_DELAY: u64 = 255;
 
 const MOST_DELAYS: usize = 4_096;
 
+// The latest count of a signal and its last indicator, and how many signals there may be.
 const MOST_COUNT: u64 = 10_000_000;
 
 const MOST_INDICATOR: u64 = 13;
 
 const MOST_SIGNALS: usize = 4_096;
 
+// The address of the last word of storage.
 const LAST_WORD: u64 = 98_303;
 
+// The most instructions that `/BACK` steps back.
 const MOST_BACK: u64 = 64;
 
 /// A signal from outside: after so many instructions an indicator is turned on.
@@ -97,7 +102,8 @@ impl Model for Controls {
 impl Controls {
     /// Controls that ask for nothing.
     pub fn new(alloc: Global) -> Controls
-        ensures { result ≡ spec.nothing }
+        ensures nothing { result ≡ spec.nothing }
+        ensures limits { IsWithinLimits result }
     {
         Controls {
             budget: 0,
@@ -122,6 +128,9 @@ impl Controls {
         ensures ok { OnOk result (spec.added self.old text.now ≡ Some self.new) }
         ensures err { IfErr result (Explains (spec.added self.old text.now) card) }
         ensures unchanged { OnErr result (self.new ≡ self.old) }
+
+        // Controls that are made by control cards alone keep the limits of control cards.
+        ensures limits { IsWithinLimits self.old → IsWithinLimits self.new }
     {
         match self.add_text(columns(text)) {
             Outcome::Added => Ok(()),
@@ -153,7 +162,8 @@ impl Controls {
     // Adds what a keyword and its numbers ask for.
     fn add_numbers(&mut self, keyword: Keyword, numbers: &[u64]) -> Outcome
         requires { length numbers.now ≤ 36 }
-        ensures { Settles self.old self.new (spec.with_keyword keyword self.old numbers.now) result }
+        ensures { Settles self.old self.new
+            (spec.with_keyword keyword self.old numbers.now) result }
     {
         match keyword {
             Keyword::Budget => self.add_budget(numbers),

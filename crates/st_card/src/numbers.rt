@@ -34,7 +34,8 @@ pub fn read_number(text: &[u8], most: u64) -> Reading
 // The value of a text of digits alone, or `cap` where it is above that.
 fn read_digits(text: &[u8], cap: u128) -> Option<u128>
     requires { cap ≤ 2 ^ 64 }
-    ensures { result ≡ (if list_all is_ascii_digit text.now then Some (min (value text.now) cap) else None) }
+    ensures { result
+        ≡ (if list_all is_ascii_digit text.now then Some (min (value text.now) cap) else None) }
 {
     let mut number = 0;
     let mut rest = text;

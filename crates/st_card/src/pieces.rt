@@ -1,7 +1,7 @@
 //! Cutting a text at a byte.
 
-ghost use Rattle.std.specs.Prelude.{◌≡◌, ◌+◌, length, [], ◌∷◌, MatchOption, IfSome};
-ghost use Rattle.st_card.specs.Pieces.{parted};
+ghost use Rattle.std.specs.Prelude.{◌≡◌, ◌+◌, length, [], ◌∷◌, ◌++◌, IsTrue, MatchOption, IfSome};
+ghost use Rattle.st_card.specs.Pieces.{parted, lacks};
 
 /// What stands before the first byte `at` of `text`, and what stands behind it.
 ///
@@ -9,6 +9,9 @@ ghost use Rattle.st_card.specs.Pieces.{parted};
 pub fn cut(text: &[u8], at: u8) -> Option<(&[u8], &[u8])>
     ensures pieces { MatchOption result (parted at text.now ≡ text.now ∷ [])
         (λ p. parted at text.now ≡ p.0.now ∷ parted at p.1.now) }
+    ensures whole { IfSome result (λ p. text.now ≡ p.0.now ++ at ∷ p.1.now) }
+    ensures first { MatchOption result (IsTrue (lacks at text.now))
+        (λ p. IsTrue (lacks at p.0.now)) }
     ensures lengths { IfSome result (λ p. length p.0.now + 1 + length p.1.now ≡ length text.now) }
 {
     let mut front = 0;

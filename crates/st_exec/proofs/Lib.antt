@@ -1,1 +1,9 @@
 pub mod Quiet
+pub mod OperandLemmas
+pub mod MoveLemmas
+pub mod InsideLemmas
+pub mod FieldLemmas
+pub mod Unchanged
+pub mod ApartLemmas
+pub mod SparedLemmas
+pub mod AheadLemmas

@@ -1,12 +1,12 @@
 -- Runs to which nothing comes from outside: no signals, no orders, no cards.
-use Rattle.std.proofs.Common.{◌≡◌, ◌≢◌, ℕ, zero, suc, ◌+◌, ◌-◌, arith, ◌/◌, ◌%◌, ◌^◌, List, [], ◌∷◌, ◌++◌, Bool, true, false, refl, sym, ◌∙◌, ap, subst}
+use Rattle.std.proofs.Common.{◌≡◌, ◌≢◌, ℕ, zero, suc, ◌+◌, ◌-◌, arith, ◌/◌, ◌%◌, ◌^◌, [], ◌∷◌, Bool, true, false, refl, ◌∙◌, ap}
 use Rattle.std.specs.Prelude.{Option, None, Some, if◌then◌else◌}
 use Rattle.st_state.specs.Machine.{Machine}
 use Rattle.st_state.specs.Boundary.{forbidden}
 use Rattle.st_state.specs.declared.protection.Access.TheVariants.{Fetch}
 use Rattle.st_exec.specs.Instructions.{instruction_of, half_at}
 use Rattle.st_exec.specs.Step.{performed, unless, executed, taken_off, table_address, interrupt, step_by, step, rests, IsStep}
-use Rattle.st_exec.specs.Run.{Scene, Reached, Ran, Happening, Ends, nothing, with_due_orders, with_order_at_rest, with_wait, settled, ended, interrupts_by, goes_on, run}
+use Rattle.st_exec.specs.Run.{Scene, Ends, nothing, with_due_orders, with_order_at_rest, with_wait, settled, goes_on, run}
 use Rattle.st_exec.specs.declared.step.Step.{Step}
 use Rattle.st_exec.specs.declared.step.Step.TheVariants.{Plain, Interrupt, Waits}
 use Rattle.st_exec.specs.declared.instruction.Instruction.{Instruction}

@@ -1,5 +1,5 @@
 -- The half-word instructions that are built: address in bits 0-18, J in 19-22, operation in 23-27, I in 28-31.
-use Rattle.std.specs.Prelude.{ℕ, ◌+◌, ◌*◌, ◌/◌, ◌%◌, ◌^◌, ◌<◌, ◌==◌, ◌&&◌, if◌then◌else◌}
+use Rattle.std.specs.Prelude.{ℕ, ◌*◌, ◌/◌, ◌%◌, ◌^◌, ◌<◌, ◌==◌, ◌&&◌, if◌then◌else◌}
 use Rattle.st_bits.specs.Bits.{part}
 use Rattle.st_state.specs.Machine.{Machine, word}
 use Rattle.st_exec.specs.declared.instruction.Instruction.{Instruction}

@@ -1,3 +1,8 @@
 pub mod Instructions
 pub mod Step
 pub mod Run
+pub mod Operand
+pub mod Outcome
+pub mod Deed
+pub mod Completion
+pub mod Ahead

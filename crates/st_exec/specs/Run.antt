@@ -1,5 +1,5 @@
 -- A whole run, one instruction after the other: signals and orders take effect between two of them.
-use Rattle.std.specs.Prelude.{ℕ, zero, suc, ◌+◌, Bool, true, false, nat_le, if◌then◌else◌, List, [], ◌∷◌, ◌++◌, Option, None, Some}
+use Rattle.std.specs.Prelude.{ℕ, zero, suc, ◌+◌, Bool, nat_le, if◌then◌else◌, List, [], ◌∷◌, ◌++◌, Option, None, Some}
 use Rattle.st_state.specs.Machine.{Machine, word, stored}
 use Rattle.st_state.specs.Interrupts.{signalled}
 use Rattle.st_state.specs.Orders.{is_due, next_device}

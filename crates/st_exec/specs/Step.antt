@@ -1,5 +1,5 @@
 -- One step of the machine: the instruction at the counter, or the interrupt that comes before it.
-use Rattle.std.specs.Prelude.{ℕ, ◌≡◌, ◌&&◌, is_none, zero, suc, ◌+◌, ◌*◌, ◌/◌, ◌%◌, ◌^◌, ℤ, pos, negsuc, Bool, true, false, ◌==◌, if◌then◌else◌, Option, None, Some}
+use Rattle.std.specs.Prelude.{ℕ, ◌≡◌, ◌&&◌, is_none, zero, suc, ◌+◌, ◌*◌, ◌/◌, ◌%◌, ◌^◌, ℤ, pos, negsuc, Bool, true, false, if◌then◌else◌, Option, None, Some}
 use Rattle.st_bits.specs.Bits.{part}
 use Rattle.st_bits.specs.IndexWord.{value_of, count_of, with_value}
 use Rattle.st_bits.specs.declared.storage.Ind.{Ind}

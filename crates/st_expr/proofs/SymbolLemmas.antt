@@ -1,5 +1,5 @@
 -- Names that a table lacks.
-use Rattle.std.proofs.Common.{◌≡◌, Bool, true, false, Option, Some, None, is_some, refl}
+use Rattle.std.proofs.Common.{◌≡◌, false, Option, Some, None, is_some, refl}
 
 -- what is not there is nothing
 pub nothing_there : {X : Type 0} (o : Option X) → is_some o ≡ false → o ≡ None

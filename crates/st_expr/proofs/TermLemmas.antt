@@ -1,9 +1,8 @@
 -- Places with more than two parts.
-use Rattle.std.proofs.Common.{◌≡◌, ℕ, List, [], ◌∷◌, refl, ap, sym, ◌∙◌}
+use Rattle.std.proofs.Common.{◌≡◌, ℕ, List, ◌∷◌, ap, sym, ◌∙◌}
 use Rattle.st_card.specs.Pieces.{parted}
 use Rattle.st_card.proofs.PieceLemmas.{first_piece}
 use Rattle.st_expr.specs.Term.{place_of}
-use Rattle.st_expr.specs.declared.terms.AtomReading.{AtomReading}
 use Rattle.st_expr.specs.declared.terms.AtomReading.TheVariants.{Bad}
 
 -- a text with two points is no place

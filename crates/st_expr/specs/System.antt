@@ -2,7 +2,7 @@
 use Rattle.std.specs.Prelude.{ℕ, List, [], ◌∷◌, ◌++◌, codes}
 
 -- parts of register words, as bit addresses: 64 times the word and the bit
-unfoldable pub registers : List (List ℕ × ℕ)
+abbrev pub registers : List (List ℕ × ℕ)
 registers =
     (codes "$Z", 0) ∷ (codes "$IA", 128) ∷ (codes "$UB", 192) ∷ (codes "$LB", 224)
     ∷ (codes "$BC", 249) ∷ (codes "$LZC", 465) ∷ (codes "$AOC", 492) ∷ (codes "$L", 512)
@@ -10,7 +10,7 @@ registers =
     ∷ (codes "$RM", 832) ∷ (codes "$FT", 896) ∷ (codes "$TR", 960) ∷ []
 
 -- the index words 16 to 31
-unfoldable pub index_words : List (List ℕ × ℕ)
+abbrev pub index_words : List (List ℕ × ℕ)
 index_words =
     (codes "$X0", 1024) ∷ (codes "$X1", 1088) ∷ (codes "$X2", 1152) ∷ (codes "$X3", 1216)
     ∷ (codes "$X4", 1280) ∷ (codes "$X5", 1344) ∷ (codes "$X6", 1408) ∷ (codes "$X7", 1472)
@@ -18,7 +18,7 @@ index_words =
     ∷ (codes "$X12", 1792) ∷ (codes "$X13", 1856) ∷ (codes "$X14", 1920) ∷ (codes "$X15", 1984) ∷ []
 
 -- the indicators: indicator n is bit n of word 11
-unfoldable pub indicators : List (List ℕ × ℕ)
+abbrev pub indicators : List (List ℕ × ℕ)
 indicators =
     (codes "$MK", 704) ∷ (codes "$IK", 705) ∷ (codes "$IJ", 706) ∷ (codes "$EK", 707)
     ∷ (codes "$TS", 708) ∷ (codes "$CPUS", 709) ∷ (codes "$EKJ", 710) ∷ (codes "$UNRJ", 711)

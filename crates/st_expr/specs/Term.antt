@@ -1,5 +1,5 @@
 -- The terms of an expression.
-use Rattle.std.specs.Prelude.{ℕ, ◌+◌, ◌*◌, Bool, List, [], ◌∷◌, if◌then◌else◌}
+use Rattle.std.specs.Prelude.{◌≡◌, ℕ, ◌+◌, ◌*◌, false, List, [], ◌∷◌, if◌then◌else◌}
 use Rattle.std.specs.Option.{option_map_or}
 use Rattle.st_card.specs.Number.{reading}
 use Rattle.st_card.specs.Pieces.{parted}
@@ -8,6 +8,7 @@ use Rattle.st_card.specs.declared.numbers.Reading.{Reading}
 use Rattle.st_card.specs.declared.numbers.Reading.TheVariants.{Bad, Large, Good}
 use Rattle.st_expr.specs.Name.{is_name, is_system_word, padded}
 use Rattle.st_expr.specs.System.{system_symbols}
+use Rattle.st_expr.specs.declared.terms.Term.{Term}
 use Rattle.st_expr.specs.declared.terms.Atom.{Atom}
 use Rattle.st_expr.specs.declared.terms.Atom.TheVariants.{Number, Name}
 use Rattle.st_expr.specs.declared.terms.AtomReading.{AtomReading}
@@ -38,3 +39,7 @@ abbrev pub atom_of : List ℕ → AtomReading
 atom_of word =
     if is_name word then GoodAtom (Name (padded word))
     else (if is_system_word word then GoodAtom (system_atom word) else place_of (parted 46 word))
+
+-- a term that adds nothing
+abbrev pub IsZero : Term → Type 0
+IsZero term = (term.minus ≡ false) × (term.atom ≡ Number 0)

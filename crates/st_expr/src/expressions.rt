@@ -13,8 +13,8 @@ pub type Expr = ArrayVec<Term, 32>;
 /// The expression that a text of at most 63 bytes says.
 ///
 /// It is terms joined by `+` and `-`, with a sign before the first or none. A term is a name, a
-/// system symbol, or a number `w` or `w.b`, which is the bit address 64w + b. A text that is none is
-/// a bad expression; in one that is, w above 262,143 or b above 63 is a number too large.
+/// system symbol, or a number `w` or `w.b`, which is the bit address 64w + b. A text that is no
+/// expression is a bad one; in one that is, w above 262,143 or b above 63 is a number too large.
 pub fn read_expr(text: &[u8]) -> Result<Expr, Fault>
     requires { length text.now ≤ 63 }
     ensures { result ≡ spec.expr_of text.now }
@@ -50,8 +50,8 @@ fn read_parts(minus: bool, text: &[u8]) -> Result<Expr, Fault>
     }
 }
 
-// The first part of a text that is cut at its signs; and where a sign stands behind it, whether it is
-// a minus and what stands behind that.
+// The first part of a text that is cut at its signs; and where a sign stands behind it, whether it
+// is a minus and what stands behind that.
 fn first_part(text: &[u8]) -> (&[u8], Option<(bool, &[u8])>)
     ensures parts { MatchOption result.1
         ((m : Bool) → spec.parts_after m text.now ≡ (m, result.0.now) ∷ [])

@@ -2,7 +2,7 @@
 
 ghost use Rattle.std.specs.Prelude.{◌≡◌};
 ghost use Rattle.st_card.specs.Tables.{row_of as row_in};
-ghost use Rattle.st_expr.specs.System.{registers, index_words, indicators, system_symbols};
+ghost use Rattle.st_expr.specs.System.{system_symbols};
 
 use st_card::row_of;
 
@@ -95,7 +95,7 @@ const SYSTEM: [(&[u8], u32); 83] = [
 ];
 
 // The value of a system symbol, a bit address; nothing where the word is none.
-#[tactic(auto, unfolding(crate::specs::System::system_symbols, crate::specs::System::registers, crate::specs::System::index_words, crate::specs::System::indicators))]
+#[tactic(auto, unfolding(crate::specs::System::system_symbols))]
 pub(crate) fn system_value(word: &[u8]) -> Option<u32>
     ensures { result ≡ row_in word.now system_symbols }
 {

@@ -33,6 +33,8 @@ pub struct Term {
 }
 
 impl Default for Term {
+    ghost is_default = { spec.IsZero };
+
     fn default() -> Term {
         Term {
             minus: false,

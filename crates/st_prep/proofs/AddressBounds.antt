@@ -1,5 +1,5 @@
 -- Effective addresses are bit addresses.
-use Rattle.std.proofs.Common.{◌≡◌, ℕ, ◌+◌, ◌-◌, ◌*◌, ◌/◌, ◌%◌, ◌^◌, ◌<◌, ℤ, pos, negsuc, ◌+ℤ◌, ◌==◌, List, arith, if◌then◌else◌}
+use Rattle.std.proofs.Common.{ℕ, ◌*◌, ◌^◌, ◌<◌, ℤ, pos, negsuc, ◌+ℤ◌, List, arith}
 use Rattle.std.specs.Prelude.{nat_lt, slice_index}
 use Rattle.st_bits.specs.IndexWord.{value_of}
 use Rattle.st_format.specs.declared.instruction.Instr.{Instr}

@@ -1,8 +1,8 @@
 -- Changed index words are words.
-use Rattle.std.proofs.Common.{◌≡◌, ℕ, zero, suc, ◌+◌, ◌-◌, ◌*◌, ◌/◌, ◌%◌, ◌^◌, ◌<◌, ◌≤◌, ℤ, pos, negsuc, ◌+ℤ◌, neg_ℤ, Bool, ◌==◌, List, get_or, if◌then◌else◌, Option, None, Some, arith}
+use Rattle.std.proofs.Common.{ℕ, zero, suc, ◌/◌, ◌%◌, ◌^◌, ◌<◌, ℤ, pos, negsuc, ◌+ℤ◌, neg_ℤ, List, get_or, Option, None, Some, arith}
 use Rattle.std.specs.Prelude.{IfSome, nat_lt, unwrap_or, unsigned_abs, slice_index}
-use Rattle.st_bits.specs.Bits.{bits, part, with_part}
-use Rattle.st_bits.specs.IndexWord.{value_of, count_of, refill_of, with_value, with_count, with_refill, sign_bit}
+use Rattle.st_bits.specs.Bits.{bits, with_part}
+use Rattle.st_bits.specs.IndexWord.{value_of, count_of, with_value, with_count, with_refill, sign_bit}
 use Rattle.st_bits.specs.declared.operations.HalfOp.{HalfOp}
 use Rattle.st_bits.specs.declared.operations.HalfOp.TheVariants.{Lx, Lv, Lc, Lr, Sx, Sv, Sc, Sr, Sva, VPlus, VPlusC, Kv, Lvs, Lvi, Lci, Lri, VPlusI, VMinusI, VPlusIC, VPlusICR, Kvi, Kc, Kci, Cb, Cbr, R, Ex}
 use Rattle.st_format.specs.declared.instruction.Instr.{Instr}

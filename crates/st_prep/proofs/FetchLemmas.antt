@@ -1,5 +1,5 @@
 -- What is fetched is in its ranges.
-use Rattle.std.proofs.Common.{◌≡◌, ℕ, ◌+◌, ◌-◌, ◌*◌, ◌/◌, ◌%◌, ◌^◌, ◌<◌, Bool, true, false, ◌==◌, if◌then◌else◌, Option, None, Some, is_none, arith}
+use Rattle.std.proofs.Common.{ℕ, ◌+◌, ◌/◌, ◌^◌, ◌<◌, ◌==◌, if◌then◌else◌, Option, None, Some, is_none, arith}
 use Rattle.std.specs.Prelude.{IfSome}
 use Rattle.st_format.specs.declared.instruction.Instr.{Instr}
 use Rattle.st_format.specs.declared.instruction.Instr.TheVariants.{Half, Branch, Floating, Vfl, Connect, Move, BitBranch, IndBranch, StoreCounter, Transfer, Invalid}
@@ -12,7 +12,7 @@ use Rattle.st_state.specs.declared.protection.Access.TheVariants.{Fetch}
 use Rattle.st_prep.specs.declared.entries.Place.{Place}
 use Rattle.st_prep.specs.declared.fetching.Found.{Found}
 use Rattle.st_prep.specs.EarlyChange.{effective}
-use Rattle.st_prep.specs.Fetch.{index_words, half_at, nothing, found_whole, found_after, found, is_execute, with_target, alone, with_own, fetched}
+use Rattle.st_prep.specs.Fetch.{index_words, half_at, found_whole, found_after, found, is_execute, with_target, alone, with_own, fetched}
 use Rattle.st_prep.specs.Ranges.{HasFields, IsFound, IsFetched}
 use Rattle.st_prep.proofs.Choices.{of_choice}
 

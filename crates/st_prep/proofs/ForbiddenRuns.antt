@@ -1,5 +1,5 @@
 -- A run of words is looked at one word after the other.
-use Rattle.std.proofs.Common.{◌≡◌, ℕ, zero, suc, ◌+◌, ◌-◌, ◌<◌, ◌≤◌, Bool, true, false, Option, None, Some, is_some, refl, sym, ◌∙◌, ap, arith}
+use Rattle.std.proofs.Common.{◌≡◌, ℕ, zero, suc, ◌+◌, ◌≤◌, Bool, true, false, Option, None, Some, is_some, refl, ap, arith}
 use Rattle.st_state.specs.declared.protection.Access.{Access}
 use Rattle.st_prep.specs.Checks.{forbidden_by, forbidden_run}
 

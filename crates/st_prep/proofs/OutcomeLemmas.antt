@@ -1,5 +1,5 @@
 -- The counter after an entry, what it stores, and its cost.
-use Rattle.std.proofs.Common.{◌≡◌, ℕ, ◌+◌, ◌-◌, ◌*◌, ◌/◌, ◌%◌, ◌^◌, ◌<◌, ◌≤◌, Bool, true, false, not, ◌==◌, List, get_or, if◌then◌else◌, Option, None, Some, refl, arith}
+use Rattle.std.proofs.Common.{ℕ, ◌/◌, ◌^◌, ◌<◌, ◌≤◌, ◌==◌, List, get_or, if◌then◌else◌, Option, None, Some, refl, arith}
 use Rattle.std.specs.Prelude.{slice_index}
 use Rattle.st_bits.specs.IndexWord.{count_of}
 use Rattle.st_bits.specs.declared.operations.HalfOp.{HalfOp}

@@ -1,21 +1,19 @@
 -- Entries of states.
-use Rattle.std.proofs.Common.{◌≡◌, ℕ, ◌+◌, ◌-◌, ◌*◌, ◌/◌, ◌%◌, ◌^◌, ◌<◌, ◌≤◌, Bool, true, false, List, length, get_or, take, drop, Option, None, Some, refl, sym, ◌∙◌, ap, subst, arith, bit_and, bit_or, inl, inr}
-use Rattle.std.specs.Prelude.{IfSome, option_map, slice_index}
+use Rattle.std.proofs.Common.{◌≡◌, ℕ, ◌+◌, ◌-◌, ◌^◌, ◌<◌, ◌≤◌, Bool, List, length, get_or, take, drop, Option, None, Some, refl, sym, ◌∙◌, ap, arith, bit_and, inl, inr}
+use Rattle.std.specs.Prelude.{IfSome}
 use Rattle.std.proofs.lemmas.List.{get_or-take, get_or-drop, get_or_past, length-take}
 use Rattle.std.proofs.lemmas.Bool.Decides.{leb_tells}
 use Rattle.std.specs.Int.Bits.{or_zero_r}
-use Rattle.st_bits.specs.Bits.{part}
-use Rattle.st_bits.specs.Storage.{words_of_storage, words_of_storage_is}
+use Rattle.st_bits.specs.Storage.{words_of_storage_is}
 use Rattle.st_bits.specs.Registers.{fixed}
-use Rattle.st_state.specs.Machine.{Machine, IsMachine, word, with_word}
+use Rattle.st_state.specs.Machine.{Machine, IsMachine, word}
 use Rattle.st_state.specs.Interrupts.{indicator, turned}
 use Rattle.st_state.proofs.Kept.{is_machine-with_word}
 use Rattle.st_state.proofs.Turned.{turned_below, turned-masks}
 use Rattle.st_prep.specs.declared.entries.Place.{Place}
 use Rattle.st_prep.specs.declared.entries.Fetched.{Fetched}
-use Rattle.st_prep.specs.Fetch.{index_words, table_address, address_by, place_of, fetched}
-use Rattle.st_prep.specs.Checks.{Sight, seen}
-use Rattle.st_prep.specs.Plan.{needs, prepared, sight, opened, side_word, side_of, plan, IsSeen}
+use Rattle.st_prep.specs.Fetch.{index_words, address_by, place_of, fetched}
+use Rattle.st_prep.specs.Plan.{Sight, needs, prepared, sight, opened, side_word, side_of, plan, IsSeen}
 use Rattle.st_prep.specs.Ranges.{IsPlace, IsPrepared}
 use Rattle.st_prep.proofs.FetchLemmas.{fetched-fits}
 use Rattle.st_prep.proofs.PreparedLemmas.{IsSight, is_prepared}

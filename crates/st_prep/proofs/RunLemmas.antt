@@ -1,16 +1,14 @@
 -- The words that an entry reads and writes: how many, where, and which may be accessed.
-use Rattle.std.proofs.Common.{◌≡◌, ℕ, zero, suc, ◌+◌, ◌-◌, ◌*◌, ◌/◌, ◌%◌, ◌^◌, ◌<◌, ◌≤◌, Bool, true, false, not, ◌==◌, ◌&&◌, ◌||◌, if◌then◌else◌, Option, None, Some, refl, ap, arith}
+use Rattle.std.proofs.Common.{◌≡◌, ℕ, zero, suc, ◌+◌, ◌/◌, ◌%◌, ◌^◌, ◌<◌, ◌≤◌, Bool, true, false, not, ◌==◌, ◌&&◌, if◌then◌else◌, None, arith}
 use Rattle.std.specs.Prelude.{nat_lt, nat_le}
-use Rattle.std.specs.Option.{option_or}
-use Rattle.std.proofs.lemmas.Bool.{ltb-false, leb-false, eqb-true}
+use Rattle.std.proofs.lemmas.Bool.{ltb-false, leb-false}
 use Rattle.std.proofs.lemmas.Bool.Decides.{nat_tests}
-use Rattle.st_bits.specs.Bits.{part}
 use Rattle.st_bits.specs.Storage.{words_of_storage}
 use Rattle.st_format.specs.declared.operations.FullOp.TheVariants.{Variable, Connective}
 use Rattle.st_format.specs.declared.instruction.Instr.{Instr}
 use Rattle.st_format.specs.declared.instruction.Instr.TheVariants.{Half, Branch, Floating, Vfl, Connect, Move, BitBranch, IndBranch, StoreCounter, Transfer, Invalid}
 use Rattle.st_format.specs.Operations.{writes_field}
-use Rattle.st_state.specs.Boundary.{is_invalid, is_between, address_invalid, protected}
+use Rattle.st_state.specs.Boundary.{is_invalid, address_invalid}
 use Rattle.st_state.specs.declared.protection.Access.{Access}
 use Rattle.st_state.specs.declared.protection.Access.TheVariants.{Read, Write, Fetch}
 use Rattle.st_prep.specs.declared.entries.Words.{Words}

@@ -1,46 +1,22 @@
 -- The checks before an instruction is executed: the first that fails suppresses it.
-use Rattle.std.specs.Prelude.{ℕ, zero, suc, ◌+◌, ◌/◌, Bool, true, false, not, ◌&&◌, ◌==◌, nat_lt, nat_le, if◌then◌else◌, List, Option, None, Some, unwrap_or, option_map}
+use Rattle.std.specs.Prelude.{ℕ, zero, suc, ◌+◌, ◌/◌, Bool, true, false, not, ◌&&◌, ◌==◌, nat_lt, nat_le, if◌then◌else◌, List, Option, None, Some, unwrap_or}
 use Rattle.std.specs.Option.{option_or}
 use Rattle.st_bits.specs.Bits.{part}
 use Rattle.st_format.specs.declared.instruction.Instr.{Instr}
 use Rattle.st_format.specs.declared.instruction.Instr.TheVariants.{Transfer}
 use Rattle.st_format.specs.Formats.{is_valid}
-use Rattle.st_state.specs.Machine.{Machine, word}
 use Rattle.st_state.specs.Boundary.{is_invalid, is_between, address_invalid, protected}
 use Rattle.st_state.specs.declared.protection.Access.{Access}
 use Rattle.st_state.specs.declared.protection.Access.TheVariants.{Read, Write}
-use Rattle.st_prep.specs.declared.entries.Place.{Place}
 use Rattle.st_prep.specs.declared.entries.Fetched.{Fetched}
 use Rattle.st_prep.specs.declared.entries.Words.{Words}
 use Rattle.st_prep.specs.EarlyChange.{effective, side}
 use Rattle.st_prep.specs.Entry.{reads, writes}
 use Rattle.st_prep.specs.Fetch.{is_execute}
 
--- what preparation sees of a state: the place of the entry, what is fetched there, the sixteen index words, word 3,
--- and whether interrupts are enabled
-pub record Sight : Type 0 where
-  pub place : Place
-  pub fetched : Fetched
-  pub x : List ℕ
-  pub bounds : ℕ
-  pub enabled : Bool
-
-abbrev pub seen : Place → Fetched → List ℕ → Machine → Sight
-seen place fetched x s = record {
-  place = place;
-  fetched = fetched;
-  x = x;
-  bounds = word s 3;
-  enabled = s.enabled;
-}
-
 -- the instruction that is executed: the target of EX, or else the instruction itself
 unfoldable pub executed : Fetched → Instr
 executed f = (unwrap_or f.target f.instr).instr
-
--- its effective address
-abbrev pub address_of : Sight → ℕ
-address_of s = effective s.x (executed s.fetched)
 
 -- ---- forbidden words
 
@@ -96,14 +72,15 @@ operation_fault instr =
     else None
 
 -- the indicator of the first check that fails: the instruction's words and those of the target of EX, the operation,
--- EX of EX, the index-side word, each word read, each word written, the area of an order
-unfoldable pub fault : Sight → Option ℕ
-fault s =
-    let instr = executed s.fetched in
-    let e = address_of s in
-    option_or s.fetched.fault
+-- EX of EX, the index-side word, each word read, each word written, the area of an order (which reads and writes no
+-- other words)
+unfoldable pub fault : Fetched → List ℕ → ℕ → Bool → Option ℕ
+fault f x bounds enabled =
+    let instr = executed f in
+    let e = effective x instr in
+    option_or f.fault
     (option_or (operation_fault instr)
-    (option_or (forbidden_side s.bounds s.enabled (side s.x instr e))
-    (option_or (forbidden_words s.bounds s.enabled Read (reads instr e))
-    (option_or (forbidden_words s.bounds s.enabled Write (writes instr e))
-    (forbidden_area s.bounds s.enabled instr e)))))
+    (option_or (forbidden_side bounds enabled (side x instr e))
+    (option_or (forbidden_words bounds enabled Read (reads instr e))
+    (option_or (forbidden_words bounds enabled Write (writes instr e))
+    (forbidden_area bounds enabled instr e)))))

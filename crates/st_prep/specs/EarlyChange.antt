@@ -1,9 +1,9 @@
 -- Effective addresses, and what an instruction makes of an index word before its operands are read.
-use Rattle.std.specs.Prelude.{ℕ, ◌+◌, ◌*◌, ◌/◌, ℤ, pos, neg_ℤ, ◌==◌, nat_lt, if◌then◌else◌, List, slice_index, slice_set, Option, None, Some, unwrap_or}
+use Rattle.std.specs.Prelude.{ℕ, ◌*◌, ◌/◌, ℤ, pos, neg_ℤ, ◌==◌, nat_lt, if◌then◌else◌, List, slice_index, slice_set, Option, None, Some, unwrap_or}
 use Rattle.st_bits.specs.Bits.{bits, part, with_part}
 use Rattle.st_bits.specs.IndexWord.{value_of, count_of, refill_of, with_value, with_count, with_refill}
 use Rattle.st_bits.specs.declared.operations.HalfOp.{HalfOp}
-use Rattle.st_bits.specs.declared.operations.HalfOp.TheVariants.{Lx, Lv, Lc, Lr, Sx, Sv, Sc, Sr, Sva, VPlus, VPlusC, Kv, Lvs, Lvi, Lci, Lri, VPlusI, VMinusI, VPlusIC, VPlusICR, Kvi, Kc, Kci, Cb, Cbr, R, Ex}
+use Rattle.st_bits.specs.declared.operations.HalfOp.TheVariants.{Lx, Lv, Lc, Lr, VPlus, VPlusC, Kv, Lvs, Lvi, Lci, Lri, VPlusI, VMinusI, VPlusIC, VPlusICR, Kvi, Kc, Kci, Cb, Cbr, R}
 use Rattle.st_format.specs.declared.instruction.Instr.{Instr}
 use Rattle.st_format.specs.declared.instruction.Instr.TheVariants.{Half, Branch, Floating, Vfl, Connect, Move, BitBranch, IndBranch, StoreCounter, Transfer, Invalid}
 use Rattle.st_index.specs.IndexChange.{effective_address, with_added, with_lower_count, selected_sum, comparison, index_result, progressed, progression}

@@ -4,14 +4,14 @@ use Rattle.std.specs.Prelude.{ℕ, ◌+◌, ◌/◌, ◌%◌, ◌^◌, Bool, tru
 use Rattle.st_bits.specs.Bits.{part}
 use Rattle.st_bits.specs.IndexWord.{count_of, refill_of}
 use Rattle.st_bits.specs.declared.operations.HalfOp.{HalfOp}
-use Rattle.st_bits.specs.declared.operations.HalfOp.TheVariants.{Sx, Sv, Sc, Sr, Sva, Cb, Cbr, Ex}
+use Rattle.st_bits.specs.declared.operations.HalfOp.TheVariants.{Sx, Sv, Sc, Sr, Sva, Cb, Cbr}
 use Rattle.st_bits.specs.declared.operations.BranchOp.{BranchOp}
 use Rattle.st_bits.specs.declared.operations.BranchOp.TheVariants.{B, Br, Be, Bd, Bew, Nop}
 use Rattle.st_bits.specs.declared.operations.VflOp.{VflOp}
 use Rattle.st_bits.specs.declared.operations.VflOp.TheVariants.{St, Mul, MulAdd, Div, Lcv}
 use Rattle.st_format.specs.declared.operations.FullOp.TheVariants.{Variable, Connective}
 use Rattle.st_format.specs.declared.instruction.Instr.{Instr}
-use Rattle.st_format.specs.declared.instruction.Instr.TheVariants.{Half, Branch, Floating, Vfl, Connect, Move, BitBranch, IndBranch, StoreCounter, Transfer, Invalid}
+use Rattle.st_format.specs.declared.instruction.Instr.TheVariants.{Half, Branch, Vfl, Connect, Move, BitBranch, StoreCounter, Transfer}
 use Rattle.st_format.specs.Operations.{writes_field}
 use Rattle.st_index.specs.IndexChange.{one_less}
 use Rattle.st_prep.specs.declared.entries.Place.{Place}

@@ -1,60 +1,77 @@
 -- An entry as it is prepared, from what is seen of a state, and from the state.
-use Rattle.std.specs.Prelude.{ℕ, ◌≡◌, ◌+◌, ◌/◌, ◌<◌, ◌≤◌, ◌^◌, Bool, true, false, ◌||◌, length, List, Option, None, Some, is_some, option_map, IfSome, slice_index}
-use Rattle.st_bits.specs.Storage.{words_of_storage}
-use Rattle.st_bits.specs.declared.storage.Ind.{Ind}
-use Rattle.st_format.specs.declared.instruction.Instr.{Instr}
-use Rattle.st_format.specs.declared.instruction.Instr.TheVariants.{Transfer}
-use Rattle.st_format.specs.declared.instruction.Decoded.{Decoded}
-use Rattle.st_format.specs.Formats.{IsShape, is_valid}
+use Rattle.std.specs.Prelude.{ℕ, ◌≡◌, Bool, true, false, ◌||◌, List, Option, None, Some, is_some, option_map}
 use Rattle.st_state.specs.Machine.{Machine, word}
 use Rattle.st_state.specs.Interrupts.{indicator, applied}
 use Rattle.st_prep.specs.declared.entries.Place.{Place}
 use Rattle.st_prep.specs.declared.entries.Fetched.{Fetched}
 use Rattle.st_prep.specs.declared.entries.Needs.{Needs}
-use Rattle.st_prep.specs.declared.entries.Words.{Words}
-use Rattle.st_prep.specs.declared.entries.IndexChange.{IndexChange}
 use Rattle.st_prep.specs.declared.entries.Prepared.{Prepared}
 use Rattle.st_prep.specs.EarlyChange.{effective, side, change}
 use Rattle.st_prep.specs.Entry.{no_words, reads, writes, next, after, value, cost, acts_alone, has_register, is_register}
 use Rattle.st_prep.specs.Fetch.{index_words, place_of, is_execute, fetched}
-use Rattle.st_prep.specs.Checks.{Sight, seen, executed, address_of, fault}
+use Rattle.st_prep.specs.Checks.{executed, fault}
+
+-- what preparation sees of a state: the place of the entry, what is fetched there, the sixteen index words, word 3,
+-- and whether interrupts are enabled
+pub record Sight : Type 0 where
+  pub place : Place
+  pub fetched : Fetched
+  pub x : List ℕ
+  pub bounds : ℕ
+  pub enabled : Bool
+
+abbrev pub seen : Place → Fetched → List ℕ → Machine → Sight
+seen place fetched x s = record {
+  place = place;
+  fetched = fetched;
+  x = x;
+  bounds = word s 3;
+  enabled = s.enabled;
+}
 
 -- ---- from what is seen
 
--- the following instruction; EX has the length of one half-word, whatever its target
-abbrev pub following : Sight → ℕ
-following s = next s.place s.fetched.instr.halves
-
 -- a table instruction and EX are done alone, also where they are suppressed
-abbrev pub is_alone : Sight → Bool
-is_alone s = is_some s.place.table || is_execute s.fetched.instr.instr
+abbrev pub is_alone : Place → Fetched → Bool
+is_alone place f = is_some place.table || is_execute f.instr.instr
 
 -- so are the operations that say so, and entries with a register among their words
-unfoldable pub is_serial : Sight → Bool
-is_serial s =
-    let instr = executed s.fetched in
-    let e = address_of s in
-    is_alone s || acts_alone instr || is_register (side s.x instr e)
+unfoldable pub is_serial : Place → Fetched → List ℕ → Bool
+is_serial place f x =
+    let instr = executed f in
+    let e = effective x instr in
+    is_alone place f || acts_alone instr || is_register (side x instr e)
     || has_register (reads instr e) || has_register (writes instr e)
+
+-- the indicator of the first check that fails
+unfoldable pub fault_of : Sight → Option ℕ
+fault_of s = fault s.fetched s.x s.bounds s.enabled
 
 -- the index-side word that is to be read, and whether the entry is done alone
 abbrev pub needs_by : Option ℕ → Sight → Needs
-needs_by (Some i) s = record { index_read = None; serial = is_alone s }
-needs_by None s = record {
-  index_read = side s.x (executed s.fetched) (address_of s);
-  serial = is_serial s;
-}
+needs_by (Some i) s = record { index_read = None; serial = is_alone s.place s.fetched }
+needs_by None s =
+    let instr = executed s.fetched in
+    record {
+      index_read = side s.x instr (effective s.x instr);
+      serial = is_serial s.place s.fetched s.x;
+    }
 
 unfoldable pub needs : Sight → Needs
-needs s = needs_by (fault s) s
+needs s = needs_by (fault_of s) s
 
--- an entry with a fault: its indicator comes on, and nothing else but the counter changes
-unfoldable pub suppressed : Sight → ℕ → Prepared
-suppressed s i = record {
-  place = s.place;
-  instr = executed s.fetched;
+-- whether an index-side word is to be read
+abbrev pub asks : Sight → Bool
+asks s = is_some (needs s).index_read
+
+-- an entry with a fault: its indicator comes on, and nothing else but the counter changes. EX has the length of one
+-- half-word, whatever its target
+unfoldable pub suppressed : Place → Fetched → ℕ → Prepared
+suppressed place f i = record {
+  place = place;
+  instr = executed f;
   e = 0;
-  following = following s;
+  following = next place f.instr.halves;
   index = None;
   ind = record { on = indicator i; off = 0 };
   suppressed = true;
@@ -62,36 +79,37 @@ suppressed s i = record {
   writes = no_words;
   value = 0;
   cost = 1;
-  serial = is_alone s;
+  serial = is_alone place f;
 }
 
 -- an entry without one, its index-side word being read
-unfoldable pub entry : Sight → Option ℕ → Prepared
-entry s read =
-    let instr = executed s.fetched in
-    let e = address_of s in
-    let early = change s.x instr e read in
+unfoldable pub entry : Place → Fetched → List ℕ → Option ℕ → Prepared
+entry place f x read =
+    let instr = executed f in
+    let e = effective x instr in
+    let following = next place f.instr.halves in
+    let early = change x instr e read in
     record {
-      place = s.place;
+      place = place;
       instr = instr;
       e = e;
-      following = after instr s.x e s.place.counter (following s);
+      following = after instr x e place.counter following;
       index = early.index;
       ind = early.ind;
       suppressed = false;
       reads = reads instr e;
       writes = writes instr e;
-      value = value instr s.x (following s);
+      value = value instr x following;
       cost = cost instr;
-      serial = is_serial s;
+      serial = is_serial place f x;
     }
 
 abbrev pub prepared_by : Option ℕ → Sight → Option ℕ → Prepared
-prepared_by (Some i) s read = suppressed s i
-prepared_by None s read = entry s read
+prepared_by (Some i) s read = suppressed s.place s.fetched i
+prepared_by None s read = entry s.place s.fetched s.x read
 
 unfoldable pub prepared : Sight → Option ℕ → Prepared
-prepared s read = prepared_by (fault s) s read
+prepared s read = prepared_by (fault_of s) s read
 
 -- ---- from a state
 

@@ -1,5 +1,5 @@
 -- What holds of places, of what is fetched, and of each prepared entry.
-use Rattle.std.specs.Prelude.{ℕ, ◌≡◌, ◌+◌, ◌/◌, ◌<◌, ◌≤◌, ◌^◌, Bool, true, false, length, List, slice_index, Option, None, Some, IfSome}
+use Rattle.std.specs.Prelude.{ℕ, ◌≡◌, ◌+◌, ◌/◌, ◌<◌, ◌≤◌, ◌^◌, true, false, None, IfSome}
 use Rattle.st_bits.specs.Storage.{words_of_storage}
 use Rattle.st_bits.specs.declared.operations.HalfOp.{HalfOp}
 use Rattle.st_bits.specs.declared.operations.HalfOp.TheVariants.{Sx, Sv, Sc, Sr, Sva}
@@ -13,7 +13,7 @@ use Rattle.st_prep.specs.declared.entries.Needs.{Needs}
 use Rattle.st_prep.specs.declared.entries.Words.{Words}
 use Rattle.st_prep.specs.declared.entries.IndexChange.{IndexChange}
 use Rattle.st_prep.specs.declared.entries.Prepared.{Prepared}
-use Rattle.st_prep.specs.Entry.{no_words, reads, writes}
+use Rattle.st_prep.specs.Entry.{no_words, reads, writes, acts_alone}
 
 -- the counter and the address are half-word addresses, and the indicator is one
 pub record IsPlace (p : Place) : Type 0 where
@@ -95,9 +95,10 @@ pub record IsSuppressed (p : Prepared) : Type 0 where
   pub writes : p.writes ≡ no_words
   pub cost : p.cost ≡ 1
 
--- an entry that is not done alone
+-- an entry that is not done alone: no table instruction, none of the operations that are, no register among its words
 pub record IsAhead (p : Prepared) : Type 0 where
   pub table : p.place.table ≡ None
+  pub operation : p.suppressed ≡ false → acts_alone p.instr ≡ false
   pub reads : AreAbove p.reads
   pub writes : AreAbove p.writes
 

@@ -1,4 +1,4 @@
-ghost use Rattle.std.specs.Prelude.{◌≡◌, ◌<◌, ◌≤◌, ◌^◌};
+ghost use Rattle.std.specs.Prelude.{◌≡◌, ◌<◌, ◌^◌};
 ghost use Rattle.st_prep.specs.EarlyChange.{index_part as part_of, half_address as half_of, bit_address as bit_of, field_address as field_of, effective as effective_of};
 ghost use Rattle.st_prep.specs.Ranges.{HasFields};
 

@@ -1,5 +1,4 @@
-ghost use Rattle.std.specs.Prelude.{◌≡◌, ◌<◌, ◌≤◌, ◌^◌, ◌/◌};
-ghost use Rattle.st_bits.specs.IndexWord.{value_of as value};
+ghost use Rattle.std.specs.Prelude.{◌≡◌, ◌<◌, ◌^◌};
 ghost use Rattle.st_prep.specs.EarlyChange.{refill_word as refill_word_of, half_side as half_side_of, progressive_side as progressive_side_of, side as side_of};
 ghost use Rattle.st_prep.specs.EarlyChange.{unchanged, compared as compared_of, changed as changed_of, half_change as half_change_of, progressive_change as progressive_change_of, change as change_of};
 ghost use Rattle.st_prep.specs.Ranges.{HasFields};

@@ -2,7 +2,7 @@ use st_bits::Ind;
 use st_format::{Decoded, Instr};
 
 /// Where an entry stands.
-#[derive(Clone, Copy, Debug, PartialEq, Eq)]
+#[derive(Clone, Copy, Debug, Default, PartialEq, Eq)]
 pub struct Place {
     /// The counter before it, a half-word address below 2^19.
     pub counter: u32,
@@ -34,7 +34,7 @@ pub struct Needs {
 }
 
 /// Two runs of words in storage, one after the other. A run of no words begins at 0.
-#[derive(Clone, Copy, Debug, PartialEq, Eq)]
+#[derive(Clone, Copy, Debug, Default, PartialEq, Eq)]
 pub struct Words {
     /// The word address of the first run.
     pub first: u32,
@@ -47,7 +47,7 @@ pub struct Words {
 }
 
 /// A change of an index word.
-#[derive(Clone, Copy, Debug, PartialEq, Eq)]
+#[derive(Clone, Copy, Debug, Default, PartialEq, Eq)]
 pub struct IndexChange {
     /// The number of the index word, 0 to 15.
     pub number: u8,
@@ -64,7 +64,8 @@ pub struct Prepared {
     pub place: Place,
     /// The instruction that is executed: of EX the target, where it could be fetched.
     pub instr: Instr,
-    /// The effective address, a bit address below 2^24. Of a progressive form it is where the field begins.
+    /// The effective address, a bit address below 2^24. Of a progressive form it is where the field begins, and of
+    /// a suppressed entry it is 0.
     pub e: u32,
     /// The counter after it, a half-word address. For a branch on a bit or on an indicator it is that of the
     /// following instruction, as if no branch were taken.
@@ -86,4 +87,32 @@ pub struct Prepared {
     pub cost: u8,
     /// Whether it is done alone.
     pub serial: bool,
+}
+
+/// A suppressed entry of no instruction, to fill a place with.
+impl Default for Prepared {
+    ghost use Rattle.st_prep.specs.Ranges.{IsPrepared};
+
+    ghost is_default = { IsPrepared };
+
+    fn default() -> Prepared {
+        Prepared {
+            place: Place::default(),
+            instr: Instr::Invalid {
+                first: 0,
+                second: 0,
+                full: false,
+            },
+            e: 0,
+            following: 0,
+            index: None,
+            ind: Ind { on: 0, off: 0 },
+            suppressed: true,
+            reads: Words::default(),
+            writes: Words::default(),
+            value: 0,
+            cost: 1,
+            serial: false,
+        }
+    }
 }

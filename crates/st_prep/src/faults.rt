@@ -1,11 +1,11 @@
-ghost use Rattle.std.specs.Prelude.{◌≡◌, ◌+◌, ◌/◌, ◌<◌, ◌≤◌, ◌^◌, IfSome};
+ghost use Rattle.std.specs.Prelude.{◌≡◌, ◌+◌, ◌/◌, ◌<◌, ◌^◌, IfSome};
 ghost use Rattle.st_state.specs.Machine.{word, word as word_of};
 ghost use Rattle.st_prep.specs.Ranges.{HasFields, IsFetched, IsRuns};
-ghost use Rattle.st_prep.specs.Checks.{seen, executed as executed_of, forbidden_by, forbidden_run as forbidden_run_of, forbidden_words as forbidden_words_of, forbidden_side as forbidden_side_of, forbidden_area as forbidden_area_of, area_access as area_access_of, operation_fault as operation_fault_of, fault as fault_of};
+ghost use Rattle.st_prep.specs.Checks.{executed as executed_of, forbidden_by, forbidden_run as forbidden_run_of, forbidden_words as forbidden_words_of, forbidden_side as forbidden_side_of, forbidden_area as forbidden_area_of, area_access as area_access_of, operation_fault as operation_fault_of, fault as fault_of};
 
 use crate::addresses::effective_address;
 use crate::early::side;
-use crate::entries::{Fetched, Place, Words};
+use crate::entries::{Fetched, Words};
 use crate::fetching::is_execute;
 use crate::runs::{reads, writes};
 use st_format::Instr;
@@ -127,9 +127,9 @@ fn operation_fault(instr: Instr) -> Option<u8>
 
 /// The indicator of the first check that an entry fails.
 #[tactic(auto, unfolding(crate::specs::Checks::fault))]
-pub fn fault(place: Place, fetched: &Fetched, x: &[u64; 16], state: &State) -> Option<u8>
+pub fn fault(fetched: &Fetched, x: &[u64; 16], state: &State) -> Option<u8>
     requires { IsFetched fetched.now }
-    ensures value { result ≡ fault_of (seen place fetched.now x.now state.now) }
+    ensures value { result ≡ fault_of fetched.now x.now (word state.now 3) state.now.enabled }
     ensures bound { IfSome result (λ i. i < 64) }
 {
     let instr = executed(fetched);

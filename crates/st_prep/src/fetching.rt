@@ -1,8 +1,8 @@
-ghost use Rattle.std.specs.Prelude.{◌≡◌, ◌/◌, ◌<◌, ◌≤◌, ◌^◌, IfSome};
+ghost use Rattle.std.specs.Prelude.{◌≡◌, ◌/◌, ◌<◌, ◌^◌, IfSome};
 ghost use Rattle.st_bits.specs.Storage.{words_of_storage};
 ghost use Rattle.st_state.specs.Boundary.{forbidden};
 ghost use Rattle.st_state.specs.declared.protection.Access.{Access};
-ghost use Rattle.st_prep.specs.Fetch.{index_words as index_words_of, half_at as half_of, place_of as place_by, address_by, found as found_of, found_after as found_after_of, found_whole as found_whole_of, is_execute as is_execute_of, with_own, with_target as with_target_of, nothing as nothing_of, fetched as fetched_at};
+ghost use Rattle.st_prep.specs.Fetch.{index_words as index_words_of, half_at as half_of, place_of as place_by, address_by, found as found_of, found_whole as found_whole_of, is_execute as is_execute_of, with_target as with_target_of, nothing as nothing_of, fetched as fetched_at};
 ghost use Rattle.st_prep.specs.Ranges.{HasFields, IsPlace, IsFetched, IsFound};
 
 use crate::addresses::effective_address;

@@ -3,8 +3,8 @@ ghost use Rattle.std.specs.Prelude.{◌≡◌, ℕ, ◌<◌, Option, IfSome};
 ghost use Rattle.st_state.specs.Machine.{Machine, IsMachine, word};
 ghost use Rattle.st_state.specs.Boundary.{forbidden};
 ghost use Rattle.st_state.specs.declared.protection.Access.{Access};
-ghost use Rattle.st_prep.specs.Checks.{Sight, forbidden_by};
-ghost use Rattle.st_prep.specs.Plan.{needs, prepared, plan};
+ghost use Rattle.st_prep.specs.Checks.{forbidden_by};
+ghost use Rattle.st_prep.specs.Plan.{Sight, needs, prepared, plan};
 ghost use Rattle.st_prep.specs.Ranges.{IsPrepared};
 
 /// What forbids an access to a word of a state is seen from its boundary register and the mark for interrupts alone.

@@ -3,8 +3,7 @@ ghost use Rattle.st_bits.specs.Storage.{words_of_storage};
 ghost use Rattle.st_state.specs.Machine.{Machine, word};
 ghost use Rattle.st_state.specs.Interrupts.{indicator, turned};
 ghost use Rattle.st_prep.specs.EarlyChange.{words_after};
-ghost use Rattle.st_prep.specs.Checks.{seen};
-ghost use Rattle.st_prep.specs.Plan.{is_alone as is_alone_of, is_serial as is_serial_of, needs as needs_of, suppressed as suppressed_of, entry as entry_of, prepared as prepared_of, plan as plan_of, opened, side_word as side_word_of, side_of, IsSeen, sight};
+ghost use Rattle.st_prep.specs.Plan.{seen, is_alone as is_alone_of, is_serial as is_serial_of, needs as needs_of, asks, suppressed as suppressed_of, entry as entry_of, prepared as prepared_of, plan as plan_of, opened, side_word as side_word_of, side_of, IsSeen, sight};
 ghost use Rattle.st_prep.specs.Fetch.{place_of as place_by};
 ghost use Rattle.st_prep.specs.Ranges.{IsPlace, IsFetched, IsNeeds, IsPrepared};
 
@@ -22,21 +21,21 @@ use st_state::State;
 const INDICATORS: u32 = 11;
 
 /// Whether an entry is done alone even where it is suppressed.
-fn is_alone(place: Place, fetched: &Fetched, x: &[u64; 16], state: &State) -> bool
-    ensures { result ≡ is_alone_of (seen place fetched.now x.now state.now) }
+fn is_alone(place: Place, fetched: &Fetched) -> bool
+    ensures { result ≡ is_alone_of place fetched.now }
 {
     place.table.is_some() || is_execute(fetched.instr.instr)
 }
 
 /// Whether an entry that is not suppressed is done alone.
 #[tactic(auto, unfolding(crate::specs::Plan::is_serial))]
-fn is_serial(place: Place, fetched: &Fetched, x: &[u64; 16], state: &State) -> bool
+fn is_serial(place: Place, fetched: &Fetched, x: &[u64; 16]) -> bool
     requires { IsFetched fetched.now }
-    ensures { result ≡ is_serial_of (seen place fetched.now x.now state.now) }
+    ensures { result ≡ is_serial_of place fetched.now x.now }
 {
     let instr = executed(fetched);
     let e = effective_address(instr, x);
-    is_alone(place, fetched, x, state)
+    is_alone(place, fetched)
         || acts_alone(instr)
         || is_register(side(instr, x, e))
         || has_register(reads(instr, e))
@@ -44,21 +43,21 @@ fn is_serial(place: Place, fetched: &Fetched, x: &[u64; 16], state: &State) -> b
 }
 
 /// What an entry needs.
-#[tactic(auto, unfolding(crate::specs::Plan::needs))]
+#[tactic(auto, unfolding(crate::specs::Plan::needs, crate::specs::Plan::fault_of))]
 fn needs(place: Place, fetched: &Fetched, x: &[u64; 16], state: &State) -> Needs
     requires { IsFetched fetched.now }
     ensures { result ≡ needs_of (seen place fetched.now x.now state.now) }
 {
-    if fault(place, fetched, x, state).is_some() {
+    if fault(fetched, x, state).is_some() {
         return Needs {
             index_read: None,
-            serial: is_alone(place, fetched, x, state),
+            serial: is_alone(place, fetched),
         };
     }
     let instr = executed(fetched);
     Needs {
         index_read: side(instr, x, effective_address(instr, x)),
-        serial: is_serial(place, fetched, x, state),
+        serial: is_serial(place, fetched, x),
     }
 }
 
@@ -87,11 +86,11 @@ fn bit(i: u8) -> u64
 
 /// An entry that is suppressed by the indicator `i`.
 #[tactic(auto, unfolding(crate::specs::Plan::suppressed))]
-fn suppressed(place: Place, fetched: &Fetched, x: &[u64; 16], state: &State, i: u8) -> Prepared
+fn suppressed(place: Place, fetched: &Fetched, i: u8) -> Prepared
     requires place { IsPlace place }
     requires fetched { IsFetched fetched.now }
     requires indicator { i < 64 }
-    ensures { result ≡ suppressed_of (seen place fetched.now x.now state.now) i }
+    ensures { result ≡ suppressed_of place fetched.now i }
 {
     Prepared {
         place,
@@ -105,22 +104,16 @@ fn suppressed(place: Place, fetched: &Fetched, x: &[u64; 16], state: &State, i: 
         writes: none(),
         value: 0,
         cost: 1,
-        serial: is_alone(place, fetched, x, state),
+        serial: is_alone(place, fetched),
     }
 }
 
 /// An entry that is not suppressed; `read` is its index-side word.
 #[tactic(auto, unfolding(crate::specs::Plan::entry))]
-fn entry(
-    place: Place,
-    fetched: &Fetched,
-    x: &[u64; 16],
-    read: Option<u64>,
-    state: &State,
-) -> Prepared
+fn entry(place: Place, fetched: &Fetched, x: &[u64; 16], read: Option<u64>) -> Prepared
     requires place { IsPlace place }
     requires fetched { IsFetched fetched.now }
-    ensures { result ≡ entry_of (seen place fetched.now x.now state.now) read }
+    ensures { result ≡ entry_of place fetched.now x.now read }
 {
     let instr = executed(fetched);
     let e = effective_address(instr, x);
@@ -138,12 +131,12 @@ fn entry(
         writes: writes(instr, e),
         value: value(instr, x, following),
         cost: cost(instr),
-        serial: is_serial(place, fetched, x, state),
+        serial: is_serial(place, fetched, x),
     }
 }
 
 /// An entry before the index words are changed by it.
-#[tactic(auto, unfolding(crate::specs::Plan::prepared))]
+#[tactic(auto, unfolding(crate::specs::Plan::prepared, crate::specs::Plan::fault_of))]
 fn make(
     place: Place,
     fetched: &Fetched,
@@ -155,9 +148,9 @@ fn make(
     requires fetched { IsFetched fetched.now }
     ensures { result ≡ prepared_of (seen place fetched.now x.now state.now) read }
 {
-    match fault(place, fetched, x, state) {
-        Some(i) => suppressed(place, fetched, x, state, i),
-        None => entry(place, fetched, x, read, state),
+    match fault(fetched, x, state) {
+        Some(i) => suppressed(place, fetched, i),
+        None => entry(place, fetched, x, read),
     }
 }
 
@@ -182,7 +175,7 @@ pub fn prepare(
 ) -> Prepared
     requires place { IsPlace place.now }
     requires fetched { IsFetched fetched.now }
-    requires asked { let v = seen place.now fetched.now x.old state.now in is_some read ≡ is_some (needs_of v).index_read }
+    requires asked { is_some read ≡ asks (seen place.now fetched.now x.old state.now) }
 
     ensures value { result ≡ prepared_of (seen place.now fetched.now x.old state.now) read }
     ensures ranges { IsPrepared result }

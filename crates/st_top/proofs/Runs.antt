@@ -4,7 +4,7 @@ use Rattle.std.specs.Prelude.{Option, None, Some, Result, Ok, Err, IsErr}
 use Rattle.st_io.specs.Output.{OutputState}
 use Rattle.st_io.specs.declared.Failed.{Failed}
 use Rattle.st_lines.specs.Lines.{WritesLines}
-use Rattle.st_lines.specs.Event.{Event, at_moment}
+use Rattle.st_lines.specs.Event.{at_moment}
 use Rattle.st_lines.proofs.Writing.{wrote_at_moment, stopped_at_moment}
 use Rattle.st_lines.proofs.Progress.{EventsSoFar, events_more, events_stopped, events_whole}
 use Rattle.st_state.specs.Machine.{Machine}

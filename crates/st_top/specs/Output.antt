@@ -2,7 +2,7 @@
 use Rattle.std.specs.Prelude.{ℕ, codes, List, [], ◌∷◌, Option, None, Some}
 use Rattle.st_asm.specs.Image.{Program, program}
 use Rattle.st_state.specs.Machine.{Machine, opening}
-use Rattle.st_exec.specs.Run.{Scene, Ran, run}
+use Rattle.st_exec.specs.Run.{Ran, run}
 use Rattle.st_lines.specs.Event.{Event, at_moment}
 use Rattle.st_report.specs.Line.{fault_line}
 use Rattle.st_top.specs.Report.{report}

@@ -1,5 +1,5 @@
 -- What the printer prints of eight words.
-use Rattle.std.specs.Prelude.{ℕ, zero, suc, ◌+◌, ◌*◌, ◌&&◌, nat_le, if◌then◌else◌, List, [], ◌∷◌, ◌++◌, map}
+use Rattle.std.specs.Prelude.{ℕ, ◌&&◌, nat_le, if◌then◌else◌, List, [], ◌∷◌, ◌++◌, map}
 use Rattle.st_bits.specs.Bits.{part}
 use Rattle.st_report.specs.Listing.{without_end_blanks}
 

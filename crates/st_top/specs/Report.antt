@@ -1,5 +1,5 @@
 -- The report of a run: its lines, each with the number of instructions done when it is written.
-use Rattle.std.specs.Prelude.{ℕ, ◌==◌, if◌then◌else◌, Bool, Option, None, Some, List, [], ◌∷◌, ◌++◌}
+use Rattle.std.specs.Prelude.{ℕ, ◌==◌, if◌then◌else◌, Option, None, Some, List, [], ◌∷◌, ◌++◌}
 use Rattle.st_state.specs.Machine.{Machine, word}
 use Rattle.st_exec.specs.Run.{Happening, Prints, Interrupts, Ends}
 use Rattle.st_lines.specs.Lines.{lines_for}

@@ -1,5 +1,5 @@
 -- What is written of a run.
-use Rattle.std.specs.Prelude.{◌≡◌, ℕ, Result, OnOk, OnErr}
+use Rattle.std.specs.Prelude.{◌≡◌, Result, OnOk, OnErr}
 use Rattle.st_io.specs.Output.{OutputState, Wrote}
 use Rattle.st_io.specs.declared.Failed.{Failed}
 use Rattle.st_lines.specs.Lines.{text}

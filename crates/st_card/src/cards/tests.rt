@@ -71,3 +71,16 @@ fn no_card_stands_behind_the_20_001st(rt: HostRuntime) -> Result<(), Fail> {
     assert_eq!(rt; cards.last().copied(), Some(last));
     Ok(())
 }
+
+#[test]
+fn a_card_has_its_text(rt: HostRuntime) {
+    let card = Card {
+        number: 2,
+        kind: CardKind::Control,
+        start: 2,
+        len: 5,
+        fault: None,
+    };
+    assert_eq!(rt; card.text(b"*\n/LIST\r\n"), b"/LIST".as_slice());
+    assert_eq!(rt; columns(b"/LIST"), b"/LIST".as_slice());
+}

@@ -1,6 +1,6 @@
-use Rattle.std.proofs.Common.{◌≡◌, ◌+◌, ◌-◌, ◌≤◌, ◌++◌, length}
-use Rattle.st_card.specs.Cards.{cards_from}
-use Rattle.st_card.specs.Pieces.{parted}
+use Rattle.std.proofs.Common.{◌≡◌, ◌+◌, ◌-◌, ◌≤◌, ◌++◌, length, All}
+use Rattle.st_card.specs.Cards.{cards_from, IsCardOf}
+use Rattle.st_card.specs.Pieces.{parted, IsBehind}
 use Rattle.st_card.proofs.cards.split.Given as goal
 
 abbrev pub invariant-lines : goal.invariant-lines
@@ -9,7 +9,8 @@ invariant-lines l = record {
       ≡ cards_from 1 0 (parted 10 l.job);
   counted : length l.cards.items + 1 ≡ l.number;
   few : l.number ≤ 20001;
-  within : length l.rest ≤ length l.job;
+  behind : IsBehind l.rest l.job;
+  texts : All (IsCardOf l.job) l.cards.items;
 }
 
 abbrev pub decreases-lines : goal.decreases-lines

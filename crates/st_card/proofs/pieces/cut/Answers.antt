@@ -1,12 +1,13 @@
 use Rattle.std.proofs.Common.{◌∙◌, ℕ, ◌<◌, ap, sym, refl, List, length, arith}
 use Rattle.st_card.proofs.ListLemmas.{first_and_rest, past_first}
-use Rattle.st_card.proofs.PieceLemmas.{onto_front-nothing, parted_on, parted_here}
+use Rattle.st_card.proofs.PieceLemmas.{onto_front-nothing, parted_on, parted_here, lacks_on}
 use Rattle.st_card.proofs.pieces.cut.Goals as goal
 
 pub bytes-init : goal.bytes-init
 bytes-init c = record {
   rest_of_text = refl;
   within = omega arith;
+  no_byte = refl;
   same_pieces = onto_front-nothing c.args.at c.args.text.now;
 }
 
@@ -18,6 +19,7 @@ bytes-preserved c =
     record {
       rest_of_text = further.1;
       within = omega (arith, ap (λ (s : List ℕ). length s) parts);
+      no_byte = lacks_on _ _ _ _ further.0 c.if-byte-at.false c.bytes.invariant.no_byte;
       same_pieces =
           parted_on _ _ _ _ _ _ parts c.if-byte-at.false further.0 ∙ c.bytes.invariant.same_pieces;
     }

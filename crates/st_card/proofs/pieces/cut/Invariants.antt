@@ -1,5 +1,5 @@
-use Rattle.std.proofs.Common.{◌≡◌, ◌+◌, length, take, drop}
-use Rattle.st_card.specs.Pieces.{parted}
+use Rattle.std.proofs.Common.{◌≡◌, ◌+◌, IsTrue, length, take, drop}
+use Rattle.st_card.specs.Pieces.{parted, lacks}
 use Rattle.st_card.proofs.PieceLemmas.{onto_front}
 use Rattle.st_card.proofs.pieces.cut.Given as goal
 
@@ -7,6 +7,7 @@ abbrev pub invariant-bytes : goal.invariant-bytes
 invariant-bytes l = record {
   rest_of_text : l.rest ≡ drop l.front l.text;
   within : l.front + length l.rest ≡ length l.text;
+  no_byte : IsTrue (lacks l.at (take l.front l.text));
   same_pieces : onto_front (take l.front l.text) (parted l.at l.rest) ≡ parted l.at l.text;
 }
 

@@ -1,8 +1,8 @@
-use Rattle.std.proofs.Common.{◌≡◌, ◌<◌, ◌^◌, Option, None, Some, sym, subst, ◌∙◌}
+use Rattle.std.proofs.Common.{◌≡◌, Option, Some, sym, subst, ◌∙◌}
 use Rattle.std.specs.Prelude.{IfSome}
 use Rattle.st_prep.specs.declared.entries.IndexChange.{IndexChange}
 use Rattle.st_prep.specs.Ranges.{IsChange, IsPrepared}
-use Rattle.st_prep.proofs.PreparedLemmas.{IsSight, is_prepared}
+use Rattle.st_prep.proofs.PreparedLemmas.{is_prepared}
 use Rattle.st_prep.proofs.PlanLemmas.{prepared-plan}
 use Rattle.st_prep.proofs.preparation.prepare.Goals as goal
 

@@ -1,4 +1,4 @@
-use Rattle.std.proofs.Common.{◌≡◌, ◌∙◌, ap, arith}
+use Rattle.std.proofs.Common.{◌∙◌, ap, arith}
 use Rattle.st_state.specs.Interrupts.{turned}
 use Rattle.st_prep.proofs.PlanLemmas.{without-turned}
 use Rattle.st_prep.proofs.preparation.without.Goals as goal

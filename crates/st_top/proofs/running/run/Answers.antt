@@ -1,5 +1,5 @@
-use Rattle.std.proofs.Common.{◌≡◌, ℕ, ◌-◌, ◌∙◌, sym, ap, subst, arith}
-use Rattle.st_lines.proofs.Progress.{EventsSoFar, events_none}
+use Rattle.std.proofs.Common.{◌-◌, ◌∙◌, sym, ap, subst, arith}
+use Rattle.st_lines.proofs.Progress.{EventsSoFar}
 use Rattle.st_exec.specs.Run.{run}
 use Rattle.st_exec.specs.Step.{step}
 use Rattle.st_exec.proofs.Quiet.{alone, IsQuiet, run-rests, run-budget, run-goes_on, step_made, step-quiet, step-done}

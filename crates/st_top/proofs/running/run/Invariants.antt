@@ -1,4 +1,4 @@
-use Rattle.std.proofs.Common.{◌≡◌, ℕ, ◌+◌}
+use Rattle.std.proofs.Common.{◌≡◌, ◌+◌}
 use Rattle.st_lines.proofs.Progress.{EventsSoFar}
 use Rattle.st_exec.specs.Run.{run}
 use Rattle.st_exec.proofs.Quiet.{IsQuiet, alone}

@@ -1,4 +1,4 @@
-use Rattle.std.proofs.Common.{[], ◌∷◌, ◌++◌}
+use Rattle.std.proofs.Common.{[], ◌∷◌}
 use Rattle.st_lines.proofs.Progress.{lines_then, lines_cut}
 use Rattle.st_report.specs.Line.{int_line}
 use Rattle.st_top.specs.Report.{block}

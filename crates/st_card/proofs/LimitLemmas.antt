@@ -1,0 +1,307 @@
+-- Adding a control card keeps the limits.
+use Rattle.std.proofs.Common.{◌≡◌, ◌≤◌, ◌<◌, ◌+◌, ◌-◌, ◌&&◌, ℕ, Bool, true, false, nat_le, nat_lt, List, [], ◌∷◌, ◌++◌, Option, Some, None, if◌then◌else◌, length, get_or, refl, ap, sym, subst, ◌∙◌, arith, length-append}
+use Rattle.std.specs.List.{AllPass}
+use Rattle.std.specs.Option.{option_and_then, option_map_or}
+use Rattle.std.specs.List.Sorted.{IsStrictlyIncreasing}
+use Rattle.std.proofs.lemmas.Bool.Decides.{nat_tests}
+use Rattle.std.proofs.lemmas.Option.{slice_get-get_or}
+use Rattle.std.proofs.Math.ListN.{get_or-append}
+use Rattle.std.proofs.Math.Seq.{get_or-append_seam}
+use Rattle.std.proofs.lemmas.List.Elements.{All-append}
+use Rattle.std.proofs.lemmas.List.Sums.{AllPass-from_list_all}
+use Rattle.std.proofs.lemmas.List.Sorted.{IsNonDecreasingBy-push}
+use Rattle.st_card.specs.Controls as spec
+use Rattle.st_card.specs.Controls.{Asked, is_among, last_passes, good, before, number_in, numbers_in}
+use Rattle.st_card.specs.Number.{is_number, value, reading}
+use Rattle.st_card.specs.Pieces.{words}
+use Rattle.st_card.specs.Cards.{columns}
+use Rattle.st_card.specs.Tables.{row_of}
+use Rattle.st_card.specs.declared.numbers.Reading.TheVariants.{Bad, Large, Good}
+use Rattle.st_card.specs.Limits.{is_signal, is_part, is_tick, IsWithinLimits}
+use Rattle.st_card.specs.declared.control_cards.Signal.{Signal}
+use Rattle.st_card.specs.declared.keywords.Keyword.{Keyword}
+use Rattle.st_card.specs.declared.keywords.Keyword.TheVariants.{Budget, Delays, Signals, Dump, Snap, Back, Listing, Trace, Time, Chart}
+
+-- what is given is what the test allows
+given : (b : Bool) (x new : Asked) → (if b then Some x else None) ≡ Some new → (b ≡ true) × (x ≡ new)
+given true x new same = (refl, cc)
+given false x new same = cc
+
+both : (a b : Bool) → (a && b) ≡ true → (a ≡ true) × (b ≡ true)
+both true b holds = (refl, holds)
+both false b holds = cc
+
+at_most : (n most : ℕ) → nat_le n most ≡ true → n ≤ most
+at_most n most test = grind (arith, nat_tests)
+
+below : (n most : ℕ) → nat_lt n most ≡ true → n < most
+below n most test = grind (arith, nat_tests)
+
+only : {X : Type 0} (p : X → Bool) (x : X) → p x ≡ true → AllPass p (x ∷ [])
+only p x holds = AllPass-from_list_all p (x ∷ []) (ap (λ b. b && true) holds)
+
+-- what is given keeps the limits where the rest is as before
+budget-kept : (kept new : Asked) (numbers : List ℕ) → spec.with_budget kept numbers ≡ Some new →
+    IsWithinLimits kept → IsWithinLimits new
+budget-kept kept new [] same limits = cc
+budget-kept kept new (n ∷ []) same limits =
+    let parts = given _ _ new same in
+    let ranges = both _ _ (both _ _ parts.0).1 in
+    subst (λ (a : Asked). IsWithinLimits a) parts.1 (record {
+      budget = at_most n 10000000 ranges.1;
+      delays = limits.delays;
+      signals = limits.signals;
+      dumps = limits.dumps;
+      snaps = limits.snaps;
+      back = limits.back;
+    })
+budget-kept kept new (n ∷ m ∷ ms) same limits = cc
+
+back-kept : (kept new : Asked) (numbers : List ℕ) → spec.with_back kept numbers ≡ Some new →
+    IsWithinLimits kept → IsWithinLimits new
+back-kept kept new [] same limits = cc
+back-kept kept new (n ∷ []) same limits =
+    let parts = given _ _ new same in
+    let ranges = both _ _ (both _ _ parts.0).1 in
+    subst (λ (a : Asked). IsWithinLimits a) parts.1 (record {
+      budget = limits.budget;
+      delays = limits.delays;
+      signals = limits.signals;
+      dumps = limits.dumps;
+      snaps = limits.snaps;
+      back = at_most n 64 ranges.1;
+    })
+back-kept kept new (n ∷ m ∷ ms) same limits = cc
+
+delays-kept : (kept new : Asked) (numbers : List ℕ) → spec.with_delays kept numbers ≡ Some new →
+    IsWithinLimits kept → IsWithinLimits new
+delays-kept kept new [] same limits = cc
+delays-kept kept new (n ∷ ns) same limits =
+    let parts = given _ _ new same in
+    let tests = both _ _ parts.0 in
+    let few : length kept.delays + length (n ∷ ns) ≤ 4096 = at_most _ 4096 tests.0 in
+    subst (λ (a : Asked). IsWithinLimits a) parts.1 (record {
+      budget = limits.budget;
+      delays = record {
+        each = All-append (λ d. is_among 1 255 d ≡ true) kept.delays (n ∷ ns) limits.delays.each (AllPass-from_list_all (is_among 1 255) (n ∷ ns) tests.1);
+        few = omega (arith, few, length-append kept.delays (n ∷ ns));
+      };
+      signals = limits.signals;
+      dumps = limits.dumps;
+      snaps = limits.snaps;
+      back = limits.back;
+    })
+
+dump-kept : (kept new : Asked) (numbers : List ℕ) → spec.with_dump kept numbers ≡ Some new →
+    IsWithinLimits kept → IsWithinLimits new
+dump-kept kept new [] same limits = cc
+dump-kept kept new (first ∷ []) same limits = cc
+dump-kept kept new (first ∷ last ∷ []) same limits =
+    let parts = given _ _ new same in
+    let tests = both _ _ parts.0 in
+    let sizes = both _ _ tests.0 in
+    let room : length kept.dumps < 16 = below _ 16 sizes.0 in
+    let part : is_part (first, last) ≡ true = ap (λ b. b && nat_le last 98303) sizes.1 ∙ tests.1 in
+    subst (λ (a : Asked). IsWithinLimits a) parts.1 (record {
+      budget = limits.budget;
+      delays = limits.delays;
+      signals = limits.signals;
+      dumps = record {
+        each = All-append (λ d. is_part d ≡ true) kept.dumps ((first, last) ∷ []) limits.dumps.each (only is_part (first, last) part);
+        few = omega (arith, room, length-append kept.dumps ((first, last) ∷ []));
+      };
+      snaps = limits.snaps;
+      back = limits.back;
+    })
+dump-kept kept new (first ∷ last ∷ n ∷ ns) same limits = cc
+
+-- a test of the last item is one of the item at the last place
+last_item : {X : Type 0} (test : X → Bool) (items : List X) → last_passes test items ≡ true → (d : X) → 0 < length items →
+    test (get_or items (length items - 1) d) ≡ true
+last_item {X} test items passes d some =
+    let within : length items - 1 < length items = omega arith in
+    let last = slice_get-get_or items (length items - 1) d within in
+    sym (ap (λ (o : Option X). option_map_or test o true) last) ∙ passes
+
+signal-kept : (kept new : Asked) (numbers : List ℕ) → spec.with_signal kept numbers ≡ Some new →
+    IsWithinLimits kept → IsWithinLimits new
+signal-kept kept new [] same limits = cc
+signal-kept kept new (count ∷ []) same limits = cc
+signal-kept kept new (count ∷ indicator ∷ []) same limits =
+    let signal : Signal = record { count = count; indicator = indicator } in
+    let parts = given _ _ new same in
+    let tests = both _ _ parts.0 in
+    let ranges = both _ _ tests.0 in
+    let sizes = both _ _ ranges.0 in
+    let room : length kept.signals < 4096 = below _ 4096 sizes.0 in
+    let good : is_signal signal ≡ true = ap (λ b. b && nat_le indicator 13) sizes.1 ∙ ranges.1 in
+    subst (λ (a : Asked). IsWithinLimits a) parts.1 (record {
+      budget = limits.budget;
+      delays = limits.delays;
+      signals = record {
+        each = All-append (λ s. is_signal s ≡ true) kept.signals (signal ∷ []) limits.signals.each (only is_signal signal good);
+        counts = IsNonDecreasingBy-push (λ s. s.count) kept.signals signal limits.signals.counts
+            (λ d some. at_most _ count (last_item (λ s. nat_le s.count count) kept.signals tests.1 d some));
+        few = omega (arith, room, length-append kept.signals (signal ∷ []));
+      };
+      dumps = limits.dumps;
+      snaps = limits.snaps;
+      back = limits.back;
+    })
+signal-kept kept new (count ∷ indicator ∷ n ∷ ns) same limits = cc
+
+not_below : (n most : ℕ) → nat_lt n most ≡ false → most ≤ n
+not_below n most test = grind (arith, nat_tests)
+
+-- a number above the last keeps numbers rising
+rising-push : (xs : List ℕ) (x : ℕ) → IsStrictlyIncreasing xs → (0 < length xs → get_or xs (length xs - 1) 0 < x) →
+    IsStrictlyIncreasing (xs ++ x ∷ [])
+rising-push xs x rising above k within =
+    let more : length (xs ++ x ∷ []) ≡ length xs + 1 = length-append xs (x ∷ []) in
+    let here : k < length xs = omega (arith, within, more) in
+    let step : (b : Bool) → nat_lt (k + 1) (length xs) ≡ b → get_or (xs ++ x ∷ []) k 0 < get_or (xs ++ x ∷ []) (k + 1) 0 =
+    λ b. elim b as (λ v. nat_lt (k + 1) (length xs) ≡ v → get_or (xs ++ x ∷ []) k 0 < get_or (xs ++ x ∷ []) (k + 1) 0) [
+      | true ↦ λ test.
+          let inside : k + 1 < length xs = below (k + 1) (length xs) test in
+          omega (arith, rising k inside, get_or-append xs (x ∷ []) 0 k here, get_or-append xs (x ∷ []) 0 (k + 1) inside)
+      | false ↦ λ test.
+          let outside : length xs ≤ k + 1 = not_below (k + 1) (length xs) test in
+          let last : k + 1 ≡ length xs = omega (arith, here, outside) in
+          let some : 0 < length xs = omega (arith, last) in
+          let before : k ≡ length xs - 1 = omega (arith, last) in
+          let item : get_or (xs ++ x ∷ []) (k + 1) 0 ≡ x =
+          ap (λ j. get_or (xs ++ x ∷ []) j 0) last ∙ get_or-append_seam xs x [] 0 in
+          let same : get_or xs k 0 ≡ get_or xs (length xs - 1) 0 = ap (λ j. get_or xs j 0) before in
+          omega (arith, above some, item, same, get_or-append xs (x ∷ []) 0 k here)
+    ] in
+    step (nat_lt (k + 1) (length xs)) refl
+
+snap-kept : (kept new : Asked) (numbers : List ℕ) → AllPass is_tick numbers → spec.with_snap kept numbers ≡ Some new →
+    IsWithinLimits kept → IsWithinLimits new
+snap-kept kept new [] short same limits = cc
+snap-kept kept new (tick ∷ []) short same limits =
+    let parts = given _ _ new same in
+    let tests = both _ _ parts.0 in
+    let room : length kept.snaps < 64 = below _ 64 tests.0 in
+    subst (λ (a : Asked). IsWithinLimits a) parts.1 (record {
+      budget = limits.budget;
+      delays = limits.delays;
+      signals = limits.signals;
+      dumps = limits.dumps;
+      snaps = record {
+        each = All-append (λ t. is_tick t ≡ true) kept.snaps (tick ∷ []) limits.snaps.each short;
+        rising = rising-push kept.snaps tick limits.snaps.rising
+            (λ some. below _ tick (last_item (λ t. nat_lt t tick) kept.snaps tests.1 0 some));
+        few = omega (arith, room, length-append kept.snaps (tick ∷ []));
+      };
+      back = limits.back;
+    })
+snap-kept kept new (tick ∷ n ∷ ns) short same limits = cc
+
+-- marks have no limits
+marks-kept : (kept : Asked) (list trace time chart : Bool) → IsWithinLimits kept →
+    IsWithinLimits (record kept { list = list; trace = trace; time = time; chart = chart })
+marks-kept kept list trace time chart limits = record {
+  budget = limits.budget;
+  delays = limits.delays;
+  signals = limits.signals;
+  dumps = limits.dumps;
+  snaps = limits.snaps;
+  back = limits.back;
+}
+
+mark-kept : (b : Bool) (kept marked new : Asked) → IsWithinLimits marked → (if b then None else Some marked) ≡ Some new →
+    IsWithinLimits new
+mark-kept true kept marked new limits same = cc
+mark-kept false kept marked new limits same =
+    let is_new : marked ≡ new = cc in
+    subst (λ (a : Asked). IsWithinLimits a) is_new limits
+
+list-kept : (kept new : Asked) (numbers : List ℕ) → spec.with_list kept numbers ≡ Some new →
+    IsWithinLimits kept → IsWithinLimits new
+list-kept kept new [] same limits =
+    mark-kept kept.list kept _ new (marks-kept kept true kept.trace kept.time kept.chart limits) same
+list-kept kept new (n ∷ ns) same limits = cc
+
+trace-kept : (kept new : Asked) (numbers : List ℕ) → spec.with_trace kept numbers ≡ Some new →
+    IsWithinLimits kept → IsWithinLimits new
+trace-kept kept new [] same limits =
+    mark-kept kept.trace kept _ new (marks-kept kept kept.list true kept.time kept.chart limits) same
+trace-kept kept new (n ∷ ns) same limits = cc
+
+time-kept : (kept new : Asked) (numbers : List ℕ) → spec.with_time kept numbers ≡ Some new →
+    IsWithinLimits kept → IsWithinLimits new
+time-kept kept new [] same limits =
+    mark-kept kept.time kept _ new (marks-kept kept kept.list kept.trace true kept.chart limits) same
+time-kept kept new (n ∷ ns) same limits = cc
+
+chart-kept : (kept new : Asked) (numbers : List ℕ) → spec.with_chart kept numbers ≡ Some new →
+    IsWithinLimits kept → IsWithinLimits new
+chart-kept kept new [] same limits =
+    mark-kept kept.chart kept _ new (marks-kept kept kept.list kept.trace kept.time true limits) same
+chart-kept kept new (n ∷ ns) same limits = cc
+
+keyword-kept : (keyword : Keyword) (kept new : Asked) (numbers : List ℕ) → AllPass is_tick numbers →
+    spec.with_keyword keyword kept numbers ≡ Some new → IsWithinLimits kept → IsWithinLimits new
+keyword-kept Budget kept new numbers short same limits = budget-kept kept new numbers same limits
+keyword-kept Delays kept new numbers short same limits = delays-kept kept new numbers same limits
+keyword-kept Signals kept new numbers short same limits = signal-kept kept new numbers same limits
+keyword-kept Dump kept new numbers short same limits = dump-kept kept new numbers same limits
+keyword-kept Snap kept new numbers short same limits = snap-kept kept new numbers short same limits
+keyword-kept Back kept new numbers short same limits = back-kept kept new numbers same limits
+keyword-kept Listing kept new numbers short same limits = list-kept kept new numbers same limits
+keyword-kept Trace kept new numbers short same limits = trace-kept kept new numbers same limits
+keyword-kept Time kept new numbers short same limits = time-kept kept new numbers same limits
+keyword-kept Chart kept new numbers short same limits = chart-kept kept new numbers same limits
+
+good-short : (a b : Bool) (v n : ℕ) → nat_le v 999999999999 ≡ b →
+    good (if a then (if b then Good v else Large) else Bad) ≡ Some n → is_tick n ≡ true
+good-short true true v n test same =
+    let number : v ≡ n = cc in
+    ap is_tick (sym number) ∙ test
+good-short true false v n test same = cc
+good-short false b v n test same = cc
+
+-- a number of a control card has 12 digits at most
+number-short : (word : List ℕ) (n : ℕ) → number_in word ≡ Some n → is_tick n ≡ true
+number-short word n same =
+    let read : (b : Bool) → (if b then None else good (reading 999999999999 word)) ≡ Some n → is_tick n ≡ true =
+    λ b. elim b as (λ v. (if v then None else good (reading 999999999999 word)) ≡ Some n → is_tick n ≡ true) [
+      | true ↦ λ e. cc
+      | false ↦ λ e. good-short (is_number word) (nat_le (value word) 999999999999) (value word) n refl e
+    ] in
+    read (nat_lt 12 (length word)) same
+
+before-parts : (o : Option ℕ) (os : Option (List ℕ)) (numbers : List ℕ) → before o os ≡ Some numbers →
+    (n : ℕ) × ((ns : List ℕ) × ((o ≡ Some n) × (os ≡ Some ns) × (n ∷ ns ≡ numbers)))
+before-parts (Some n) (Some ns) numbers same = (n, (ns, (refl, refl, cc)))
+before-parts (Some n) None numbers same = cc
+before-parts None os numbers same = cc
+
+-- so each of its numbers has
+numbers-short : (words : List (List ℕ)) (numbers : List ℕ) → numbers_in words ≡ Some numbers → AllPass is_tick numbers
+numbers-short [] numbers same =
+    let none : [] ≡ numbers = cc in
+    subst (λ (ns : List ℕ). AllPass is_tick ns) none (λ k d within. absurd (omega (arith, within)))
+numbers-short (word ∷ more) numbers same =
+    let parts = before-parts (number_in word) (numbers_in more) numbers same in
+    let later = numbers-short more parts.1.0 parts.1.1.1 in
+    subst (λ (ns : List ℕ). AllPass is_tick ns) parts.1.1.2
+    (All-append (λ t. is_tick t ≡ true) (parts.0 ∷ []) parts.1.0 (only is_tick parts.0 (number-short word parts.0 parts.1.1.0)) later)
+
+chained : {X Y : Type 0} (f : X → Option Y) (o : Option X) (y : Y) → option_and_then f o ≡ Some y →
+    (x : X) × ((o ≡ Some x) × (f x ≡ Some y))
+chained f None y same = cc
+chained f (Some x) y same = (x, (refl, same))
+
+words-kept : (kept new : Asked) (words : List (List ℕ)) → spec.with_words kept words ≡ Some new →
+    IsWithinLimits kept → IsWithinLimits new
+words-kept kept new [] same limits = cc
+words-kept kept new (word ∷ more) same limits =
+    let outer = chained _ (row_of word spec.keywords) new same in
+    let inner = chained _ (numbers_in more) new outer.1.1 in
+    keyword-kept outer.0 kept new inner.0 (numbers-short more inner.0 inner.1.0) inner.1.1 limits
+
+-- adding a control card keeps the limits
+pub added-kept : (kept new : Asked) (text : List ℕ) → spec.added kept text ≡ Some new → IsWithinLimits kept → IsWithinLimits new
+added-kept kept new text same limits = words-kept kept new (words (columns text)) same limits

@@ -1,0 +1,7 @@
+pub mod DigitLemmas
+pub mod ListLemmas
+pub mod LoopLemmas
+pub mod PartLemmas
+pub mod RecodeLemmas
+pub mod ShapeLemmas
+pub mod ResultLaws

@@ -1,0 +1,73 @@
+-- The digits of a decimal field, each a byte of a zone and a code, and those of the accumulator.
+use Rattle.std.specs.Prelude.{ℕ, ◌≡◌, ◌+◌, ◌*◌, ◌/◌, ◌%◌, ◌≤◌, nat_lt, Bool, List, [], ◌∷◌, ◌++◌, map, take, drop, replicate}
+use Rattle.std.specs.List.{list_any}
+use Rattle.st_bin.specs.declared.accumulator.Acc.{Acc}
+use Rattle.st_bin.specs.declared.fields.Field.{Field}
+use Rattle.st_bin.specs.declared.fields.Shape.{Shape}
+use Rattle.st_bin.specs.BinaryOperand.{IsShape, magnitude_bits}
+use Rattle.st_dec.specs.DigitLists.{bytes, value}
+
+-- a shape that a decimal operation can have: whole bytes, each with room for a code
+pub record IsDecimalShape (h : Shape) : Type 0 where
+  pub shape : IsShape h
+  pub code : 4 ≤ h.byte
+  pub whole : h.length % h.byte ≡ 0
+
+-- how many digits a field has
+abbrev pub digit_count : Shape → ℕ
+digit_count h = magnitude_bits h / h.byte
+
+-- its bytes, and the code of each: the last four bits
+abbrev pub digit_bytes : Field → Shape → List ℕ
+digit_bytes f h = bytes h.byte (digit_count h) f.mag
+
+abbrev pub codes : Field → Shape → List ℕ
+codes f h = map (λ d. d % 16) (digit_bytes f h)
+
+-- its value without the sign; codes 10 to 15 count as such
+abbrev pub field_value : Field → Shape → ℕ
+field_value f h = value (codes f h)
+
+-- bytes with other codes; their zones stay
+unfoldable pub recoded : List ℕ → List ℕ → List ℕ
+recoded [] cs = []
+recoded (d ∷ ds) [] = []
+recoded (d ∷ ds) (c ∷ cs) = (d / 16 * 16 + c) ∷ recoded ds cs
+
+-- codes with one zone before each
+abbrev pub zoned : ℕ → List ℕ → List ℕ
+zoned zone cs = map (λ c. zone * 16 + c) cs
+
+-- the digit of the accumulator at which the last digit of the field stands
+abbrev pub place : Shape → ℕ
+place h = h.offset / 4
+
+-- the 32 codes of the accumulator, and those from that digit on
+abbrev pub acc_codes : Acc → List ℕ
+acc_codes a = bytes 4 32 a.mag
+
+abbrev pub codes_from_place : Acc → Shape → List ℕ
+codes_from_place a h = drop (place h) (acc_codes a)
+
+-- as many of these as the field has digits; past the 32nd digit there are zeros
+abbrev pub field_codes : Acc → Shape → List ℕ
+field_codes a h = take (digit_count h) (codes_from_place a h ++ replicate (digit_count h) 0)
+
+-- those that it leaves out at the left
+abbrev pub codes_left_out : Acc → Shape → List ℕ
+codes_left_out a h = drop (digit_count h) (codes_from_place a h)
+
+-- the codes of the operand with its last digit at that place, and zeros below
+abbrev pub moved : Field → Shape → List ℕ
+moved f h = replicate (place h) 0 ++ codes f h
+
+-- those that the accumulator has room for, and those that are lost
+abbrev pub placed : Field → Shape → List ℕ
+placed f h = take 32 (moved f h)
+
+abbrev pub lost : Field → Shape → List ℕ
+lost f h = drop 32 (moved f h)
+
+-- whether one of the codes is not zero
+abbrev pub any_code : List ℕ → Bool
+any_code cs = list_any (λ c. nat_lt 0 c) cs

@@ -1,0 +1,22 @@
+-- Digits as lists, that of place 0 first.
+use Rattle.std.specs.Prelude.{ℕ, zero, suc, ◌+◌, ◌*◌, ◌/◌, ◌%◌, ◌^◌, List, [], ◌∷◌}
+
+-- the n lowest bytes, b bits each, of a number
+unfoldable pub bytes : ℕ → ℕ → ℕ → List ℕ
+bytes b zero x = []
+bytes b (suc n) x = (x % 2 ^ b) ∷ bytes b n (x / 2 ^ b)
+
+-- the number that has these bytes
+unfoldable pub joined : ℕ → List ℕ → ℕ
+joined b [] = 0
+joined b (d ∷ ds) = d + 2 ^ b * joined b ds
+
+-- the value of a list of codes: the sum of code times 10 ^ place
+unfoldable pub value : List ℕ → ℕ
+value [] = 0
+value (c ∷ cs) = c + 10 * value cs
+
+-- the n lowest decimal digits of a number
+unfoldable pub decimal : ℕ → ℕ → List ℕ
+decimal zero v = []
+decimal (suc n) v = (v % 10) ∷ decimal n (v / 10)

@@ -1,0 +1,3 @@
+pub mod DigitLists
+pub mod DecimalOperand
+pub mod DecimalResult

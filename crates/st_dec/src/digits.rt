@@ -1,0 +1,69 @@
+//! Digits. Each byte of a decimal field is one, a zone and a code; in the accumulator, as in `codes`, a digit is a code.
+//!
+//! ```text
+//! field, byte of 8   zzzzcccc zzzzcccc zzzzcccc
+//! field, byte of 5   zcccc zcccc zcccc
+//! codes              cccccccccccc
+//! ```
+ghost use Rattle.std.specs.Prelude.{◌≡◌, ◌-◌, ◌*◌, ◌<◌, ◌≤◌, ◌^◌};
+ghost use Rattle.st_bin.specs.BinaryOperand.{HasRoom, magnitude_bits as magnitude_bits_of};
+ghost use Rattle.st_dec.specs.DigitLists.{bytes, joined};
+ghost use Rattle.st_dec.specs.DecimalOperand.{IsDecimalShape, digit_count as digit_count_of, digit_bytes, codes as codes_of};
+ghost use Rattle.st_dec.specs.DecimalOperand.{zoned, recoded as recoded_of};
+
+use st_bin::fields::{Field, Shape, magnitude_bits};
+
+/// How many digits a field has.
+#[tactic(auto, using(crate::proofs::ShapeLemmas::count_rules))]
+pub fn digit_count(shape: &Shape) -> u8
+    requires { IsDecimalShape shape.now }
+    ensures value { result ≡ digit_count_of shape.now }
+    ensures few { result ≤ 16 }
+    ensures bits { shape.now.byte * result ≤ 64 }
+    ensures whole { shape.now.byte * result ≡ magnitude_bits_of shape.now }
+{
+    magnitude_bits(shape) / shape.byte
+}
+
+/// The codes of a field's digits, four bits each.
+pub fn codes(f: &Field, shape: &Shape) -> u64
+    requires { IsDecimalShape shape.now }
+    ensures value { result ≡ joined 4 (codes_of f.now shape.now) }
+{
+    let mut codes = 0;
+    let mut rest = f.mag;
+    for place in 0..digit_count(shape) {
+        codes += rest % 16 << (4 * place);
+        rest >>= shape.byte;
+    }
+    codes
+}
+
+/// The magnitude of a field whose digits have these codes, four bits each, with one zone before each of them.
+pub fn spread(codes: u64, zone: u64, shape: &Shape) -> u64
+    requires shape { IsDecimalShape shape.now }
+    requires zone { zone < 2 ^ (shape.now.byte - 4) }
+    ensures value { result ≡ joined shape.now.byte
+        (zoned zone (bytes 4 (digit_count_of shape.now) codes)) }
+    ensures fits { result < 2 ^ magnitude_bits_of shape.now }
+{
+    let mut mag = 0;
+    let mut rest = codes;
+    for place in 0..digit_count(shape) {
+        mag += (zone * 16 + rest % 16) << (shape.byte * place);
+        rest /= 16;
+    }
+    mag
+}
+
+/// The magnitude of a field whose digits get other codes, four bits each; the zones stay.
+pub fn recoded(f: &Field, new_codes: u64, shape: &Shape) -> u64
+    requires shape { IsDecimalShape shape.now }
+    requires room { HasRoom f.now shape.now }
+    ensures value { result ≡ joined shape.now.byte
+        (recoded_of (digit_bytes f.now shape.now) (bytes 4 (digit_count_of shape.now) new_codes)) }
+    ensures fits { result < 2 ^ magnitude_bits_of shape.now }
+{
+    let zones = f.mag - spread(codes(f, shape), 0, shape);
+    zones + spread(new_codes, 0, shape)
+}

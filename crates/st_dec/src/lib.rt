@@ -1,0 +1,18 @@
+//! Decimal operations on fields: what each makes of the accumulator, the field, the registers and the indicators.
+//! `docs/variable-fields.md` has the rules.
+#![tactic(auto)]
+
+mod accumulator;
+mod compares;
+mod digits;
+mod loads;
+mod operand;
+mod operations;
+mod outcome;
+mod stores;
+mod sums;
+
+pub use operations::decimal;
+
+#[cfg(test)]
+mod tests;

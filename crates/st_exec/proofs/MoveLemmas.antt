@@ -1,0 +1,53 @@
+-- Words that are copied or exchanged one after the other: what is left to be done after k of n.
+use Rattle.std.proofs.Common.{◌≡◌, ℕ, zero, suc, ◌+◌, ◌-◌, ◌<◌, ◌≤◌, refl, sym, ◌∙◌, ap, arith}
+use Rattle.st_state.specs.Machine.{Machine, word, stored}
+use Rattle.st_exec.specs.Deed.{copied, exchanged}
+
+-- a move from and to word addresses, of so many words
+abbrev pub Move : Type 0
+Move = ℕ → ℕ → ℕ → Machine → Machine
+
+-- the rest of a move
+abbrev pub rest : Move → ℕ → ℕ → ℕ → ℕ → Machine → Machine
+rest move from to n k t = move (from + k) (to + k) (n - k) t
+
+rest-next : (move : Move) (from to n k : ℕ) (t : Machine)
+    → move (from + k + 1) (to + k + 1) (n - (k + 1)) t ≡ rest move from to n (k + 1) t
+rest-next move from to n k t =
+    let first : from + k + 1 ≡ from + (k + 1) = omega arith in
+    let second : to + k + 1 ≡ to + (k + 1) = omega arith in
+    ap (λ a. move a (to + k + 1) (n - (k + 1)) t) first ∙ ap (λ a. move (from + (k + 1)) a (n - (k + 1)) t) second
+
+pub rest-copied : (from to n k : ℕ) (t : Machine) → k < n
+    → rest copied from to n (k + 1) (stored t (to + k) (word t (from + k))) ≡ rest copied from to n k t
+unfolding copied
+rest-copied from to n k t h =
+    let size : suc (n - (k + 1)) ≡ n - k = omega arith in
+    sym (rest-next copied from to n k (stored t (to + k) (word t (from + k))))
+    ∙ ap (λ m. copied (from + k) (to + k) m t) size
+
+pub rest-exchanged : (from to n k : ℕ) (t : Machine) → k < n
+    → rest exchanged from to n (k + 1) (stored (stored t (from + k) (word t (to + k))) (to + k) (word t (from + k)))
+    ≡ rest exchanged from to n k t
+unfolding exchanged
+rest-exchanged from to n k t h =
+    let size : suc (n - (k + 1)) ≡ n - k = omega arith in
+    sym (rest-next exchanged from to n k (stored (stored t (from + k) (word t (to + k))) (to + k) (word t (from + k))))
+    ∙ ap (λ m. exchanged (from + k) (to + k) m t) size
+
+-- nothing is left at the end
+copied-none : (from to m : ℕ) (t : Machine) → m ≡ 0 → copied from to m t ≡ t
+unfolding copied
+copied-none from to zero t e = refl
+copied-none from to (suc m) t e = absurd (omega arith)
+
+exchanged-none : (from to m : ℕ) (t : Machine) → m ≡ 0 → exchanged from to m t ≡ t
+unfolding exchanged
+exchanged-none from to zero t e = refl
+exchanged-none from to (suc m) t e = absurd (omega arith)
+
+pub rest-copied_all : (from to n k : ℕ) (t : Machine) → n ≤ k → rest copied from to n k t ≡ t
+rest-copied_all from to n k t h = copied-none (from + k) (to + k) (n - k) t (omega arith)
+
+pub rest-exchanged_all : (from to n k : ℕ) (t : Machine) → n ≤ k → rest exchanged from to n k t ≡ t
+rest-exchanged_all from to n k t h = exchanged-none (from + k) (to + k) (n - k) t (omega arith)

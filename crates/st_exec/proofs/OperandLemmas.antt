@@ -1,0 +1,61 @@
+-- Operands: the words that were read hold the field that stands in storage.
+use Rattle.std.proofs.Common.{◌≡◌, ℕ, ◌+◌, ◌-◌, ◌*◌, ◌/◌, ◌%◌, ◌<◌, ◌≤◌, ◌^◌, List, [], ◌∷◌, length, Bool, true, false, if◌then◌else◌, refl, sym, ◌∙◌, ap, arith, get_or}
+use Rattle.std.specs.Prelude.{nat_le}
+use Rattle.std.proofs.lemmas.Bool.{leb-true}
+use Rattle.st_bits.specs.Bits.{all_bits, field, num, part}
+use Rattle.st_bits.proofs.WordFields.{num-at_word, num-at_two}
+use Rattle.st_state.specs.Machine.{Machine, word}
+use Rattle.st_prep.specs.Entry.{field_words}
+use Rattle.st_exec.specs.Operand.{AreRead}
+
+-- ---- windows
+
+-- a field of storage within one word, which is x
+pub field-one : (ws : List ℕ) (a n x : ℕ) → 1 ≤ n → a % 64 + n ≤ 64 → a + n ≤ 64 * length ws → x ≡ get_or ws (a / 64) 0
+    → num (field (all_bits (x ∷ [])) (a % 64) n) ≡ num (field (all_bits ws) a n)
+field-one ws a n x some le inside read =
+    let none : a % 64 / 64 ≡ 0 = omega arith in
+    let same : a % 64 % 64 ≡ a % 64 = omega arith in
+    num-at_word (x ∷ []) (a % 64) n some (omega arith) (omega arith)
+    ∙ ap (λ k. part (get_or (x ∷ []) k 0) (a % 64 % 64) n) none
+    ∙ ap (λ k. part x k n) same
+    ∙ ap (λ y. part y (a % 64) n) read
+    ∙ sym (num-at_word ws a n some le inside)
+
+-- a field of storage over the border of two words, which are x and y
+pub field-two : (ws : List ℕ) (a n x y : ℕ) → 64 < a % 64 + n → n ≤ 64 → a + n ≤ 64 * length ws
+    → x ≡ get_or ws (a / 64) 0 → y ≡ get_or ws (a / 64 + 1) 0
+    → num (field (all_bits (x ∷ y ∷ [])) (a % 64) n) ≡ num (field (all_bits ws) a n)
+field-two ws a n x y over few inside read next =
+    let none : a % 64 / 64 ≡ 0 = omega arith in
+    let same : a % 64 % 64 ≡ a % 64 = omega arith in
+    let f = λ (u v k : ℕ). part u k (64 - k) * 2 ^ (n - (64 - k)) + part v 0 (n - (64 - k)) in
+    num-at_two (x ∷ y ∷ []) (a % 64) n (omega arith) few (omega arith)
+    ∙ ap (λ k. f (get_or (x ∷ y ∷ []) k 0) (get_or (x ∷ y ∷ []) (k + 1) 0) (a % 64 % 64)) none
+    ∙ ap (λ k. f x y k) same
+    ∙ ap (λ u. f u y (a % 64)) read
+    ∙ ap (λ v. f (get_or ws (a / 64) 0) v (a % 64)) next
+    ∙ sym (num-at_two ws a n over few inside)
+
+-- ---- the words of a field
+
+some_word : (b : Bool) → 0 < (if b then 1 else 2)
+some_word true = omega arith
+some_word false = omega arith
+
+two_words : (m : ℕ) (b : Bool) → nat_le m 64 ≡ b → 64 < m → 1 < (if b then 1 else 2)
+two_words m true e over = let le : m ≤ 64 = leb-true m 64 e in omega arith
+two_words m false e over = omega arith
+
+pub read-first : (a n : ℕ) (operands : List ℕ) (t : Machine) → AreRead (field_words a n) operands t → 32 ≤ a / 64
+    → get_or operands 0 0 ≡ word t (a / 64)
+unfolding field_words
+read-first a n operands t r above =
+    let place : a / 64 + 0 ≡ a / 64 = omega arith in
+    r.first 0 (some_word (nat_le (a % 64 + n) 64)) (omega arith) ∙ ap (word t) place
+
+pub read-next : (a n : ℕ) (operands : List ℕ) (t : Machine) → AreRead (field_words a n) operands t → 64 < a % 64 + n
+    → 32 ≤ a / 64 + 1 → get_or operands 1 0 ≡ word t (a / 64 + 1)
+unfolding field_words
+read-next a n operands t r over above =
+    r.first 1 (two_words (a % 64 + n) (nat_le (a % 64 + n) 64) refl over) above

@@ -1,0 +1,114 @@
+-- What the parts of a step leave as it was: the number done, and words that they do not name.
+use Rattle.std.proofs.Common.{◌≡◌, ◌≢◌, ℕ, zero, suc, ◌+◌, ◌<◌, ◌≤◌, Bool, true, false, List, Option, None, Some, refl, sym, ◌∙◌, arith, get_or-set_other}
+use Rattle.std.specs.Prelude.{IfSome}
+use Rattle.st_bits.specs.Registers.{fixed}
+use Rattle.st_state.specs.Machine.{Machine, word, stored}
+use Rattle.st_state.specs.declared.devices.Order.{Order}
+use Rattle.st_prep.specs.declared.entries.IndexChange.{IndexChange}
+use Rattle.st_prep.specs.declared.entries.Prepared.{Prepared}
+use Rattle.st_prep.specs.Plan.{opened}
+use Rattle.st_prep.specs.Ranges.{IsChange, IsPrepared}
+use Rattle.st_prep.proofs.Choices.{of_choice}
+use Rattle.st_exec.specs.Operand.{AreOperands, AreRead}
+use Rattle.st_exec.specs.Outcome.{with_register, with_registers, with_field, settled}
+use Rattle.st_exec.specs.declared.outcomes.Outcome.{Outcome}
+use Rattle.st_exec.specs.Deed.{copied, exchanged, with_order, given, done}
+use Rattle.st_exec.specs.Completion.{with_change, early}
+use Rattle.st_exec.specs.declared.deeds.Deed.{Deed}
+use Rattle.st_exec.specs.declared.deeds.Deed.TheVariants.{Rest, Put, Copy, Exchange, TurnOff, Enable, Wait, Give, Settle}
+
+-- ---- the number done
+
+pub opened-done : (table : Option ℕ) (s : Machine) → (opened table s).done ≡ s.done
+opened-done None s = refl
+opened-done (Some i) s = refl
+
+with_change-done : (c : Option IndexChange) (s : Machine) → (with_change c s).done ≡ s.done
+with_change-done None s = refl
+with_change-done (Some c) s = refl
+
+pub early-done : (p : Prepared) (s : Machine) → (early p s).done ≡ s.done
+unfolding early
+early-done p s = with_change-done p.index s
+
+copied-done : (from to n : ℕ) (t : Machine) → (copied from to n t).done ≡ t.done
+unfolding copied
+copied-done from to zero t = refl
+copied-done from to (suc n) t = copied-done (from + 1) (to + 1) n (stored t to (word t from))
+
+exchanged-done : (from to n : ℕ) (t : Machine) → (exchanged from to n t).done ≡ t.done
+unfolding exchanged
+exchanged-done from to zero t = refl
+exchanged-done from to (suc n) t =
+    exchanged-done (from + 1) (to + 1) n (stored (stored t from (word t to)) to (word t from))
+
+with_order-done : (write : Bool) (order : Order) (t : Machine) → (with_order write order t).done ≡ t.done
+with_order-done false order t = refl
+with_order-done true order t = refl
+
+given-done : (write : Bool) (order : Order) (t : Machine) → (given write order t).done ≡ t.done
+given-done write order t = of_choice (λ (u : Machine). u.done ≡ t.done) _ _ _ refl (with_order-done write order t)
+
+with_register-done : (w : ℕ) (x : Option ℕ) (t : Machine) → (with_register w x t).done ≡ t.done
+with_register-done w None t = refl
+with_register-done w (Some x) t = refl
+
+with_registers-done : (o : Outcome) (t : Machine) → (with_registers o t).done ≡ t.done
+unfolding with_registers
+with_registers-done o t =
+    with_register-done 7 o.counts _
+    ∙ with_register-done 15 o.done.tr _
+    ∙ with_register-done 14 o.done.ft _
+    ∙ with_register-done 13 o.done.rm _
+
+with_field-done : (f : Option ℕ) (a n : ℕ) (t : Machine) → (with_field f a n t).done ≡ t.done
+with_field-done None a n t = refl
+with_field-done (Some x) a n t = refl
+
+settled-done : (o : Outcome) (a n : ℕ) (t : Machine) → (settled o a n t).done ≡ t.done
+unfolding settled
+settled-done o a n t = with_field-done o.done.field a n _ ∙ with_registers-done o t
+
+pub done-done : (d : Deed) (t : Machine) → (done d t).done ≡ t.done
+unfolding done
+done-done Rest t = refl
+done-done (Put a n v) t = refl
+done-done (Copy from to n) t = copied-done from to n t
+done-done (Exchange from to n) t = exchanged-done from to n t
+done-done (TurnOff i) t = refl
+done-done (Enable enabled) t = refl
+done-done Wait t = refl
+done-done (Give write order) t = given-done write order t
+done-done (Settle outcome a n) t = settled-done outcome a n t
+
+-- ---- words above the registers, before the operands are read
+
+pub stored-other : (s : Machine) (w x i : ℕ) → i ≢ w → word (stored s w x) i ≡ word s i
+stored-other s w x i other = get_or-set_other s.words w i (fixed w x) 0 other
+
+pub opened-above : (table : Option ℕ) (s : Machine) (i : ℕ) → 32 ≤ i → word (opened table s) i ≡ word s i
+opened-above None s i above = refl
+opened-above (Some k) s i above = get_or-set_other s.words 11 i _ 0 (omega arith)
+
+with_change-above : (c : Option IndexChange) (s : Machine) (i : ℕ) → IfSome c IsChange → 32 ≤ i
+    → word (with_change c s) i ≡ word s i
+with_change-above None s i h above = refl
+with_change-above (Some c) s i h above =
+    let number : c.number < 16 = h.number in stored-other s (16 + c.number) c.word i (omega arith)
+
+pub early-above : (p : Prepared) (s : Machine) (i : ℕ) → IfSome p.index IsChange → 32 ≤ i
+    → word (early p s) i ≡ word s i
+unfolding early
+early-above p s i h above =
+    get_or-set_other (with_change p.index s).words 11 i _ 0 (omega arith) ∙ with_change-above p.index s i h above
+
+-- the operands are those of the state that the early change leaves, but for registers
+pub operands-read : (p : Prepared) (operands : List ℕ) (s : Machine) → IsPrepared p → AreOperands p.reads operands s
+    → AreRead p.reads operands (early p (opened p.place.table s))
+operands-read p operands s h r =
+    let same : (i : ℕ) → 32 ≤ i → word s i ≡ word (early p (opened p.place.table s)) i =
+    λ i above. sym (early-above p (opened p.place.table s) i h.change above ∙ opened-above p.place.table s i above) in
+    record {
+      first = λ k some above. r.first k some ∙ same (p.reads.first + k) above;
+      second = λ k some above. r.second k some ∙ same (p.reads.first2 + k) above;
+    }

@@ -1,0 +1,10 @@
+use Rattle.std.proofs.Common.{◌≡◌, ap, ◌∙◌, arith}
+use Rattle.st_state.specs.Machine.{Machine}
+use Rattle.st_exec.proofs.Unchanged.{done-done}
+use Rattle.st_exec.proofs.completing.finish.Goals as goal
+
+pub count-requires-2-clause-few : goal.count-requires-2-clause-few
+count-requires-2-clause-few c =
+    let same : c.carry_out.new.state.done ≡ c.args.state.now.done =
+    ap (λ (t : Machine). t.done) c.carry_out.ensures ∙ done-done c.deed_by.result c.args.state.now in
+    omega arith

@@ -1,0 +1,33 @@
+-- What an entry that is not done alone leaves of a state, so that entries behind it can be prepared before it is done.
+use Rattle.std.specs.Prelude.{ℕ, ◌≡◌, ◌+◌, ◌<◌, ◌≤◌, ◌⊎◌, Bool, true, false, length}
+use Rattle.st_format.specs.declared.instruction.Instr.{Instr}
+use Rattle.st_format.specs.declared.instruction.Instr.TheVariants.{IndBranch}
+use Rattle.st_state.specs.Machine.{Machine, word}
+use Rattle.st_prep.specs.declared.entries.Words.{Words}
+use Rattle.st_prep.specs.declared.entries.Prepared.{Prepared}
+use Rattle.st_prep.specs.EarlyChange.{words_after}
+use Rattle.st_prep.specs.Fetch.{index_words}
+
+-- word i is none of the words
+pub record IsNotAmong (i : ℕ) (w : Words) : Type 0 where
+  pub first : (i < w.first) ⊎ (w.first + w.len ≤ i)
+  pub second : (i < w.first2) ⊎ (w.first2 + w.len2 ≤ i)
+
+-- a state after an entry: the index words of its early change, each word from 32 up that it does not write, the
+-- boundary register and the mask, the marks and the orders, and one more done
+pub record IsPast (p : Prepared) (s t : Machine) : Type 0 where
+  pub size : length t.words ≡ length s.words
+  pub index : index_words t ≡ words_after (index_words s) p.index
+  pub storage : (w : ℕ) → 32 ≤ w → IsNotAmong w p.writes → word t w ≡ word s w
+  pub low : (w : ℕ) → w < 7 → word t w ≡ word s w
+  pub mask : word t 12 ≡ word s 12
+  pub enabled : t.enabled ≡ s.enabled
+  pub waiting : t.waiting ≡ s.waiting
+  pub reader : t.reader ≡ s.reader
+  pub printer : t.printer ≡ s.printer
+  pub done : t.done ≡ s.done + 1
+
+-- BI
+abbrev pub is_indicator_branch : Instr → Bool
+is_indicator_branch (IndBranch sense off address i second) = true
+is_indicator_branch _ = false

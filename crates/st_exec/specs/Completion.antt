@@ -1,0 +1,75 @@
+-- What an entry that is prepared makes of a state: its early change, its deed, and the counter after it.
+use Rattle.std.specs.Prelude.{ℕ, ◌+◌, ◌%◌, Bool, false, not, ◌&&◌, ◌==◌, if◌then◌else◌, Option, None, Some}
+use Rattle.st_bits.specs.Bits.{part}
+use Rattle.st_format.specs.Formats.{bit_of}
+use Rattle.st_format.specs.declared.instruction.Instr.{Instr}
+use Rattle.st_format.specs.declared.instruction.Instr.TheVariants.{BitBranch, IndBranch}
+use Rattle.st_state.specs.Machine.{Machine, word, stored}
+use Rattle.st_state.specs.Interrupts.{applied}
+use Rattle.st_prep.specs.declared.entries.IndexChange.{IndexChange}
+use Rattle.st_prep.specs.declared.entries.Prepared.{Prepared}
+use Rattle.st_prep.specs.Plan.{opened, plan}
+use Rattle.st_exec.specs.Operand.{field_at}
+use Rattle.st_exec.specs.Deed.{deed, done}
+
+-- ---- before the operands are read
+
+-- an index word is changed
+abbrev pub with_change : Option IndexChange → Machine → Machine
+with_change None s = s
+with_change (Some c) s = stored s (16 + c.number) c.word
+
+-- and then the indicators, or the one of a fault
+unfoldable pub early : Prepared → Machine → Machine
+early p s = applied p.ind (with_change p.index s)
+
+-- ---- the counter
+
+-- whether a branch on a bit or on an indicator is taken: where what it tests equals its sense
+unfoldable pub is_taken : Instr → ℕ → Machine → Bool
+is_taken (BitBranch sense change address i second) e t = field_at t e 1 == bit_of sense
+is_taken (IndBranch sense off address i second) e t = part (word t 11) (e % 64) 1 == bit_of sense
+is_taken _ e t = false
+
+-- where it branches to
+unfoldable pub target : Instr → ℕ → ℕ
+target (BitBranch sense change address i second) following = second
+target (IndBranch sense off address i second) following = second
+target _ following = following
+
+abbrev pub counter : Prepared → Machine → ℕ
+counter p t = if is_taken p.instr p.e t then target p.instr p.following else p.following
+
+-- an instruction is done, and the counter is h
+abbrev pub counted : Machine → ℕ → Machine
+counted s h = record s { ic = h; done = s.done + 1 }
+
+-- ---- the whole
+
+-- the deed, and then the counter; of a suppressed entry the counter alone
+unfoldable pub finished : Prepared → Machine → Machine
+finished p t =
+    if p.suppressed then counted t p.following
+    else counted (done (deed p t) t) (counter p t)
+
+-- an entry is completed; where it is a table instruction, its interrupt is taken first
+unfoldable pub completed : Prepared → Machine → Machine
+completed p s = finished p (early p (opened p.place.table s))
+
+-- the next entry of a state, or its table instruction, is executed
+abbrev pub executed : Option ℕ → Machine → Machine
+executed table s = completed (plan s table) s
+
+-- ---- the guess that the next entry is prepared by
+
+-- a branch on an indicator is not taken; entries that are done alone need no guess
+unfoldable pub guessed : Prepared → Machine → Machine
+guessed p s = if p.serial then completed p s else record (completed p s) { ic = p.following }
+
+abbrev pub guess : Option ℕ → Machine → Machine
+guess table s = guessed (plan s table) s
+
+-- whether the guess was wrong
+unfoldable pub is_missed : Prepared → Machine → Bool
+is_missed p s =
+    not p.serial && not p.suppressed && is_taken p.instr p.e (early p (opened p.place.table s))

@@ -1,0 +1,28 @@
+-- What an operation takes: a field of storage or the address itself, and the accumulator.
+use Rattle.std.specs.Prelude.{ℕ, ◌≡◌, ◌+◌, ◌*◌, ◌<◌, ◌≤◌, ◌^◌, ◌==◌, List, slice_index, if◌then◌else◌}
+use Rattle.st_bits.specs.Bits.{all_bits, field, num, part}
+use Rattle.st_state.specs.Machine.{Machine, word}
+use Rattle.st_bin.specs.declared.accumulator.Acc.{Acc}
+use Rattle.st_prep.specs.declared.entries.Words.{Words}
+
+-- the words of two runs, in order, are those of a state
+pub record AreOperands (w : Words) (operands : List ℕ) (s : Machine) : Type 0 where
+  pub first : (k : ℕ) → k < w.len → slice_index operands k ≡ word s (w.first + k)
+  pub second : (k : ℕ) → k < w.len2 → slice_index operands (w.len + k) ≡ word s (w.first2 + k)
+
+-- the same of the words above the registers, which the entry itself may change before its operands are read
+pub record AreRead (w : Words) (operands : List ℕ) (t : Machine) : Type 0 where
+  pub first : (k : ℕ) → k < w.len → 32 ≤ w.first + k → slice_index operands k ≡ word t (w.first + k)
+  pub second : (k : ℕ) → k < w.len2 → 32 ≤ w.first2 + k → slice_index operands (w.len + k) ≡ word t (w.first2 + k)
+
+-- the number of the n bits of storage from bit a on
+abbrev pub field_at : Machine → ℕ → ℕ → ℕ
+field_at s a n = num (field (all_bits s.words) a n)
+
+-- the operand of n bits at bit e; in form 1 it is the first n bits of e itself, which has 24 bits
+abbrev pub operand : ℕ → ℕ → ℕ → Machine → ℕ
+operand p e n s = if p == 1 then part e 40 n else field_at s e n
+
+-- the accumulator and its sign byte
+abbrev pub accumulator : Machine → Acc
+accumulator s = record { mag = word s 8 * 2 ^ 64 + word s 9; sb = part (word s 10) 0 8 }

@@ -1,0 +1,115 @@
+//! The second half of an instruction: what it does once its operands are there.
+ghost use Rattle.std.specs.Prelude.{◌≡◌, ℕ, ◌<◌, ◌^◌, false, Option};
+ghost use Rattle.st_prep.specs.Entry.{reads};
+ghost use Rattle.st_prep.specs.Plan.{plan};
+ghost use Rattle.st_prep.specs.Ranges.{IsPrepared, HasFields, AreInside};
+ghost use Rattle.st_exec.specs.Operand.{AreOperands, AreRead};
+ghost use Rattle.st_exec.specs.Deed.{deed, done};
+ghost use Rattle.st_exec.specs.Completion.{is_taken as is_taken_of, target as target_of, counter as counter_of, counted, finished, completed, executed};
+
+use crate::deeds::deed_by;
+use crate::early::{change_early, take};
+use crate::effects::carry_out;
+use crate::operands::operand_field;
+use st_bits::part;
+use st_format::Instr;
+use st_prep::{Prepared, Words};
+use st_state::State;
+
+/// The address of the indicator register.
+const INDICATORS: u32 = 11;
+
+/// Whether a branch on a bit or on an indicator is taken.
+#[tactic(auto, unfolding(crate::specs::Completion::is_taken), using(st_bits::specs::Storage::words_of_storage_is))]
+fn is_taken(instr: Instr, e: u32, operands: &[u64; 32], state: &State) -> bool
+    requires inside { AreInside (reads instr e) }
+    requires read { AreRead (reads instr e) operands.now state.now }
+    ensures { result ≡ is_taken_of instr e state.now }
+{
+    match instr {
+        Instr::BitBranch { sense, .. } => {
+            operand_field(operands, e, 1, state) == u64::from(sense)
+        }
+        Instr::IndBranch { sense, .. } => {
+            part(state.word(INDICATORS), e % 64, 1) == u64::from(sense)
+        }
+        _ => false,
+    }
+}
+
+/// Where it branches to; another instruction goes on at `following`.
+#[tactic(auto, unfolding(crate::specs::Completion::target))]
+fn target(instr: Instr, following: u32) -> u32
+    requires fields { HasFields instr }
+    requires following { following < 2 ^ 19 }
+    ensures value { result ≡ target_of instr following }
+    ensures bound { result < 2 ^ 19 }
+{
+    match instr {
+        Instr::BitBranch { second, .. } | Instr::IndBranch { second, .. } => second,
+        _ => following,
+    }
+}
+
+/// The counter after an entry that is not suppressed.
+fn counter(p: &Prepared, operands: &[u64; 32], state: &State) -> u32
+    requires prepared { IsPrepared p.now }
+    requires executed { p.now.suppressed ≡ false }
+    requires read { AreRead p.now.reads operands.now state.now }
+    ensures value { result ≡ counter_of p.now state.now }
+    ensures bound { result < 2 ^ 19 }
+{
+    if is_taken(p.instr, p.e, operands, state) {
+        target(p.instr, p.following)
+    } else {
+        p.following
+    }
+}
+
+/// Counts an instruction as done, the counter being the half-word address `h` after it.
+fn count(state: &mut State, h: u32)
+    requires counter { h < 2 ^ 19 }
+    requires few { state.old.done < 2 ^ 63 }
+    ensures { state.new ≡ counted state.old h }
+{
+    state.ic = h;
+    state.done += 1;
+}
+
+/// Does what an entry does once its operands are there.
+#[tactic(auto, unfolding(crate::specs::Completion::finished))]
+fn finish(p: &Prepared, operands: &[u64; 32], state: &mut State)
+    requires prepared { IsPrepared p.now }
+    requires read { AreRead p.now.reads operands.now state.old }
+    requires few { state.old.done < 2 ^ 63 }
+    ensures { state.new ≡ finished p.now state.old }
+{
+    if p.suppressed {
+        count(state, p.following);
+        return;
+    }
+    let counter = counter(p, operands, state);
+    carry_out(deed_by(p.instr, p.e, p.value, operands, state), state);
+    count(state, counter);
+}
+
+/// Completes an entry that is prepared: its early change, then what it does, then the counter. The first
+/// `p.reads.len` operands, and the `p.reads.len2` behind them, are the words that `p` says it reads, as they stand in the
+/// state; where one of them is a register that the entry itself has changed, it is taken as that change leaves it. It gives
+/// the words that are written.
+#[tactic(auto, unfolding(crate::specs::Completion::completed))]
+pub fn complete(p: &Prepared, operands: &[u64; 32], state: &mut State) -> Words
+    requires prepared { IsPrepared p.now }
+    requires operands { AreOperands p.now.reads operands.now state.old }
+    requires few { state.old.done < 2 ^ 63 }
+    ensures state { state.new ≡ completed p.now state.old }
+    ensures written { result ≡ p.now.writes }
+
+    // The next entry of the state, or its table instruction, is executed by it.
+    ensures step { (t : Option ℕ) → p.now ≡ plan state.old t → state.new ≡ executed t state.old }
+{
+    take(p.place.table, state);
+    change_early(p, state);
+    finish(p, operands, state);
+    p.writes
+}

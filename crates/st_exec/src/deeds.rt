@@ -1,0 +1,245 @@
+//! What an operation does once its operands are there.
+ghost use Rattle.std.specs.Prelude.{◌≡◌, ◌+◌, ◌*◌, ◌/◌, ◌<◌, ◌≤◌, ◌^◌, true};
+ghost use Rattle.st_bits.specs.Storage.{words_of_storage};
+ghost use Rattle.st_state.specs.Machine.{HasArea};
+ghost use Rattle.st_state.specs.declared.devices.Order.{Order};
+ghost use Rattle.st_prep.specs.Entry.{is_index_store, reads, writes};
+ghost use Rattle.st_prep.specs.Ranges.{HasFields, AreInside, FitsPart, IsStored, HasRoom};
+ghost use Rattle.st_exec.specs.Operand.{AreRead};
+ghost use Rattle.st_exec.specs.Deed.{index_deed as index_deed_of, branch_deed as branch_deed_of, move_deed as move_deed_of, bit_deed as bit_deed_of, indicator_deed as indicator_deed_of, order_deed as order_deed_of, deed_of, AreRuns, CanBeDone};
+
+use crate::fields::{connect_field, operate};
+use crate::operands::operand_field;
+use crate::outcomes::Outcome;
+use st_bin::Shape;
+use st_bits::{BranchOp, HalfOp};
+use st_format::Instr;
+use st_state::{Order, State};
+
+/// What an operation does once its operands are there.
+#[derive(Clone, Copy, Debug, PartialEq, Eq)]
+pub enum Deed {
+    /// Nothing.
+    Rest,
+    /// The number `bits`, below 2^length, is put into the `length` bits, 1 to 64, from the bit address `at` on.
+    Put {
+        at: u32,
+        length: u8,
+        bits: u64,
+    },
+    /// `count` words from one word address on are copied to those from another on, one after the other.
+    Copy {
+        from: u32,
+        to: u32,
+        count: u8,
+    },
+    /// They are exchanged, one after the other.
+    Exchange {
+        from: u32,
+        to: u32,
+        count: u8,
+    },
+    /// An indicator, 0 to 63, goes off.
+    TurnOff {
+        indicator: u8,
+    },
+    /// Interrupts are enabled, or disabled.
+    Enable {
+        enabled: bool,
+    },
+    /// Interrupts are enabled, and the machine waits.
+    Wait,
+    /// The reader, or the printer where `write` says so, is given an order.
+    Give {
+        write: bool,
+        order: Order,
+    },
+    /// An operation on a field leaves its outcome in registers, indicators, and the field at the bit address `at`.
+    Settle {
+        outcome: Outcome,
+        at: u32,
+        length: u8,
+    },
+}
+
+/// An index store puts `value`, an index word or a part of it, into the word or the half-word at the address `e`.
+fn index_deed(op: HalfOp, e: u32, value: u64) -> Deed
+    requires address { e < 2 ^ 24 }
+    requires part { FitsPart op value }
+    requires inside { is_index_store op ≡ true → e / 64 < words_of_storage }
+    ensures value { result ≡ index_deed_of op e value }
+    ensures can { CanBeDone result }
+{
+    let word = 64 * (e / 64);
+    let (at, length) = match op {
+        HalfOp::Sx => (word, 64),
+        HalfOp::Sv => (word, 25),
+        HalfOp::Sc => (word + 28, 18),
+        HalfOp::Sr => (word + 46, 18),
+        HalfOp::Sva => (32 * (e / 32), 19),
+        _ => return Deed::Rest,
+    };
+    Deed::Put {
+        at,
+        length,
+        bits: value,
+    }
+}
+
+/// A branch enables or disables interrupts, or waits.
+fn branch_deed(op: BranchOp) -> Deed
+    ensures value { result ≡ branch_deed_of op }
+    ensures can { CanBeDone result }
+{
+    match op {
+        BranchOp::Be => Deed::Enable { enabled: true },
+        BranchOp::Bd => Deed::Enable { enabled: false },
+        BranchOp::Bew => Deed::Wait,
+        BranchOp::B | BranchOp::Br | BranchOp::Nop => Deed::Rest,
+    }
+}
+
+/// Words are copied or exchanged.
+fn move_deed(swap: bool, from: u32, to: u32, count: u8) -> Deed
+    requires { AreRuns from to count }
+    ensures value { result ≡ move_deed_of swap from to count }
+    ensures can { CanBeDone result }
+{
+    if swap {
+        Deed::Exchange { from, to, count }
+    } else {
+        Deed::Copy { from, to, count }
+    }
+}
+
+/// A bit, which is `bit`, is left, becomes zero, becomes one, or is inverted.
+fn bit_deed(change: u8, e: u32, bit: u64) -> Deed
+    requires change { change < 4 }
+    requires inside { e + 1 ≤ 64 * words_of_storage }
+    requires bit { bit < 2 }
+    ensures value { result ≡ bit_deed_of change e bit }
+    ensures can { CanBeDone result }
+{
+    let bits = match change {
+        0 => return Deed::Rest,
+        1 => 0,
+        2 => 1,
+        _ => 1 - bit,
+    };
+    Deed::Put {
+        at: e,
+        length: 1,
+        bits,
+    }
+}
+
+/// An indicator is turned off, where it is to be.
+fn indicator_deed(off: bool, e: u32) -> Deed
+    ensures value { result ≡ indicator_deed_of off e }
+    ensures can { CanBeDone result }
+{
+    if off {
+        Deed::TurnOff {
+            indicator: (e % 64) as u8,
+        }
+    } else {
+        Deed::Rest
+    }
+}
+
+/// An order is given, which is due `count` instructions after this one, when `done` were done before it.
+fn order_deed(write: bool, e: u32, count: u32, done: u64) -> Deed
+    requires above { 32 ≤ e / 64 }
+    requires inside { e / 64 + 8 ≤ words_of_storage }
+    requires few { done < 2 ^ 63 }
+    ensures value { result ≡ order_deed_of write e count done }
+    ensures can { CanBeDone result }
+{
+    Deed::Give {
+        write,
+        order: Order {
+            word: e / 64,
+            due: done + 1 + u64::from(count),
+        },
+    }
+}
+
+/// What an instruction with the effective address `e` does, which stores `value` where it is an index store or SIC.
+/// The operands are the words that it reads; a register among them is read anew.
+#[tactic(auto, unfolding(crate::specs::Deed::deed_of))]
+pub fn deed_by(instr: Instr, e: u32, value: u64, operands: &[u64; 32], state: &State) -> Deed
+    requires fields { HasFields instr }
+    requires address { e < 2 ^ 24 }
+    requires part { IsStored instr value }
+    requires inside { AreInside (reads instr e) }
+    requires written_inside { AreInside (writes instr e) }
+    requires area { HasRoom instr e }
+    requires read { AreRead (reads instr e) operands.now state.now }
+    requires few { state.now.done < 2 ^ 63 }
+    ensures value { result ≡ deed_of instr e value state.now }
+    ensures can { CanBeDone result }
+{
+    match instr {
+        Instr::Half { op, .. } => index_deed(op, e, value),
+        Instr::Branch { op, .. } => branch_deed(op),
+        Instr::Vfl {
+            op,
+            decimal,
+            p,
+            length,
+            byte,
+            unsigned,
+            negated,
+            offset,
+            ..
+        } => {
+            let shape = Shape {
+                length,
+                byte,
+                unsigned,
+                negated,
+                offset,
+            };
+            let outcome = operate(decimal, op, &shape, p, e, operands, state);
+            Deed::Settle {
+                outcome,
+                at: e,
+                length,
+            }
+        }
+        Instr::Connect {
+            kind,
+            table,
+            p,
+            length,
+            offset,
+            ..
+        } => {
+            let outcome = connect_field(kind, table, p, e, offset, length, operands, state);
+            Deed::Settle {
+                outcome,
+                at: e,
+                length,
+            }
+        }
+        Instr::Move {
+            swap,
+            second,
+            count,
+            ..
+        } => move_deed(swap, e / 64, second / 2, count),
+        Instr::BitBranch { change, .. } => bit_deed(
+            change,
+            e,
+            operand_field(operands, e, 1, state),
+        ),
+        Instr::IndBranch { off, .. } => indicator_deed(off, e),
+        Instr::StoreCounter { .. } => Deed::Put {
+            at: 32 * (e / 32),
+            length: 19,
+            bits: value,
+        },
+        Instr::Transfer { write, count, .. } => order_deed(write, e, count, state.done),
+        Instr::Floating { .. } | Instr::Invalid { .. } => Deed::Rest,
+    }
+}

@@ -1,0 +1,48 @@
+//! What is done before the operands of an entry are read.
+ghost use Rattle.std.specs.Prelude.{◌≡◌, ◌<◌, IfSome};
+ghost use Rattle.st_prep.specs.Plan.{opened};
+ghost use Rattle.st_prep.specs.Ranges.{IsPrepared};
+ghost use Rattle.st_exec.specs.Completion.{with_change, early as early_of};
+
+use crate::indicators::indicator;
+use st_bits::Ind;
+use st_prep::{IndexChange, Prepared};
+use st_state::State;
+
+/// The address of the first index word.
+const INDEX_WORDS: u32 = 16;
+
+/// Takes the interrupt that executes a table instruction: its indicator goes off, and a wait ends.
+pub fn take(table: Option<u8>, state: &mut State)
+    requires { IfSome table (λ i. i < 64) }
+    ensures { state.new ≡ opened table state.old }
+{
+    let Some(i) = table else {
+        return;
+    };
+    state.apply(Ind {
+        on: 0,
+        off: indicator(i),
+    });
+    state.waiting = false;
+}
+
+/// Changes an index word, if one is to be changed.
+fn change_index(index: Option<IndexChange>, state: &mut State)
+    requires { IfSome index (λ c. c.number < 16) }
+    ensures { state.new ≡ with_change index state.old }
+{
+    if let Some(change) = index {
+        state.store(INDEX_WORDS + u32::from(change.number), change.word);
+    }
+}
+
+/// Makes the early change of an entry.
+#[tactic(auto, unfolding(crate::specs::Completion::early))]
+pub fn change_early(p: &Prepared, state: &mut State)
+    requires { IsPrepared p.now }
+    ensures { state.new ≡ early_of p.now state.old }
+{
+    change_index(p.index, state);
+    state.apply(p.ind);
+}

@@ -1,0 +1,144 @@
+//! What a deed makes of a state.
+ghost use Rattle.std.specs.Prelude.{◌≡◌, ◌+◌, ◌*◌, ◌<◌, ◌≤◌, ◌^◌, IfSome};
+ghost use Rattle.st_bin.specs.declared.accumulator.Acc.{Acc};
+ghost use Rattle.st_state.specs.Machine.{HasArea};
+ghost use Rattle.st_exec.specs.Outcome.{with_register, with_accumulator, with_registers, with_field, settled};
+ghost use Rattle.st_exec.specs.Deed.{IsField, CanBeDone, order_of as order_by, with_order, given, done};
+
+use crate::deeds::Deed;
+use crate::indicators::indicator;
+use crate::outcomes::Outcome;
+use crate::transmission::{copy, exchange};
+use st_bin::Acc;
+use st_bits::Ind;
+use st_state::{Order, State};
+
+/// The addresses of the registers.
+const COUNTS: u32 = 7;
+
+const LEFT_HALF: u32 = 8;
+
+const RIGHT_HALF: u32 = 9;
+
+const SIGN_BYTE: u32 = 10;
+
+const REMAINDER: u32 = 13;
+
+const FACTOR: u32 = 14;
+
+const TRANSIT: u32 = 15;
+
+/// The indicator CBJ, channel busy reject.
+const CHANNEL_BUSY: u8 = 8;
+
+/// The order that a device has: the printer where `write` says so.
+fn order_of(write: bool, state: &State) -> Option<Order>
+    ensures { result ≡ order_by write state.now }
+{
+    if write { state.printer } else { state.reader }
+}
+
+/// Gives a device an order, in place of any that it had.
+fn put_order(write: bool, order: Order, state: &mut State)
+    requires { HasArea (Some order) }
+    ensures { state.new ≡ with_order write order state.old }
+{
+    if write {
+        state.printer = Some(order);
+    } else {
+        state.reader = Some(order);
+    }
+}
+
+/// Gives a device an order, unless it has one.
+fn give(write: bool, order: Order, state: &mut State)
+    requires { HasArea (Some order) }
+    ensures { state.new ≡ given write order state.old }
+{
+    if order_of(write, state).is_some() {
+        state.signal(CHANNEL_BUSY);
+    } else {
+        put_order(write, order, state);
+    }
+}
+
+/// Writes a register, where something is left for it.
+fn put_register(w: u32, value: Option<u64>, state: &mut State)
+    requires { w < 32 }
+    ensures { state.new ≡ with_register w value state.old }
+{
+    if let Some(value) = value {
+        state.store(w, value);
+    }
+}
+
+/// Writes the accumulator and its sign byte.
+fn put_accumulator(acc: &Acc, state: &mut State)
+    ensures { state.new ≡ with_accumulator acc.now state.old }
+{
+    state.store(LEFT_HALF, (acc.mag / (1 << 64)) as u64);
+    state.store(RIGHT_HALF, (acc.mag % (1 << 64)) as u64);
+    state.store(SIGN_BYTE, u64::from(acc.sb) * (1 << 56));
+}
+
+/// Writes the registers.
+#[tactic(auto, unfolding(crate::specs::Outcome::with_registers))]
+fn put_registers(outcome: &Outcome, state: &mut State)
+    ensures { state.new ≡ with_registers outcome.now state.old }
+{
+    put_accumulator(&outcome.done.acc, state);
+    put_register(REMAINDER, outcome.done.rm, state);
+    put_register(FACTOR, outcome.done.ft, state);
+    put_register(TRANSIT, outcome.done.tr, state);
+    put_register(COUNTS, outcome.counts, state);
+}
+
+/// Writes the `n` bits of the field at the bit address `a`, where it is written.
+fn put_field(field: Option<u64>, a: u32, n: u8, state: &mut State)
+    requires { IfSome field (IsField a n) }
+    ensures { state.new ≡ with_field field a n state.old }
+{
+    if let Some(bits) = field {
+        state.put_field(a, n, bits);
+    }
+}
+
+/// Leaves what an operation on a field makes: registers and indicators first, and then the field.
+#[tactic(auto, unfolding(crate::specs::Outcome::settled))]
+fn settle(outcome: &Outcome, a: u32, n: u8, state: &mut State)
+    requires { IfSome outcome.now.done.field (IsField a n) }
+    ensures { state.new ≡ settled outcome.now a n state.old }
+{
+    put_registers(outcome, state);
+    state.apply(outcome.done.ind);
+    put_field(outcome.done.field, a, n, state);
+}
+
+/// Does a deed.
+#[tactic(auto, unfolding(crate::specs::Deed::done))]
+pub fn carry_out(deed: Deed, state: &mut State)
+    requires { CanBeDone deed }
+    ensures { state.new ≡ done deed state.old }
+{
+    match deed {
+        Deed::Rest => (),
+        Deed::Put { at, length, bits } => state.put_field(at, length, bits),
+        Deed::Copy { from, to, count } => copy(from, to, count, state),
+        Deed::Exchange { from, to, count } => exchange(from, to, count, state),
+        Deed::TurnOff { indicator: i } => state.apply(Ind {
+            on: 0,
+            off: indicator(i),
+        }),
+        Deed::Enable { enabled } => state.enabled = enabled,
+        Deed::Wait => {
+            state.enabled = true;
+            state.waiting = true;
+        }
+        Deed::Give { write, order } => give(write, order, state),
+        Deed::Settle {
+            outcome,
+            at,
+            length,
+        } => settle(&outcome, at, length, state),
+    }
+}

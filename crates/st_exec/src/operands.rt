@@ -1,0 +1,44 @@
+//! Operands: fields of the words that were read, and the accumulator.
+ghost use Rattle.std.specs.Prelude.{◌≡◌, ℕ, ◌+◌, ◌*◌, ◌/◌, ◌%◌, ◌<◌, ◌≤◌, ◌^◌, length, slice_index};
+ghost use Rattle.st_bits.specs.Storage.{words_of_storage};
+ghost use Rattle.st_state.specs.Machine.{word as word_of};
+ghost use Rattle.st_prep.specs.Entry.{field_words};
+ghost use Rattle.st_exec.specs.Operand.{AreRead, field_at};
+
+use st_bits::get_field;
+use st_state::State;
+
+/// The word at the address `w`, which is in place `k` of the operands. A register is read anew, since the entry itself may
+/// have changed it before its operands are read.
+fn operand_word(operands: &[u64; 32], k: usize, w: u32, state: &State) -> u64
+    requires place { k < 32 }
+    requires inside { w < words_of_storage }
+    requires read { 32 ≤ w → slice_index operands.now k ≡ word_of state.now w }
+    ensures { result ≡ word_of state.now w }
+{
+    if w < 32 { state.word(w) } else { operands[k] }
+}
+
+/// The number of the `n` bits, 1 to 64, from the bit address `a` on, whose words are the operands.
+pub fn operand_field(operands: &[u64; 32], a: u32, n: u8, state: &State) -> u64
+    requires some { 1 ≤ n }
+    requires few { n ≤ 64 }
+    requires inside { a + n ≤ 64 * words_of_storage }
+    requires read { AreRead (field_words a n) operands.now state.now }
+    ensures value { result ≡ field_at state.now a n }
+    ensures bound { result < 2 ^ n }
+{
+    state.shape();
+    let w = a / 64;
+    let first = a % 64;
+    if first + u32::from(n) <= 64 {
+        let words = [operand_word(operands, 0, w, state)];
+        get_field(&words, first, n)
+    } else {
+        let words = [
+            operand_word(operands, 0, w, state),
+            operand_word(operands, 1, w + 1, state),
+        ];
+        get_field(&words, first, n)
+    }
+}

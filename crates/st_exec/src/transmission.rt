@@ -1,0 +1,28 @@
+//! Words that are copied or exchanged one after the other, so that one that was moved can be moved again.
+ghost use Rattle.std.specs.Prelude.{◌≡◌};
+ghost use Rattle.st_exec.specs.Deed.{AreRuns, copied, exchanged};
+
+use st_state::State;
+
+/// Copies `count` words from the word address `from` on to those from `to` on.
+pub fn copy(from: u32, to: u32, count: u8, state: &mut State)
+    requires { AreRuns from to count }
+    ensures { state.new ≡ copied from to count state.old }
+{
+    for k in 0..u32::from(count) {
+        let word = state.word(from + k);
+        state.store(to + k, word);
+    }
+}
+
+/// Exchanges them.
+pub fn exchange(from: u32, to: u32, count: u8, state: &mut State)
+    requires { AreRuns from to count }
+    ensures { state.new ≡ exchanged from to count state.old }
+{
+    for k in 0..u32::from(count) {
+        let (first, second) = (state.word(from + k), state.word(to + k));
+        state.store(from + k, second);
+        state.store(to + k, first);
+    }
+}
