@@ -1,4 +1,4 @@
-pub mod Quiet
+pub mod Runs
 pub mod OperandLemmas
 pub mod MoveLemmas
 pub mod InsideLemmas

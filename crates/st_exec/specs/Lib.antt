@@ -1,4 +1,3 @@
-pub mod Instructions
 pub mod Step
 pub mod Run
 pub mod Operand

@@ -6,7 +6,7 @@ use Rattle.st_state.specs.Orders.{is_due, next_device}
 use Rattle.st_state.specs.declared.devices.Order.{Order}
 use Rattle.st_state.specs.declared.devices.Device.{Device}
 use Rattle.st_state.specs.declared.devices.Device.TheVariants.{Reader, Printer}
-use Rattle.st_exec.specs.Step.{rests, interrupt, step}
+use Rattle.st_exec.specs.Step.{rests, interrupt, step, address}
 
 -- a signal turns its indicator on when so many instructions are done
 pub record Signal : Type 0 where
@@ -19,10 +19,12 @@ pub record Scene : Type 0 where
   pub signals : List Signal
   pub cards : List (List ℕ)
 
--- what a report shows of a run: eight words are printed, an interrupt is taken, the run ends
+-- what a report shows of a run: eight words are printed, an interrupt is taken, the instruction at an address is done
+-- and leaves this state, the run ends
 pub data Happening : Type 0 where
   Prints : Machine → List ℕ → Happening
   Interrupts : Machine → ℕ → Happening
+  Executes : Machine → ℕ → Happening
   Ends : Machine → Bool → Happening
 
 -- a scene, and what happened on the way to it
@@ -137,10 +139,14 @@ interrupts_by (Some i) s = Interrupts s i ∷ []
 abbrev pub stepped : Scene → Scene
 stepped c = record c { machine = step c.machine }
 
+-- what happens in the next step
+abbrev pub happens : Machine → List Happening
+happens s = interrupts_by (interrupt s) s ++ Executes (step s) (address s) ∷ []
+
 -- the run goes on by a step
 abbrev pub goes_on : Reached → Ran → Ran
 goes_on r rest = record {
-  happened = r.happened ++ (interrupts_by (interrupt r.scene.machine) r.scene.machine ++ rest.happened);
+  happened = r.happened ++ (happens r.scene.machine ++ rest.happened);
   last = rest.last;
 }
 

@@ -8,7 +8,6 @@ mod effects;
 mod execution;
 mod fields;
 mod indicators;
-mod instruction;
 mod laws;
 mod operands;
 mod outcomes;
@@ -17,12 +16,11 @@ mod transmission;
 
 pub use completing::complete;
 pub use execution::{execute, read_operands};
-pub use instruction::Instruction;
 pub use laws::{
     entries_ahead_leave_the_rest, entries_are_bounded, entries_count_as_one,
     only_indicator_branches_are_missed,
 };
-pub use step::{Step, interrupt, is_at_rest, one};
+pub use step::{Step, interrupt, is_at_rest, next_address, one};
 
 #[cfg(test)]
 mod tests;
