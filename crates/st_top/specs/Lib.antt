@@ -1,6 +1,2 @@
-pub mod Command
-pub mod Print
 pub mod Report
-pub mod Output
-pub mod Answers
 pub mod Running

@@ -1,11 +1,13 @@
-ghost use Rattle.std.specs.Prelude.{◌≡◌, ◌^◌, ◌<◌, [], ◌∷◌};
+ghost use Rattle.std.specs.Prelude.{◌≡◌, ℕ, ◌+◌, ◌-◌, ◌^◌, ◌<◌, ◌≤◌, [], ◌∷◌};
+ghost use Rattle.std.specs.List.{AllPass};
+ghost use Rattle.st_card.specs.Limits.{is_part};
 ghost use Rattle.st_lines.specs.Lines.{WritesLines, lines_for};
-ghost use Rattle.st_report.specs.Line.{ic_line, en_line};
-ghost use Rattle.st_top.specs.Report.{block, register_lines};
+ghost use Rattle.st_report.specs.Line.{ic_line, en_line, dump_line};
+ghost use Rattle.st_top.specs.Report.{block, register_lines, memory_lines, dump_lines, dumps_lines};
 
 use st_io::{Failed, Sink};
 use st_lines::write_line;
-use st_report::{Line, line_en, line_ic, line_reg};
+use st_report::{Line, line_dump, line_en, line_ic, line_mem, line_reg};
 use st_state::State;
 
 /// Writes a line of the report.
@@ -38,6 +40,62 @@ fn write_registers<K: Sink>(out: &mut K, state: &State) -> Result<(), Failed>
     Ok(())
 }
 
+/// Writes the line of the word at `w`, where it is not zero.
+#[tactic(auto, using(st_lines::proofs::Progress::wrote_nothing, st_bits::specs::Storage::words_of_storage_is))]
+fn write_memory<K: Sink>(out: &mut K, state: &State, w: u32) -> Result<(), Failed>
+    requires { w < 98304 }
+    ensures { WritesLines (K.output out.old) (K.output out.new) (memory_lines state.now w) result }
+{
+    let word = state.word(w);
+    if word == 0 {
+        return Ok(());
+    }
+    put(out, &line_mem(w, word))
+}
+
+/// Writes the lines of the words from `first` to `last` that are not zero.
+fn write_words<K: Sink>(out: &mut K, state: &State, first: u32, last: u32) -> Result<(), Failed>
+    requires order { first ≤ last }
+    requires within { last < 98304 }
+    ensures { WritesLines (K.output out.old) (K.output out.new)
+        (lines_for (memory_lines state.now) (last + 1 - first) first) result }
+{
+    for w in first..last + 1 {
+        write_memory(out, state, w)?;
+    }
+    Ok(())
+}
+
+/// Writes the line that a dump begins with.
+fn write_range<K: Sink>(out: &mut K, first: u32, last: u32) -> Result<(), Failed>
+    ensures { WritesLines (K.output out.old) (K.output out.new) (dump_line first last ∷ []) result }
+{
+    put(out, &line_dump(first, last))
+}
+
+/// Writes a dump: the words from `first` to `last`.
+fn write_dump<K: Sink>(out: &mut K, state: &State, first: u32, last: u32) -> Result<(), Failed>
+    requires order { first ≤ last }
+    requires within { last < 98304 }
+    ensures { WritesLines (K.output out.old) (K.output out.new) (dump_lines state.now first last) result }
+{
+    write_range(out, first, last)?;
+    write_words(out, state, first, last)
+}
+
+/// Writes dumps, in order.
+fn write_dumps<K: Sink>(out: &mut K, state: &State, dumps: &[(u32, u32)]) -> Result<(), Failed>
+    requires { AllPass is_part dumps.now }
+    ensures { WritesLines (K.output out.old) (K.output out.new) (dumps_lines state.now dumps.now) result }
+{
+    let mut rest = dumps;
+    'dumps: while let [(first, last), after @ ..] = rest {
+        write_dump(out, state, *first, *last)?;
+        rest = after;
+    }
+    Ok(())
+}
+
 /// Writes the line of the counter.
 fn write_counter<K: Sink>(out: &mut K, state: &State) -> Result<(), Failed>
     ensures { WritesLines (K.output out.old) (K.output out.new) (ic_line state.now.ic ∷ []) result }
@@ -54,11 +112,13 @@ fn write_enabled<K: Sink>(out: &mut K, state: &State) -> Result<(), Failed>
     put(out, &line_en(enabled))
 }
 
-/// Writes the state block.
-pub fn write_block<K: Sink>(out: &mut K, state: &State) -> Result<(), Failed>
-    ensures { WritesLines (K.output out.old) (K.output out.new) (block state.now) result }
+/// Writes the state block, with the dumps that are asked for.
+pub fn write_block<K: Sink>(out: &mut K, state: &State, dumps: &[(u32, u32)]) -> Result<(), Failed>
+    requires { AllPass is_part dumps.now }
+    ensures { WritesLines (K.output out.old) (K.output out.new) (block dumps.now state.now) result }
 {
     write_counter(out, state)?;
     write_enabled(out, state)?;
-    write_registers(out, state)
+    write_registers(out, state)?;
+    write_dumps(out, state, dumps)
 }

@@ -2,14 +2,5 @@
 //! the whole program promises. `docs/machine.md` and `docs/report.md` have the rules.
 #![tactic(auto, using(st_bits::specs::Storage::words_of_storage_is))]
 
-mod answer;
 mod block;
-mod command;
-mod program;
-mod running;
-#[cfg(test)]
-mod tests;
-
-pub use answer::{Answer, Status};
-pub use command::Command;
-pub use program::stretch;
+pub use block::write_block;
