@@ -1,0 +1,61 @@
+-- Printed text.
+use Rattle.std.proofs.Common.{◌≡◌, ◌≢◌, ◌≤◌, ◌<◌, ◌-◌, ◌==◌, ◌&&◌, ℕ, zero, suc, Bool, true, false, IsTrue, List, [], ◌∷◌, ◌++◌, length, take, map, slice_index, refl, ap, sym, subst, ◌∙◌, arith, nat_le, if◌then◌else◌}
+use Rattle.std.proofs.lemmas.Grind.{common_steps}
+use Rattle.std.proofs.lemmas.List.Sums.{suffix_len_is}
+use Rattle.std.proofs.lemmas.List.Folds.{list_all-append}
+use Rattle.std.specs.List.{flat_map, list_all, suffix_len}
+use Rattle.st_card.specs.Cards.{is_printable}
+use Rattle.st_exch.specs.Printer.{bytes_of, character, characters_of, without_end_blanks, printed}
+
+-- blanks from n on, and none before n
+pub take-filled : (text : List ℕ) (n : ℕ) → n ≤ length text
+    → ((k : ℕ) → n ≤ k → k < length text → slice_index text k ≡ 32)
+    → (0 < n → slice_index text (n - 1) ≢ 32)
+    → take n text ≡ without_end_blanks text
+take-filled text n within after before =
+    let last : suffix_len (λ c. c == 32) text ≡ length text - n =
+    suffix_len_is (λ c. c == 32) text n 0 within
+    (λ k low high. grind (arith, common_steps, after k low high))
+    (λ some. grind (arith, common_steps, before some)) in
+    let front : length text - (length text - n) ≡ n = omega arith in
+    rw (last, front)
+
+is_character : ℕ → Bool
+is_character c = nat_le 32 c && nat_le c 126
+
+-- each character can be printed
+character-printable : (b : ℕ) → (nat_le 32 (character b) && nat_le (character b) 126) ≡ true
+character-printable b =
+    let P : Bool → Type 0 = λ v. (nat_le 32 b && nat_le b 126) ≡ v →
+    (let c = if v then b else 32 in nat_le 32 c && nat_le c 126) ≡ true in
+    (elim (nat_le 32 b && nat_le b 126) as P [ true ↦ λ is. is | false ↦ λ is. refl ]) refl
+
+all-both : (a b : Bool) → a ≡ true → b ≡ true → (a && b) ≡ true
+all-both true b first second = second
+all-both false b first second = first
+
+map-printable : (bytes : List ℕ) → is_printable (map character bytes) ≡ true
+map-printable [] = refl
+map-printable (b ∷ bs) = all-both _ _ (character-printable b) (map-printable bs)
+
+flat-printable : (words : List ℕ) → is_printable (flat_map characters_of words) ≡ true
+unfolding characters_of
+flat-printable [] = refl
+flat-printable (x ∷ xs) =
+    list_all-append (λ c. nat_le 32 c && nat_le c 126) (characters_of x) (flat_map characters_of xs)
+    ∙ all-both _ _ (map-printable (bytes_of x)) (flat-printable xs)
+
+take-printable : (n : ℕ) (text : List ℕ) → is_printable text ≡ true → is_printable (take n text) ≡ true
+take-printable zero text all = refl
+take-printable (suc n) [] all = refl
+take-printable (suc n) (c ∷ cs) all =
+    let test = nat_le 32 c && nat_le c 126 in
+    let P : Bool → Type 0 = λ v. (v && is_printable cs) ≡ true → (v && is_printable (take n cs)) ≡ true in
+    (elim test as P [ true ↦ λ rest. take-printable n cs rest | false ↦ λ no. no ]) all
+
+-- printed text can be printed
+pub printed-printable : (words : List ℕ) → is_printable (printed words) ≡ true
+unfolding printed
+printed-printable words =
+    let text = flat_map characters_of words in
+    take-printable (length text - suffix_len (λ c. c == 32) text) text (flat-printable words)

@@ -1,0 +1,21 @@
+use Rattle.std.proofs.Common.{◌≡◌, IsTrue, List, ℕ, take, sym, ap, ◌∙◌, arith, subst}
+use Rattle.std.specs.List.{flat_map}
+use Rattle.std.proofs.lemmas.List.{take_all}
+use Rattle.st_card.specs.Cards.{is_printable}
+use Rattle.st_exch.specs.Printer.{characters_of, without_end_blanks, printed}
+use Rattle.st_exch.proofs.PrinterLemmas.{printed-printable}
+use Rattle.st_exch.proofs.printer.print_text.Goals as goal
+
+text_is : goal.returns-clause-text
+unfolding printed
+text_is c =
+    let whole = take_all c.loop-word.word-index c.args.words.now (omega arith) in
+    c.drop_end_blanks.ensures
+    ∙ ap without_end_blanks (c.loop-word.invariant.so_far ∙ ap (λ (x : List ℕ). flat_map characters_of x) whole)
+
+pub returns-clause-text : goal.returns-clause-text
+returns-clause-text c = text_is c
+
+pub returns-clause-printable : goal.returns-clause-printable
+returns-clause-printable c =
+    ap is_printable (text_is c) ∙ printed-printable c.args.words.now

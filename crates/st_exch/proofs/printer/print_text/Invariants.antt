@@ -1,0 +1,11 @@
+use Rattle.std.proofs.Common.{◌≡◌, ◌*◌, take}
+use Rattle.std.specs.List.{flat_map}
+use Rattle.arrayvec.specs.ArrayString.{array_string_len}
+use Rattle.st_exch.specs.Printer.{characters_of}
+use Rattle.st_exch.proofs.printer.print_text.Given as goal
+
+abbrev pub invariant-loop-word : goal.invariant-loop-word
+invariant-loop-word l = record {
+  so_far : l.text.bytes ≡ flat_map characters_of (take l.word-index l.words);
+  room : array_string_len l.text ≡ 8 * l.word-index;
+}

@@ -1,0 +1,25 @@
+-- What the printer prints of eight words.
+use Rattle.std.specs.Prelude.{ℕ, ◌-◌, ◌==◌, ◌&&◌, nat_le, if◌then◌else◌, List, [], ◌∷◌, length, map, take}
+use Rattle.std.specs.List.{flat_map, suffix_len}
+use Rattle.st_bits.specs.Bits.{part}
+
+-- the bytes of a word, the leftmost first
+abbrev pub bytes_of : ℕ → List ℕ
+bytes_of x =
+    part x 0 8 ∷ part x 8 8 ∷ part x 16 8 ∷ part x 24 8 ∷ part x 32 8 ∷ part x 40 8 ∷ part x 48 8 ∷ part x 56 8 ∷ []
+
+-- a byte that has no character is a blank
+abbrev pub character : ℕ → ℕ
+character b = if nat_le 32 b && nat_le b 126 then b else 32
+
+-- the characters of a word
+unfoldable pub characters_of : ℕ → List ℕ
+characters_of x = map character (bytes_of x)
+
+-- a text without the blanks at its end
+abbrev pub without_end_blanks : List ℕ → List ℕ
+without_end_blanks text = take (length text - suffix_len (λ c. c == 32) text) text
+
+-- the words as text, without blanks at the end
+unfoldable pub printed : List ℕ → List ℕ
+printed words = without_end_blanks (flat_map characters_of words)

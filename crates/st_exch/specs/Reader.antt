@@ -1,0 +1,51 @@
+-- The cards that stand in the card reader, and the words that it reads of each.
+use Rattle.std.specs.Prelude.{ℕ, ◌+◌, ◌-◌, ◌*◌, ◌^◌, Bool, true, false, List, [], ◌∷◌, map, filter, slice_index_or, if◌then◌else◌}
+use Rattle.std.specs.List.{list_any}
+use Rattle.st_card.specs.Cards.{cards_of, text_in}
+use Rattle.st_card.specs.declared.cards.CardKind.{CardKind}
+use Rattle.st_card.specs.declared.cards.CardKind.TheVariants.{Comment, Control, Statement}
+use Rattle.st_card.specs.declared.cards.Card.{Card}
+
+-- column c of a card, counted from 1, a blank where the card has none
+abbrev pub column : List ℕ → ℕ → ℕ
+column text c = slice_index_or text (c - 1) 32
+
+-- the word that eight columns make from column c on, eight bits each
+unfoldable pub word_from : List ℕ → ℕ → ℕ
+word_from text c =
+    column text c * 2 ^ 56 + column text (c + 1) * 2 ^ 48 + column text (c + 2) * 2 ^ 40 + column text (c + 3) * 2 ^ 32
+    + column text (c + 4) * 2 ^ 24 + column text (c + 5) * 2 ^ 16 + column text (c + 6) * 2 ^ 8 + column text (c + 7)
+
+-- the words that the reader reads of a card: its columns 2 to 65
+unfoldable pub words_read : List ℕ → List ℕ
+words_read text =
+    word_from text 2 ∷ word_from text 10 ∷ word_from text 18 ∷ word_from text 26
+    ∷ word_from text 34 ∷ word_from text 42 ∷ word_from text 50 ∷ word_from text 58 ∷ []
+
+abbrev pub is_comment : CardKind → Bool
+is_comment Comment = true
+is_comment Control = false
+is_comment Statement = false
+
+abbrev pub is_statement : CardKind → Bool
+is_statement Comment = false
+is_statement Control = false
+is_statement Statement = true
+
+-- whether any of the cards is a statement card
+abbrev pub has_statement : List Card → Bool
+has_statement cards = list_any (λ card. is_statement card.kind) cards
+
+-- the cards behind the last statement card
+unfoldable pub behind_statements : List Card → List Card
+behind_statements [] = []
+behind_statements (card ∷ cards) =
+    if has_statement (card ∷ cards) then behind_statements cards else card ∷ cards
+
+-- what is read of the comment cards behind the last statement card
+unfoldable pub texts_in : List ℕ → List Card → List (List ℕ)
+texts_in job cards = map (λ card. words_read (text_in job card)) (filter (λ card. is_comment card.kind) (behind_statements cards))
+
+-- the cards that the reader holds of a job
+unfoldable pub reader_cards : List ℕ → List (List ℕ)
+reader_cards job = texts_in job (cards_of job)

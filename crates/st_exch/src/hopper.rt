@@ -1,0 +1,134 @@
+//! The cards that stand in the card reader.
+
+ghost use Rattle.std.specs.Prelude.{◌≡◌, ◌+◌, ◌^◌, ◌<◌, ◌≤◌, List, [], ◌∷◌, ◌++◌, length, MatchOption, IfOk, OnOk, All};
+ghost use Rattle.st_card.specs.Cards.{IsCardOf};
+ghost use Rattle.st_card.specs.declared.cards.Card.{Card as CardRow};
+ghost use Rattle.st_exch.specs.Reader as spec;
+
+use st_bits::NoMemory;
+use st_card::{Card, CardKind, split};
+use std::alloc::Global;
+use std::collections::VecDeque;
+use std::marker::Model;
+
+/// The cards that stand in the card reader, the next one first.
+///
+/// A card is eight words: its columns 2 to 65, eight characters a word, eight bits each, with blanks
+/// in place of columns that it has not.
+#[derive(Drop)]
+pub struct Hopper {
+    cards: Option<VecDeque<[u64; 8]>>,
+}
+
+// Clauses see the cards that are left.
+impl Model for Hopper {
+    ghost use Rattle.std.specs.Prelude.{ℕ, List, []};
+    ghost use Rattle.std.specs.Option.{option_map_or};
+
+    ghost Value = { List (List ℕ) };
+
+    ghost view = { λ hopper. option_map_or (λ cards. cards.items) hopper.cards [] };
+}
+
+impl Hopper {
+    /// A reader without cards.
+    pub fn empty() -> Hopper
+        ensures { result ≡ [] }
+    {
+        Hopper { cards: None }
+    }
+
+    /// The reader with the comment cards that stand behind the last statement card of a job, in order.
+    /// Blank cards are comment cards.
+    ///
+    /// The job has fewer than 2^32 bytes. The one error is that memory ran out; no later call takes any.
+    pub fn new(alloc: Global, job: &[u8]) -> Result<Hopper, NoMemory>
+        requires { length job.now < 2 ^ 32 }
+        ensures { IfOk result (λ hopper. hopper ≡ spec.reader_cards job.now) }
+    {
+        let cards = split(alloc, job)?;
+        let mut waiting = VecDeque::new(alloc);
+        for card in &cards {
+            stack(&mut waiting, job, *card)?;
+        }
+        Ok(Hopper {
+            cards: Some(waiting),
+        })
+    }
+
+    /// The next card, which leaves the reader. `None` exactly where no card is left.
+    pub fn next(&mut self) -> Option<[u64; 8]>
+        ensures { MatchOption result ((self.old ≡ []) × (self.new ≡ []))
+            (λ card. self.old ≡ card ∷ self.new) }
+    {
+        self.cards.as_mut()?.pop_front()
+    }
+}
+
+// Goes on by a card: a comment card waits behind the others, and a statement card takes them away.
+fn stack(waiting: &mut VecDeque<[u64; 8]>, job: &[u8], card: Card) -> Result<(), NoMemory>
+    requires { IsCardOf job.now card }
+    ensures { (cards : List CardRow) → waiting.old.items ≡ spec.texts_in job.now cards
+        → OnOk result (waiting.new.items ≡ spec.texts_in job.now (cards ++ card ∷ [])) }
+{
+    match card.kind {
+        CardKind::Comment => push_card(waiting, words_read(card.text(job)))?,
+        CardKind::Control => {}
+        CardKind::Statement => waiting.clear(),
+    }
+    Ok(())
+}
+
+// Appends a card.
+fn push_card(cards: &mut VecDeque<[u64; 8]>, card: [u64; 8]) -> Result<(), NoMemory>
+    ensures { OnOk result (cards.new.items ≡ cards.old.items ++ card ∷ []) }
+{
+    cards.push_back(card).map_err(|_| NoMemory)
+}
+
+// The eight words that the reader reads of a card's text.
+#[tactic(auto, unfolding(crate::specs::Reader::words_read))]
+fn words_read(text: &[u8]) -> [u64; 8]
+    ensures { result ≡ spec.words_read text.now }
+{
+    [
+        word_from(text, 2),
+        word_from(text, 10),
+        word_from(text, 18),
+        word_from(text, 26),
+        word_from(text, 34),
+        word_from(text, 42),
+        word_from(text, 50),
+        word_from(text, 58),
+    ]
+}
+
+// The word that eight columns make from column c on.
+#[tactic(auto, unfolding(crate::specs::Reader::word_from))]
+fn word_from(text: &[u8], c: usize) -> u64
+    requires first { 1 ≤ c }
+    requires last { c < 65 }
+    ensures { result ≡ spec.word_from text.now c }
+{
+    u64::from_be_bytes([
+        column(text, c),
+        column(text, c + 1),
+        column(text, c + 2),
+        column(text, c + 3),
+        column(text, c + 4),
+        column(text, c + 5),
+        column(text, c + 6),
+        column(text, c + 7),
+    ])
+}
+
+// Column c of a card, counted from 1, a blank where the card has none.
+fn column(text: &[u8], c: usize) -> u8
+    requires { 1 ≤ c }
+    ensures { result ≡ spec.column text.now c }
+{
+    text.get(c - 1).copied().unwrap_or(b' ')
+}
+
+#[cfg(test)]
+mod tests;

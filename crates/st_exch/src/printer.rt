@@ -1,0 +1,66 @@
+//! The text that the printer prints.
+
+ghost use Rattle.std.specs.Prelude.{◌≡◌, ◌+◌, ◌<◌, ◌≤◌, ◌++◌, length, take, slice_index, IsTrue};
+ghost use Rattle.arrayvec.specs.ArrayString.{array_string_len};
+ghost use Rattle.st_card.specs.Cards.{is_printable};
+ghost use Rattle.st_exch.specs.Printer as spec;
+
+use arrayvec::ArrayString;
+
+/// The text that the printer prints of eight words: their 64 bytes, the leftmost first, with a blank
+/// in place of each byte outside 32 to 126, and without the blanks at the end. It may be empty.
+pub fn print_text(words: &[u64; 8]) -> ArrayString<64>
+    ensures text { result.bytes ≡ spec.printed words.now }
+    ensures printable { IsTrue (is_printable result.bytes) }
+{
+    let mut text = ArrayString::new();
+    for word in words {
+        push_word(&mut text, *word);
+    }
+    drop_end_blanks(&mut text);
+    text
+}
+
+// Appends the eight characters of a word.
+fn push_word(text: &mut ArrayString<64>, word: u64)
+    requires { array_string_len text.old + 8 ≤ 64 }
+    ensures bytes { text.new.bytes ≡ text.old.bytes ++ spec.characters_of word }
+    ensures room { array_string_len text.new ≡ array_string_len text.old + 8 }
+{
+    for byte in word.to_be_bytes() {
+        text.push(char::from(character(byte)));
+    }
+}
+
+// A byte that is no character of the printer is a blank.
+fn character(byte: u8) -> u8
+    ensures value { result ≡ spec.character byte }
+    ensures ascii { result < 128 }
+{
+    match byte {
+        b' '..=b'~' => byte,
+        _ => b' ',
+    }
+}
+
+// Drops the blanks at the end of a text.
+fn drop_end_blanks(text: &mut ArrayString<64>)
+    ensures { text.new.bytes ≡ spec.without_end_blanks text.old.bytes }
+{
+    let filled = filled_len(text.as_str().as_bytes());
+    text.truncate(filled);
+}
+
+// How many bytes stand before the blanks at the end.
+fn filled_len(text: &[u8]) -> usize
+    ensures within { result ≤ length text.now }
+    ensures value { take result text.now ≡ spec.without_end_blanks text.now }
+    ensures blank_next { result < length text.now → slice_index text.now result ≡ 32 }
+{
+    text.iter()
+        .rposition(|byte| *byte != b' ')
+        .map_or(0, |last| last + 1)
+}
+
+#[cfg(test)]
+mod tests;
