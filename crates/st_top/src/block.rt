@@ -88,10 +88,8 @@ fn write_dumps<K: Sink>(out: &mut K, state: &State, dumps: &[(u32, u32)]) -> Res
     requires { AllPass is_part dumps.now }
     ensures { WritesLines (K.output out.old) (K.output out.new) (dumps_lines state.now dumps.now) result }
 {
-    let mut rest = dumps;
-    'dumps: while let [(first, last), after @ ..] = rest {
+    for (first, last) in dumps {
         write_dump(out, state, *first, *last)?;
-        rest = after;
     }
     Ok(())
 }

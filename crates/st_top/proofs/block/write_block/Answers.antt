@@ -3,7 +3,7 @@ use Rattle.st_lines.specs.Lines.{lines_for}
 use Rattle.st_lines.proofs.Progress.{lines_then, lines_cut}
 use Rattle.st_report.specs.Line.{ic_line, en_line}
 use Rattle.st_state.specs.Machine.{Machine}
-use Rattle.st_top.specs.Report.{block, register_lines}
+use Rattle.st_top.specs.Report.{block, register_lines, dumps_lines}
 use Rattle.st_top.proofs.block.write_block.Goals as goal
 
 -- the lines of a state block, part by part
@@ -20,18 +20,31 @@ pub returns-in_err-write_counter : goal.returns-in_err-write_counter
 unfolding block
 returns-in_err-write_counter g c =
     let s = c.args.state.now in
-    lines_cut _ _ (counter s) (enabled s ++ registers s) _ c.from_residual.result c.from_residual.ensures.0 c.in_err-write_counter.ensures
+    let dumps = dumps_lines s c.args.dumps.now in
+    lines_cut _ _ (counter s) (enabled s ++ (registers s ++ dumps)) _ c.from_residual.result c.from_residual.ensures.0 c.in_err-write_counter.ensures
 
 pub returns-in_err-write_enabled : goal.returns-in_err-write_enabled
 unfolding block
 returns-in_err-write_enabled g c =
     let s = c.args.state.now in
-    lines_then _ _ _ (counter s) (enabled s ++ registers s) _ _ c.in_ok-write_counter.ensures
-    (lines_cut _ _ (enabled s) (registers s) _ c.from_residual-in_err-write_enabled.result c.from_residual-in_err-write_enabled.ensures.0 c.in_err-write_enabled.ensures)
+    let dumps = dumps_lines s c.args.dumps.now in
+    lines_then _ _ _ (counter s) (enabled s ++ (registers s ++ dumps)) _ _ c.in_ok-write_counter.ensures
+    (lines_cut _ _ (enabled s) (registers s ++ dumps) _ c.from_residual-in_err-write_enabled.result c.from_residual-in_err-write_enabled.ensures.0 c.in_err-write_enabled.ensures)
+
+pub returns-in_err-write_registers : goal.returns-in_err-write_registers
+unfolding block
+returns-in_err-write_registers g c =
+    let s = c.args.state.now in
+    let dumps = dumps_lines s c.args.dumps.now in
+    lines_then _ _ _ (counter s) (enabled s ++ (registers s ++ dumps)) _ _ c.in_ok-write_counter.ensures
+    (lines_then _ _ _ (enabled s) (registers s ++ dumps) _ _ c.in_ok-write_enabled.ensures
+    (lines_cut _ _ (registers s) dumps _ c.from_residual-in_err-write_registers.result c.from_residual-in_err-write_registers.ensures.0 c.in_err-write_registers.ensures))
 
 pub returns : goal.returns
 unfolding block
 returns g c =
     let s = c.args.state.now in
-    lines_then _ _ _ (counter s) (enabled s ++ registers s) _ _ c.in_ok-write_counter.ensures
-    (lines_then _ _ _ (enabled s) (registers s) _ _ c.in_ok-write_enabled.ensures c.write_registers.ensures)
+    let dumps = dumps_lines s c.args.dumps.now in
+    lines_then _ _ _ (counter s) (enabled s ++ (registers s ++ dumps)) _ _ c.in_ok-write_counter.ensures
+    (lines_then _ _ _ (enabled s) (registers s ++ dumps) _ _ c.in_ok-write_enabled.ensures
+    (lines_then _ _ _ (registers s) dumps _ _ c.in_ok-write_registers.ensures c.write_dumps.ensures))
