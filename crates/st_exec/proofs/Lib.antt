@@ -8,3 +8,4 @@ pub mod ApartLemmas
 pub mod SparedLemmas
 pub mod AheadLemmas
 pub mod ReadLemmas
+pub mod TransferLemmas

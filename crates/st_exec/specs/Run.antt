@@ -33,12 +33,12 @@ pub record Reached : Type 0 where
   pub happened : List Happening
 
 -- the state after words are written from word w on
-abbrev pub all_stored : Machine → ℕ → List ℕ → Machine
+unfoldable pub all_stored : Machine → ℕ → List ℕ → Machine
 all_stored s w [] = s
 all_stored s w (x ∷ xs) = all_stored (stored s w x) (w + 1) xs
 
 -- n words from word w on
-abbrev pub words_from : Machine → ℕ → ℕ → List ℕ
+unfoldable pub words_from : Machine → ℕ → ℕ → List ℕ
 words_from s w zero = []
 words_from s w (suc n) = word s w ∷ words_from s (w + 1) n
 
@@ -50,9 +50,18 @@ with_due_signals s (x ∷ xs) cards =
     else record { machine = s; signals = x ∷ xs; cards = cards }
 
 -- the reader puts a card in its area and turns on EOP, or EE where it has none
-abbrev pub read_in : Machine → ℕ → List (List ℕ) → Machine
-read_in s w [] = signalled (record s { reader = None }) 11
-read_in s w (card ∷ cards) = signalled (all_stored (record s { reader = None }) w card) 12
+abbrev pub read_in : Machine → ℕ → Option (List ℕ) → Machine
+read_in s w None = signalled (record s { reader = None }) 11
+read_in s w (Some card) = signalled (all_stored (record s { reader = None }) w card) 12
+
+-- the printer has taken its eight words and turns on EOP
+abbrev pub printed_out : Machine → Machine
+printed_out s = signalled (record s { printer = None }) 12
+
+-- the next card of the reader, and those behind it
+abbrev pub first_card : List (List ℕ) → Option (List ℕ)
+first_card [] = None
+first_card (card ∷ cards) = Some card
 
 abbrev pub cards_after : List (List ℕ) → List (List ℕ)
 cards_after [] = []
@@ -66,7 +75,10 @@ nothing c = record { scene = c; happened = [] }
 abbrev pub with_reader : Option Order → Scene → Reached
 with_reader None c = nothing c
 with_reader (Some order) c = record {
-  scene = record c { machine = read_in c.machine order.word c.cards; cards = cards_after c.cards };
+  scene = record c {
+    machine = read_in c.machine order.word (first_card c.cards);
+    cards = cards_after c.cards;
+  };
   happened = [];
 }
 
@@ -74,7 +86,7 @@ with_reader (Some order) c = record {
 abbrev pub with_printer : Option Order → Scene → Reached
 with_printer None c = nothing c
 with_printer (Some order) c = record {
-  scene = record c { machine = signalled (record c.machine { printer = None }) 12 };
+  scene = record c { machine = printed_out c.machine };
   happened = Prints c.machine (words_from c.machine order.word 8) ∷ [];
 }
 

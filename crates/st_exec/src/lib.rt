@@ -12,6 +12,7 @@ mod laws;
 mod operands;
 mod outcomes;
 mod step;
+mod transfers;
 mod transmission;
 
 pub use completing::complete;
@@ -21,6 +22,7 @@ pub use laws::{
     only_indicator_branches_are_missed,
 };
 pub use step::{Step, interrupt, is_at_rest, next_address, one};
+pub use transfers::{print_out, read_in};
 
 #[cfg(test)]
 mod tests;

@@ -1,0 +1,67 @@
+//! What the reader and the printer do between two instructions.
+ghost use Rattle.std.specs.Prelude.{◌≡◌, ◌+◌, ◌≤◌, IsSome, IfSome};
+ghost use Rattle.st_bits.specs.Storage.{words_of_storage};
+ghost use Rattle.st_exec.specs.Run.{all_stored, words_from, read_in as read_in_of, printed_out};
+
+use st_state::State;
+
+/// The indicators of an operation that ended, and of a reader without a card.
+const ENDED: u8 = 12;
+
+const EXHAUSTED: u8 = 11;
+
+/// Writes the words of a card to the eight words from the word address `w` on.
+fn store_card(w: u32, card: &[u64; 8], state: &mut State)
+    requires { w + 8 ≤ words_of_storage }
+    ensures { state.new ≡ all_stored state.old w card.now }
+{
+    for k in 0..8 {
+        state.store(w + k, card[k as usize]);
+    }
+}
+
+/// The eight words from the word address `w` on.
+fn words_at(w: u32, state: &State) -> [u64; 8]
+    requires { w + 8 ≤ words_of_storage }
+    ensures { result ≡ words_from state.now w 8 }
+{
+    let mut words = [0; 8];
+    for k in 0..8 {
+        words[k as usize] = state.word(w + k);
+    }
+    words
+}
+
+/// The order of the reader takes effect: the words of its next card come into its area, and EOP comes on; or EE, where
+/// there is no card. The reader is free then. `docs/machine.md`, "Reader and printer", has the rule.
+pub fn read_in(state: &mut State, card: Option<[u64; 8]>)
+    requires { IsSome state.old.reader }
+    ensures { IfSome state.old.reader (λ order. state.new ≡ read_in_of state.old order.word card) }
+{
+    state.shape();
+    let Some(order) = state.reader else { return };
+    state.reader = None;
+    let Some(card) = card else {
+        state.signal(EXHAUSTED);
+        return;
+    };
+    store_card(order.word, &card, state);
+    state.signal(ENDED);
+}
+
+/// The order of the printer takes effect: the eight words of its area are what is printed, and EOP comes on. The printer is
+/// free then. `docs/machine.md`, "Reader and printer", has the rule.
+pub fn print_out(state: &mut State) -> [u64; 8]
+    requires { IsSome state.old.printer }
+    ensures words { IfSome state.old.printer (λ order. result ≡ words_from state.old order.word 8) }
+    ensures state { state.new ≡ printed_out state.old }
+{
+    state.shape();
+    let Some(order) = state.printer else {
+        return [0; 8]
+    };
+    let words = words_at(order.word, state);
+    state.printer = None;
+    state.signal(ENDED);
+    words
+}
