@@ -6,8 +6,12 @@ use Rattle.st_io.specs.declared.Failed.{Failed}
 use Rattle.st_lines.specs.Lines.{text}
 use Rattle.st_lines.specs.Event.{lines_of, StoppedAt}
 use Rattle.st_state.specs.Machine.{Machine}
-use Rattle.st_exec.specs.Run.{Scene, Reached, Ran}
+use Rattle.st_exec.specs.Run.{Scene, Reached, Ran, happens, stepped}
 use Rattle.st_top.specs.Report.{report}
+
+-- the next step of a scene
+abbrev pub stepping : Scene → Reached
+stepping c = record { scene = stepped c; happened = happens c.machine }
 
 -- at Ok all that happened on the way to a scene is written, and the scene is this one; else the writing stopped, and the
 -- number done is that of the line

@@ -3,4 +3,7 @@
 #![tactic(auto, using(st_bits::specs::Storage::words_of_storage_is))]
 
 mod block;
+mod scene;
 pub use block::write_block;
+pub use scene::settle;
+mod running;
