@@ -6,7 +6,8 @@ use Rattle.st_io.specs.Output.{OutputState}
 use Rattle.st_io.specs.declared.Failed.{Failed}
 use Rattle.st_lines.specs.Lines.{WritesLines}
 use Rattle.std.proofs.lemmas.List.{append-nil}
-use Rattle.st_lines.specs.Event.{Event, at_moment}
+use Rattle.st_lines.specs.Event.{Event, at_moment, StoppedAt}
+use Rattle.st_lines.proofs.Writing.{wrote_at_moment, stopped_at_moment, wrote_events, events_before, events_after}
 use Rattle.st_lines.proofs.Progress.{EventsSoFar, events_more, events_stopped, events_whole}
 use Rattle.st_state.specs.Machine.{Machine, stored}
 use Rattle.st_state.specs.Interrupts.{signalled}
@@ -18,7 +19,7 @@ use Rattle.st_exec.specs.Step.{rests}
 use Rattle.st_exec.specs.Run.{Signal, Scene, Reached, Ran, Happening, Ends, all_stored, read_in, first_card, with_due_signals, with_signals_at_rest, with_reader, with_printer, if_due, with_due_orders, with_device, with_order_at_rest, with_wait, settled, nothing, ended, happens, stepped, goes_on, run}
 use Rattle.st_exec.proofs.Runs.{run-goes_on, step-done}
 use Rattle.st_top.specs.Report.{report, lines_at}
-use Rattle.st_top.specs.Running.{WritesReached, RunWrites, stepping}
+use Rattle.st_top.specs.Running.{WritesReached, WritesEvents, RunWrites, stepping}
 use Rattle.st_top.proofs.Stages.{report-append, stage_lines}
 
 -- ---- what comes between two steps leaves the number done
@@ -106,7 +107,7 @@ settle_stops s t u asked all left b c e (Err x) f h w =
     let p = begins left b in
     record {
       whole = tt;
-      last = tt;
+      last_state = tt;
       stopped = events_stopped s t u (report asked all.happened) (report asked (settled b).happened) (report asked p.more) c.machine.done 0
           (parted_events s t asked (report asked all.happened) (run left b) (settled b).happened p.more p.is h) w.stopped;
     }
@@ -120,12 +121,12 @@ after_settle s t u asked all r b c more x e h w =
 end_written : (s t u : OutputState) (asked : Asked) (all : Ran) (m : Machine) (b : Bool) (r : Result (Unit {0}) Failed) → m ≡ all.last → EventsSoFar s t (report asked all.happened) (report asked (Ends m b ∷ [])) → WritesReached t u asked (record { scene = record { machine = m; signals = []; cards = [] }; happened = Ends m b ∷ [] }) (record { machine = m; signals = []; cards = [] }) r → RunWrites s u asked all m r
 end_written s t u asked all m b (Ok x) l h w = record {
   whole = events_whole s u (report asked all.happened) (events_more s t u (report asked all.happened) (report asked (Ends m b ∷ [])) [] (subst (EventsSoFar s t (report asked all.happened)) (sym (append-nil (report asked (Ends m b ∷ [])))) h) w.whole);
-  last = l;
+  last_state = l;
   stopped = tt;
 }
 end_written s t u asked all m b (Err x) l h w = record {
   whole = tt;
-  last = tt;
+  last_state = tt;
   stopped = events_stopped s t u (report asked all.happened) (report asked (Ends m b ∷ [])) [] m.done 0 (subst (EventsSoFar s t (report asked all.happened)) (sym (append-nil (report asked (Ends m b ∷ [])))) h) w.stopped;
 }
 
@@ -155,7 +156,7 @@ pub step_stops : (s t u v : OutputState) (asked : Asked) (all : Ran) (left : ℕ
 step_stops s t u v asked all left b c d x e (Ok y) q some f h w z = absurd (cc)
 step_stops s t u v asked all left b c d x e (Err y) q some f h w z = record {
   whole = tt;
-  last = tt;
+  last_state = tt;
   stopped = events_stopped s u v (report asked all.happened) (report asked (stepping c).happened) (report asked (run (left - 1) (stepped c)).happened) d.machine.done 0
       (goes_on_left s t u asked (report asked all.happened) left b c x some f h w) z.stopped;
 }
@@ -175,3 +176,26 @@ step_last t u v asked left b c d x y some f w z =
 pub step_counts : (t u v : OutputState) (asked : Asked) (b c d : Scene) (x y : Unit {0}) → WritesReached t u asked (settled b) c (Ok x) → WritesReached u v asked (stepping c) d (Ok y) → d.machine.done ≡ b.machine.done + 1
 step_counts t u v asked b c d x y w z =
     ap (λ k. k.machine.done) z.scene ∙ (step-done c.machine ∙ ap (λ n. n + 1) (ap (λ k. k.machine.done) w.scene ∙ settled-done b))
+
+-- ---- lines before a run
+
+pub lines_and_run : (s t u : OutputState) (lines : List (List ℕ)) (events : List Event) (last m : Machine) (x : Unit {0}) (r : Result (Unit {0}) Failed) → WritesLines s t lines (Ok x) → WritesEvents t u events last m r → WritesEvents s u (at_moment 0 0 lines ++ events) last m r
+lines_and_run s t u lines events last m x (Ok y) h w = record {
+  whole = wrote_events s t u (at_moment 0 0 lines) events (wrote_at_moment s t 0 0 lines h.ok) w.whole;
+  last_state = w.last_state;
+  stopped = tt;
+}
+lines_and_run s t u lines events last m x (Err y) h w = record {
+  whole = tt;
+  last_state = tt;
+  stopped = events_after s t u (at_moment 0 0 lines) events m.done 0 (wrote_at_moment s t 0 0 lines h.ok) w.stopped;
+}
+
+pub lines_alone : (s t : OutputState) (lines : List (List ℕ)) (events : List Event) (last m : Machine) (e : Failed) (r : Result (Unit {0}) Failed) → m.done ≡ 0 → IsErr r → WritesLines s t lines (Err e) → WritesEvents s t (at_moment 0 0 lines ++ events) last m r
+lines_alone s t lines events last m e (Ok y) f g h = absurd (cc)
+lines_alone s t lines events last m e (Err y) f g h = record {
+  whole = tt;
+  last_state = tt;
+  stopped = subst (λ n. StoppedAt s t (at_moment 0 0 lines ++ events) n 0) (sym f)
+      (events_before s t (at_moment 0 0 lines) events 0 0 (stopped_at_moment s t 0 0 lines h.err));
+}

@@ -1,3 +1,7 @@
+pub mod Command
 pub mod Signals
 pub mod Report
+pub mod Listing
+pub mod Output
+pub mod Answers
 pub mod Running

@@ -2,8 +2,14 @@
 //! the whole program promises. `docs/machine.md` and `docs/report.md` have the rules.
 #![tactic(auto, using(st_bits::specs::Storage::words_of_storage_is))]
 
+mod answer;
 mod block;
-mod scene;
-pub use block::write_block;
-pub use scene::settle;
+mod command;
+mod listing;
+mod program;
 mod running;
+mod scene;
+
+pub use answer::{Answer, Status};
+pub use command::Command;
+pub use program::stretch;

@@ -38,6 +38,24 @@ impl<'a> Model for Scene<'a> {
     ghost invariant = { λ c. AllPass is_signal c.signals.now };
 }
 
+impl<'a> Scene<'a> {
+    ghost use Rattle.std.specs.List.{AllPass};
+    ghost use Rattle.st_card.specs.Limits.{is_signal};
+    ghost use Rattle.st_top.specs.Signals.{signals_of};
+
+    /// A run at its start.
+    pub fn new(machine: State, signals: &'a [Signal], cards: Hopper) -> Scene<'a>
+        requires { AllPass is_signal signals.now }
+        ensures { result ≡ record { machine = machine; signals = signals_of signals.now; cards = cards } }
+    {
+        Scene {
+            machine,
+            signals,
+            cards,
+        }
+    }
+}
+
 /// Turns on the signals at the front that are due, and gives those that are still to come.
 fn due_signals<'a>(machine: &mut State, signals: &'a [Signal]) -> &'a [Signal]
     requires { AllPass is_signal signals.now }

@@ -1,0 +1,63 @@
+-- What each answer of the program says: when it comes, and what was read and written.
+use Rattle.std.specs.Prelude.{◌≡◌, ℕ, List, Option, None, Some}
+use Rattle.st_io.specs.Count.{HasRisen}
+use Rattle.st_io.specs.Input.{InputState, CameWhole, CameWithin, CamePast}
+use Rattle.st_io.specs.Output.{OutputState, Wrote}
+use Rattle.st_lines.specs.Lines.{text}
+use Rattle.st_lines.specs.Event.{lines_of, StoppedAt}
+use Rattle.st_top.specs.Output.{Output, output_of}
+use Rattle.st_top.specs.declared.answer.Answer.{Answer}
+use Rattle.st_top.specs.declared.answer.Status.{Status}
+use Rattle.st_top.specs.declared.answer.Status.TheVariants.{Done, Refused, Usage, JobTooLong, ReadFault, WriteFault, NoMemory}
+use Rattle.st_top.specs.declared.command.Command.{Command}
+
+-- the longest job, in bytes
+abbrev pub job_limit : ℕ
+job_limit = 2000000
+
+-- nothing ran
+pub record NothingRan (answer : Answer) : Type 0 where
+  pub none_done : answer.done ≡ 0
+  pub no_ticks : answer.ticks ≡ 0
+
+-- the whole output was written
+pub record WroteAll (before after : OutputState) (output : Output) (answer : Answer) : Type 0 where
+  pub status : answer.status ≡ output.status
+  pub wrote : Wrote before after (text (lines_of output.events))
+  pub done : answer.done ≡ output.done
+  pub ticks : answer.ticks ≡ output.ticks
+
+-- how an output was written, by the status: wholly; or up to a write that failed; or not at all, for want of memory
+abbrev pub Writes : Status → OutputState → OutputState → Output → Answer → Type 0
+Writes Done before after output answer = WroteAll before after output answer
+Writes Refused before after output answer = WroteAll before after output answer
+Writes WriteFault before after output answer = StoppedAt before after output.events answer.done answer.ticks
+Writes NoMemory before after output answer = (after ≡ before) × NothingRan answer
+Writes Usage before after output answer = ⊥
+Writes JobTooLong before after output answer = ⊥
+Writes ReadFault before after output answer = ⊥
+
+-- a job was read whole, and its output written
+pub record WroteOutput (status : Status) (input input' : InputState) (before after : OutputState) (answer : Answer) : Type 0 where
+  pub job : List ℕ
+  pub read : CameWhole input input' job_limit job
+  pub written : Writes status before after (output_of job) answer
+
+-- what a command that reads a job did to its source and its sink, by the status
+abbrev pub Did : Status → InputState → InputState → OutputState → OutputState → Answer → Type 0
+Did Done input input' before after answer = WroteOutput Done input input' before after answer
+Did Refused input input' before after answer = WroteOutput Refused input input' before after answer
+Did WriteFault input input' before after answer = WroteOutput WriteFault input input' before after answer
+Did JobTooLong input input' before after answer =
+    CamePast input input' job_limit × (input'.faults ≡ input.faults) × (after ≡ before) × NothingRan answer
+Did ReadFault input input' before after answer =
+    CameWithin input input' job_limit × HasRisen input.faults input'.faults × (after ≡ before) × NothingRan answer
+Did NoMemory input input' before after answer =
+    CameWithin input input' job_limit × (input'.faults ≡ input.faults) × (after ≡ before) × NothingRan answer
+Did Usage input input' before after answer = ⊥
+
+-- what a call did, by the meaning of its words: words that mean nothing touch neither source nor sink
+abbrev pub IsAnswer : Option Command → InputState → InputState → OutputState → OutputState → Answer → Type 0
+IsAnswer None input input' before after answer =
+    (answer.status ≡ Usage) × (input' ≡ input) × (after ≡ before) × NothingRan answer
+IsAnswer (Some command) input input' before after answer = Did answer.status input input' before after answer

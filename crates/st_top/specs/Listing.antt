@@ -1,0 +1,36 @@
+-- The listing of a job: a line for each card, and then one for each symbol.
+use Rattle.std.specs.Prelude.{◌≡◌, ℕ, if◌then◌else◌, List, [], ◌∷◌, ◌++◌, length, All, None}
+use Rattle.st_card.specs.Cards.{cards_of, text_in, IsCardOf}
+use Rattle.st_card.specs.declared.cards.Card.{Card}
+use Rattle.st_asm.specs.Assembly.{Assembly}
+use Rattle.st_asm.specs.Sound.{IsRow}
+use Rattle.st_asm.specs.declared.naming.Symbol.{Symbol}
+use Rattle.st_asm.specs.declared.valuing.Listed.{Listed}
+use Rattle.st_report.specs.Listing.{listed_line, symbol_line}
+
+-- the cards of a job that is assembled: each has its text in the job and no fault, and its row of the listing
+pub record HasCards (job : List ℕ) (rows : List Listed) (cards : List Card) : Type 0 where
+  pub cards_are : cards ≡ cards_of job
+  pub texts : All (IsCardOf job) cards
+  pub good : All (λ card. card.fault ≡ None) cards
+  pub rows_fit : All IsRow rows
+  pub same : length rows ≡ length cards
+
+-- the line of a card, by its row
+abbrev pub row_line : List ℕ → Listed → Card → List ℕ
+row_line job row card = listed_line row.card row.location row.bits row.length (text_in job card)
+
+-- the lines of cards, each by its row
+abbrev pub rows_lines : List ℕ → List Listed → List Card → List (List ℕ)
+rows_lines job [] cards = []
+rows_lines job (row ∷ rows) [] = []
+rows_lines job (row ∷ rows) (card ∷ cards) = row_line job row card ∷ rows_lines job rows cards
+
+-- the lines of symbols
+abbrev pub symbols_lines : List Symbol → List (List ℕ)
+symbols_lines [] = []
+symbols_lines (s ∷ ss) = symbol_line s.name s.value ∷ symbols_lines ss
+
+-- the listing of a job that is assembled, where it is asked for
+unfoldable pub listing : List ℕ → Assembly → List (List ℕ)
+listing job a = if a.asked.list then rows_lines job a.rows (cards_of job) ++ symbols_lines a.symbols else []

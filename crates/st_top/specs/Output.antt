@@ -1,0 +1,61 @@
+-- What the program writes for a job.
+use Rattle.std.specs.Prelude.{ℕ, List, [], ◌∷◌, ◌++◌, Result, Ok, Err}
+use Rattle.st_card.specs.Controls.{Asked}
+use Rattle.st_card.specs.Faults.{name_of}
+use Rattle.st_asm.specs.Pass.{Refusal}
+use Rattle.st_asm.specs.Assembly.{Assembly, assembly}
+use Rattle.st_state.specs.Machine.{opening}
+use Rattle.st_exch.specs.Reader.{reader_cards}
+use Rattle.st_exec.specs.Run.{Scene, Ran, run}
+use Rattle.st_lines.specs.Event.{Event, at_moment}
+use Rattle.st_report.specs.Line.{fault_line}
+use Rattle.st_top.specs.Signals.{signals_of}
+use Rattle.st_top.specs.Listing.{listing}
+use Rattle.st_top.specs.Report.{report}
+use Rattle.st_top.specs.declared.answer.Status.{Status}
+use Rattle.st_top.specs.declared.answer.Status.TheVariants.{Done, Refused}
+
+-- the status, the lines, the number of instructions done and the tick of the last completion
+pub record Output : Type 0 where
+  pub status : Status
+  pub events : List Event
+  pub done : ℕ
+  pub ticks : ℕ
+
+-- the output of a job that is refused at a card
+abbrev pub refused : Refusal → Output
+refused r = record {
+  status = Refused;
+  events = at_moment 0 0 (fault_line r.card (name_of r.fault) ∷ []);
+  done = 0;
+  ticks = 0;
+}
+
+-- the start of a run: the machine, the signals that are asked for, and the cards of the reader
+abbrev pub start_of : List ℕ → Assembly → Scene
+start_of job a = record {
+  machine = opening a.image a.start;
+  signals = signals_of a.asked.signals;
+  cards = reader_cards job;
+}
+
+-- the whole run of a job that is assembled
+unfoldable pub run_of : List ℕ → Assembly → Ran
+run_of job a = run a.asked.budget (start_of job a)
+
+-- the output of a job that runs: the listing, and then the report of its run
+abbrev pub output_of_run : List (List ℕ) → Asked → Ran → Output
+output_of_run listed asked r = record {
+  status = Done;
+  events = at_moment 0 0 listed ++ report asked r.happened;
+  done = r.last.done;
+  ticks = 0;
+}
+
+abbrev pub output_by : List ℕ → Result Assembly Refusal → Output
+output_by job (Ok a) = output_of_run (listing job a) a.asked (run_of job a)
+output_by job (Err r) = refused r
+
+-- the output of a job
+unfoldable pub output_of : List ℕ → Output
+output_of job = output_by job (assembly job)

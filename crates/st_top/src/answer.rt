@@ -1,0 +1,45 @@
+ghost use Rattle.std.specs.Prelude.{◌≡◌};
+
+/// How a call of `stretch` ended. The number is the program's exit status.
+#[derive(Clone, Copy, Debug, PartialEq, Eq)]
+pub enum Status {
+    /// The job ran, and its whole report was written.
+    Done = 0,
+    /// The job was refused, and the line that says so was written.
+    Refused = 1,
+    /// The words mean no command. Nothing was read or written.
+    Usage = 2,
+    /// The job has more than 2,000,000 bytes. Nothing was written.
+    JobTooLong = 3,
+    /// A read of the job failed. Nothing was written.
+    ReadFault = 4,
+    /// A write failed. A proper front of the output was written.
+    WriteFault = 5,
+    /// There was no memory. Nothing was written.
+    NoMemory = 6,
+}
+
+/// What a call of `stretch` did.
+#[derive(Clone, Copy, Debug, PartialEq, Eq)]
+pub struct Answer {
+    pub status: Status,
+    /// The number of instructions done; after a failed write, when the line that failed was written.
+    pub done: u64,
+    /// The tick of the last completion. It is 0 until ticks are modelled.
+    pub ticks: u64,
+}
+
+impl Answer {
+    /// The answer of a call in which nothing ran.
+    pub fn without_run(status: Status) -> Answer
+        ensures status { result.status ≡ status }
+        ensures done { result.done ≡ 0 }
+        ensures ticks { result.ticks ≡ 0 }
+    {
+        Answer {
+            status,
+            done: 0,
+            ticks: 0,
+        }
+    }
+}

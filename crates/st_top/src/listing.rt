@@ -1,0 +1,104 @@
+//! The listing of a job.
+ghost use Rattle.std.specs.Prelude.{◌≡◌, [], ◌∷◌, ◌++◌, All, None, length};
+ghost use Rattle.st_asm.specs.Assembly.{shown};
+ghost use Rattle.st_asm.specs.Sound.{IsRow, IsSymbol};
+ghost use Rattle.st_card.specs.Cards.{IsCardOf, cards_of};
+ghost use Rattle.st_lines.specs.Lines.{WritesLines};
+ghost use Rattle.st_top.specs.Listing.{HasCards, row_line, rows_lines, symbols_lines, listing};
+
+use crate::block::put;
+use st_asm::{Assembled, Listed, Symbol};
+use st_card::{Card, Controls};
+use st_io::{Failed, Sink};
+use st_report::{line_listed, line_symbol};
+
+/// Writes the line of a card, by its row.
+fn write_row<K: Sink>(out: &mut K, job: &[u8], row: Listed, card: Card) -> Result<(), Failed>
+    requires row { IsRow row }
+    requires text { IsCardOf job.now card }
+    requires good { card.fault ≡ None }
+    ensures { WritesLines (K.output out.old) (K.output out.new) (row_line job.now row card ∷ []) result }
+{
+    let text = card.text(job);
+    put(out, &line_listed(row.card, row.location, row.bits, row.length, text))
+}
+
+/// Writes the lines of cards, each by its row.
+fn write_rows<K: Sink>(out: &mut K, job: &[u8], rows: &[Listed], cards: &[Card]) -> Result<(), Failed>
+    requires rows { All IsRow rows.now }
+    requires texts { All (IsCardOf job.now) cards.now }
+    requires good { All (λ card. card.fault ≡ None) cards.now }
+    requires same { length rows.now ≡ length cards.now }
+    ensures { WritesLines (K.output out.old) (K.output out.new) (rows_lines job.now rows.now cards.now) result }
+{
+    for k in 0..rows.len() {
+        write_row(out, job, rows[k], cards[k])?;
+    }
+    Ok(())
+}
+
+/// Writes the line of a symbol.
+fn write_symbol<K: Sink>(out: &mut K, symbol: Symbol) -> Result<(), Failed>
+    requires { IsSymbol symbol }
+    ensures { WritesLines (K.output out.old) (K.output out.new) (symbols_lines (symbol ∷ [])) result }
+{
+    put(out, &line_symbol(symbol.name, symbol.value))
+}
+
+/// Writes the lines of symbols.
+fn write_symbols<K: Sink>(out: &mut K, symbols: &[Symbol]) -> Result<(), Failed>
+    requires { All IsSymbol symbols.now }
+    ensures { WritesLines (K.output out.old) (K.output out.new) (symbols_lines symbols.now) result }
+{
+    for k in 0..symbols.len() {
+        write_symbol(out, symbols[k])?;
+    }
+    Ok(())
+}
+
+/// Whether the listing is asked for.
+fn is_listed(controls: &Controls) -> bool
+    ensures { result ≡ controls.now.list }
+{
+    controls.list
+}
+
+/// Writes a line for each card of a job, and then one for each symbol.
+fn write_both<K: Sink>(
+    out: &mut K,
+    job: &[u8],
+    cards: &[Card],
+    rows: &[Listed],
+    symbols: &[Symbol],
+) -> Result<(), Failed>
+    requires cards { HasCards job.now rows.now cards.now }
+    requires symbols { All IsSymbol symbols.now }
+    ensures { WritesLines (K.output out.old) (K.output out.new)
+        (rows_lines job.now rows.now cards.now ++ symbols_lines symbols.now) result }
+{
+    write_rows(out, job, rows, cards)?;
+    write_symbols(out, symbols)
+}
+
+/// Writes the listing of a job that is assembled, where it is asked for.
+pub fn write_listing<K: Sink>(
+    out: &mut K,
+    job: &[u8],
+    cards: &[Card],
+    program: &Assembled,
+) -> Result<(), Failed>
+    requires cards { HasCards job.now program.now.listing.items cards.now }
+    requires symbols { All IsSymbol program.now.symbols.items }
+    ensures { WritesLines (K.output out.old) (K.output out.new) (listing job.now (shown program.now)) result }
+{
+    if !is_listed(&program.controls) {
+        return Ok(());
+    }
+    write_both(
+        out,
+        job,
+        cards,
+        program.listing.as_slice(),
+        program.symbols.as_slice(),
+    )
+}
