@@ -1,5 +1,7 @@
-pub mod ListLemmas
-pub mod NumberLemmas
-pub mod PieceLemmas
-pub mod JobLemmas
+pub mod PassLemmas
+pub mod LineLemmas
+pub mod TableLemmas
+pub mod FieldLemmas
+pub mod FaultLemmas
+pub mod KeptLemmas
 pub mod ImageLemmas
