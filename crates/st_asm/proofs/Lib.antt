@@ -1,4 +1,5 @@
 pub mod PassLemmas
+pub mod StopLemmas
 pub mod LineLemmas
 pub mod TableLemmas
 pub mod FieldLemmas

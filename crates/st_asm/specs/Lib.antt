@@ -11,4 +11,5 @@ pub mod Laying
 pub mod Valuing
 pub mod Assembly
 pub mod Sound
+pub mod Stops
 pub mod Answers

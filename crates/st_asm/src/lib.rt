@@ -4,6 +4,7 @@
 mod assembling;
 mod checks;
 mod forming;
+mod laws;
 mod laying;
 mod line;
 mod naming;
@@ -15,6 +16,7 @@ mod values;
 mod valuing;
 
 pub use assembling::{Assembled, assemble};
+pub use laws::passes_stop_at_the_first_fault;
 pub use naming::Symbol;
 pub use stop::AsmError;
 pub use valuing::Listed;
