@@ -1,0 +1,28 @@
+-- A pass goes over the cards in their order, and stops at the first faulty one.
+use Rattle.std.specs.Prelude.{ℕ, List, [], ◌∷◌, Option, Some, None, Result, Ok, Err}
+use Rattle.st_card.specs.declared.faults.Fault.{Fault}
+
+-- why a job is refused: the number of a card, and its fault
+pub record Refusal : Type 0 where
+  pub card : ℕ
+  pub fault : Fault
+
+-- a pass goes on where a card has no fault, and is refused at that card where it has one
+abbrev pub onward : {S T : Type 0} → (S → Result T Refusal) → ℕ → Result S Fault → Result T Refusal
+onward rest card (Ok state) = rest state
+onward rest card (Err fault) = Err (record { card = card; fault = fault })
+
+-- what a pass leaves: `next` is the state that a card makes of a state, or the card's fault
+abbrev pub pass : {S X : Type 0} → (S → X → Result S Fault) → (X → ℕ) → S → List X → Result S Refusal
+pass next number state [] = Ok state
+pass next number state (x ∷ xs) = onward (λ s. pass next number s xs) (number x) (next state x)
+
+-- what comes of a thing that has a fault or none
+abbrev pub unless_faulty : {S : Type 0} → Option Fault → Result S Fault → Result S Fault
+unless_faulty None answer = answer
+unless_faulty (Some fault) answer = Err fault
+
+-- what comes next where there is something
+abbrev pub then_for : {A B : Type 0} → (A → Result B Refusal) → Result A Refusal → Result B Refusal
+then_for next (Ok a) = next a
+then_for next (Err refusal) = Err refusal

@@ -1,0 +1,35 @@
+//! Why a job has no image.
+
+ghost use Rattle.std.specs.Prelude.{◌≡◌};
+ghost use Rattle.st_asm.specs.Answers as spec;
+
+use st_card::Fault;
+
+/// Why a job has no image.
+#[derive(Clone, Copy, Debug, PartialEq, Eq)]
+pub enum AsmError {
+    /// A card is refused: the first faulty one, by its number from 1 on, of the earliest pass that
+    /// finds any, and the first of its faults in that pass.
+    Refused { card: u32, fault: Fault },
+    /// Memory ran out.
+    NoMemory,
+}
+
+// Why a pass stops at a card.
+#[derive(Clone, Copy)]
+pub(crate) enum Stop {
+    Faulty(Fault),
+    NoMemory,
+}
+
+impl Stop {
+    // The same with the card's number.
+    pub(crate) fn at(self, card: u32) -> AsmError
+        ensures { result ≡ spec.stopped_at card self }
+    {
+        match self {
+            Stop::Faulty(fault) => AsmError::Refused { card, fault },
+            Stop::NoMemory => AsmError::NoMemory,
+        }
+    }
+}
