@@ -1,5 +1,5 @@
 -- A text that is read is the object text of what it holds.
-use Rattle.std.proofs.Common.{◌≡◌, ◌≤◌, ◌<◌, ◌+◌, ◌==◌, ℕ, Bool, true, false, List, [], ◌∷◌, ◌++◌, length, Option, Some, None, is_some, Result, Ok, Err, if◌then◌else◌, refl, ap, sym, subst, ◌∙◌, append_assoc, append-nil, arith}
+use Rattle.std.proofs.Common.{◌≡◌, ◌+◌, ◌==◌, ℕ, Bool, true, false, List, [], ◌∷◌, ◌++◌, Option, Some, None, is_some, Ok, Err, if◌then◌else◌, refl, ap, sym, subst, ◌∙◌, append_assoc, append-nil, arith}
 use Rattle.std.specs.Option.{option_map_or}
 use Rattle.std.proofs.lemmas.Bool.Decides.{nat_tests}
 use Rattle.st_card.specs.Pieces.{onto_first, parted}
@@ -11,10 +11,8 @@ use Rattle.st_object.specs.Draft.{Draft, blank, IsDraft, is_empty, lines_of, is_
 use Rattle.st_object.specs.Meaning.{item_in}
 use Rattle.st_object.specs.Object.{Program, IsProgram, AreWords, object_text, program_of, with_line, finished, unended, end_of, read_from, read_text}
 use Rattle.st_object.specs.declared.items.Item.{Item}
-use Rattle.st_object.proofs.Told.{chained, told, the_one}
-use Rattle.st_object.proofs.Empties.{none_of}
+use Rattle.st_object.proofs.Told.{chained, told}
 use Rattle.st_object.proofs.Grown.{grown}
-use Rattle.st_object.proofs.Kept.{kept}
 use Rattle.st_object.proofs.LineByLine.{line_kept}
 use Rattle.st_object.proofs.Written.{text_of-append}
 use Rattle.st_object.proofs.Whole.{whole_program, whole_words, whole_lines_of}

@@ -1,5 +1,5 @@
 -- The lines of a program, added one by one, make that program.
-use Rattle.std.proofs.Common.{◌≡◌, ◌≤◌, ◌<◌, ◌+◌, ◌-◌, ◌/◌, ◌^◌, ◌==◌, ◌&&◌, ℕ, suc, Bool, true, false, not, nat_le, nat_lt, List, [], ◌∷◌, ◌++◌, length, get_or, map, replicate, Option, Some, None, if◌then◌else◌, refl, ap, sym, subst, ◌∙◌, append_assoc, append-nil, length-append, arith}
+use Rattle.std.proofs.Common.{◌≡◌, ◌≤◌, ◌<◌, ◌+◌, ◌-◌, ◌/◌, ◌^◌, ◌==◌, ◌&&◌, ℕ, Bool, true, false, not, nat_le, nat_lt, List, [], ◌∷◌, ◌++◌, length, get_or, map, replicate, Option, Some, None, if◌then◌else◌, refl, ap, sym, subst, ◌∙◌, append_assoc, append-nil, length-append, arith}
 use Rattle.std.specs.List.{All, list_all}
 use Rattle.std.specs.Option.{option_map_or}
 use Rattle.std.specs.List.Sorted.{IsNonDecreasingBy, IsStrictlyIncreasing}
@@ -9,14 +9,14 @@ use Rattle.std.proofs.lemmas.List.{length-replicate, replicate_more, get_or_appe
 use Rattle.std.proofs.lemmas.List.Sums.{list_all-from_AllPass}
 use Rattle.st_bits.specs.Storage.{words_of_storage, words_of_storage_is}
 use Rattle.st_card.specs.Controls.{Asked, nothing, is_among, last_passes}
-use Rattle.st_card.specs.Limits.{is_signal, is_part, is_tick, IsWithinLimits}
+use Rattle.st_card.specs.Limits.{is_signal, is_part, is_tick}
 use Rattle.st_card.specs.declared.control_cards.Signal.{Signal as GivenSignal}
 use Rattle.st_object.specs.Lines.{marked, word_lines, budget_lines, back_lines}
-use Rattle.st_object.specs.Draft.{Draft, blank, is_empty, lines_of, is_whole, has_place, may_hold, with_asked, with_value, with_item, lines_from_budget}
+use Rattle.st_object.specs.Draft.{Draft, blank, is_empty, lines_of, is_whole, has_place, may_hold, with_asked, with_value, with_item}
 use Rattle.st_object.specs.Meaning.{IsShort, IsItem}
 use Rattle.st_object.specs.Object.{Program, IsProgram, AreWords, draft_of, filled_up, program_of}
 use Rattle.st_object.specs.declared.items.Item.{Item}
-use Rattle.st_object.specs.declared.items.Item.TheVariants.{Object, Start, Word, Budget, Delay, Signal, Dump, Trace, Time, Chart, Snap, Back, Fin}
+use Rattle.st_object.specs.declared.items.Item.TheVariants.{Start, Word, Budget, Delay, Signal, Dump, Trace, Time, Chart, Snap, Back, Fin}
 use Rattle.st_object.proofs.Empties.{holds_both}
 
 -- lines that can be read and may follow one another lead from one draft to another

@@ -1,15 +1,13 @@
 -- Lines that were read can be followed by others up to a whole program.
-use Rattle.std.proofs.Common.{◌≡◌, ◌≤◌, ◌<◌, ◌+◌, ◌-◌, ◌^◌, ◌==◌, ◌&&◌, ℕ, suc, Bool, true, false, not, nat_le, nat_lt, List, [], ◌∷◌, ◌++◌, length, replicate, Option, Some, None, is_some, is_none, if◌then◌else◌, refl, ap, sym, subst, ◌∙◌, append_assoc, append-nil, length-append, arith}
-use Rattle.std.specs.Option.{option_and_then}
+use Rattle.std.proofs.Common.{◌≡◌, ◌+◌, ◌-◌, ◌^◌, ◌==◌, ◌&&◌, ℕ, Bool, true, false, not, nat_le, nat_lt, List, [], ◌∷◌, ◌++◌, length, replicate, Option, Some, None, is_some, is_none, if◌then◌else◌, refl, ap, sym, subst, ◌∙◌, append_assoc, append-nil, arith}
 use Rattle.std.proofs.lemmas.Bool.Decides.{nat_tests}
 use Rattle.st_card.specs.Controls.{Asked, is_among}
-use Rattle.st_card.specs.declared.control_cards.Signal.{Signal as GivenSignal}
-use Rattle.st_object.specs.Draft.{Draft, blank, IsDraft, is_empty, lines_of, lacks_fin, lacks_back, lacks_snaps, lacks_chart, lacks_time, lacks_trace, lacks_dumps, lacks_signals, lacks_delays, lacks_budget, lacks_words, lacks_start, lacks_object, has_start, has_budget, has_delays, is_whole, has_place, may_hold, with_start, with_word, with_asked, with_value, with_item}
+use Rattle.st_object.specs.Draft.{Draft, blank, IsDraft, is_empty, lines_of, lacks_fin, lacks_signals, lacks_delays, lacks_budget, lacks_words, lacks_start, lacks_object, has_start, has_budget, has_delays, is_whole, has_place, may_hold, with_start, with_word, with_asked, with_value, with_item}
 use Rattle.st_object.specs.declared.items.Item.{Item}
 use Rattle.st_object.specs.declared.items.Item.TheVariants.{Object, Start, Word, Budget, Delay, Signal, Dump, Trace, Time, Chart, Snap, Back, Fin}
-use Rattle.st_object.proofs.Told.{given, mapped, the_one, IsNarrow}
+use Rattle.st_object.proofs.Told.{given, the_one}
 use Rattle.st_object.proofs.Empties.{holds_both}
-use Rattle.st_object.proofs.Grown.{grown, asked_step, mark_step, among_filled}
+use Rattle.st_object.proofs.Grown.{grown, asked_step, mark_step}
 use Rattle.st_object.proofs.Kept.{kept}
 
 -- where a line that may not be left out was not read yet, nothing behind it was

@@ -1,16 +1,15 @@
 -- A further line stands behind those that were read.
-use Rattle.std.proofs.Common.{◌≡◌, ◌≤◌, ◌<◌, ◌+◌, ◌-◌, ◌^◌, ◌==◌, ◌&&◌, ℕ, suc, zero, Bool, true, false, not, nat_le, nat_lt, List, [], ◌∷◌, ◌++◌, length, map, replicate, Option, Some, None, is_some, is_none, if◌then◌else◌, refl, ap, sym, subst, ◌∙◌, append_assoc, append-nil, length-append, arith}
+use Rattle.std.proofs.Common.{◌≡◌, ◌≤◌, ◌+◌, ◌-◌, ◌^◌, ◌==◌, ◌&&◌, ℕ, suc, zero, Bool, true, false, not, nat_le, nat_lt, List, [], ◌∷◌, ◌++◌, length, map, replicate, Option, Some, None, is_none, if◌then◌else◌, refl, ap, sym, subst, ◌∙◌, append_assoc, append-nil, length-append, arith}
 use Rattle.std.proofs.lemmas.List.{map-append, length-replicate}
 use Rattle.std.proofs.lemmas.Bool.Decides.{nat_tests}
-use Rattle.st_bits.specs.Storage.{words_of_storage}
-use Rattle.st_card.specs.Controls.{Asked, is_among, last_passes, with_budget, with_delays, with_signal, with_dump, with_trace, with_time, with_chart, with_snap, with_back}
+use Rattle.st_card.specs.Controls.{Asked, is_among}
 use Rattle.st_card.specs.declared.control_cards.Signal.{Signal as GivenSignal}
 use Rattle.st_object.specs.Lines.{marked, word_lines, budget_lines, back_lines}
-use Rattle.st_object.specs.Draft.{Draft, start_lines, lines_from_fin, lines_from_back, lines_from_snaps, lines_from_chart, lines_from_time, lines_from_trace, lines_from_dumps, lines_from_signals, lines_from_delays, lines_from_budget, lines_from_words, lines_from_start, lines_of, lacks_fin, lacks_back, lacks_snaps, lacks_chart, lacks_time, lacks_trace, lacks_dumps, lacks_signals, lacks_delays, lacks_budget, lacks_words, lacks_start, lacks_object, has_start, has_budget, has_delays, has_place, may_hold, with_start, with_word, with_asked, with_value, with_item}
+use Rattle.st_object.specs.Draft.{Draft, start_lines, lines_from_fin, lines_from_back, lines_from_snaps, lines_from_chart, lines_from_time, lines_from_trace, lines_from_dumps, lines_from_signals, lines_from_delays, lines_from_budget, lines_from_words, lines_from_start, lines_of, lacks_fin, lacks_back, lacks_snaps, lacks_chart, lacks_time, lacks_trace, lacks_dumps, lacks_signals, lacks_delays, lacks_budget, lacks_words, lacks_start, lacks_object, has_start, has_delays, has_place, may_hold, with_start, with_word, with_asked, with_value, with_item}
 use Rattle.st_object.specs.declared.items.Item.{Item}
 use Rattle.st_object.specs.declared.items.Item.TheVariants.{Object, Start, Word, Budget, Delay, Signal, Dump, Trace, Time, Chart, Snap, Back, Fin}
-use Rattle.st_object.proofs.Told.{given, mapped, the_one}
-use Rattle.st_object.proofs.Empties.{holds_both, none_of, none_from_fin, none_from_back, none_from_snaps, none_from_chart, none_from_time, none_from_trace, none_from_dumps, none_from_signals, none_from_delays, none_from_budget, none_from_words, none_from_start, none_at_all}
+use Rattle.st_object.proofs.Told.{given, the_one}
+use Rattle.st_object.proofs.Empties.{holds_both, none_from_fin, none_from_back, none_from_snaps, none_from_chart, none_from_time, none_from_trace, none_from_dumps, none_from_signals, none_from_delays, none_from_budget, none_from_words, none_from_start}
 
 -- lines behind the parts of others
 abbrev onto : List (List Item) → List Item → List Item

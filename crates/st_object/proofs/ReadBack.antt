@@ -1,19 +1,18 @@
 -- The object text of a program is read as that program.
-use Rattle.std.proofs.Common.{◌≡◌, ◌≤◌, ◌<◌, ◌+◌, ◌*◌, ◌/◌, ◌%◌, ◌^◌, ◌==◌, ◌&&◌, ℕ, suc, Bool, true, false, not, List, [], ◌∷◌, ◌++◌, length, map, codes, decimal, Option, Some, None, Result, Ok, Err, if◌then◌else◌, refl, ap, sym, subst, ◌∙◌, append_assoc, append-nil, arith}
-use Rattle.std.specs.List.{list_all}
+use Rattle.std.proofs.Common.{◌≡◌, ◌+◌, ◌*◌, ◌/◌, ◌%◌, ◌==◌, ℕ, Bool, true, not, List, [], ◌∷◌, ◌++◌, map, decimal, Option, Some, Ok, Err, if◌then◌else◌, refl, ap, ◌∙◌, append_assoc, arith}
 use Rattle.std.specs.Option.{option_map_or, option_and_then}
 use Rattle.std.proofs.lemmas.List.Folds.{list_all-append}
-use Rattle.st_report.specs.Line.{hex_word, half_address}
+use Rattle.st_report.specs.Line.{hex_word}
 use Rattle.st_card.specs.Pieces.{onto_first, parted, lacks}
 use Rattle.st_object.specs.Lines.{spelled, text_of}
 use Rattle.st_object.specs.Draft.{Draft, blank, lines_of, with_item, is_whole}
-use Rattle.st_object.specs.Meaning.{IsShort, IsItem, item_in}
+use Rattle.st_object.specs.Meaning.{IsShort, IsItem}
 use Rattle.st_object.specs.Object.{Program, IsProgram, AreWords, draft_of, object_text, program_of, with_line, finished, read_from, read_text}
 use Rattle.st_object.specs.declared.items.Item.{Item}
 use Rattle.st_object.specs.declared.items.Item.TheVariants.{Object, Start, Word, Budget, Delay, Signal, Dump, Trace, Time, Chart, Snap, Back, Fin}
 use Rattle.st_object.proofs.Parts.{other_first}
 use Rattle.st_object.proofs.Spellings.{short_small, and_true, lacks-decimal, lacks-hex, spelled_again}
-use Rattle.st_object.proofs.Again.{Leads, Makes, made_again}
+use Rattle.st_object.proofs.Again.{Leads, made_again}
 
 -- no line end stands among digits
 lacks_number : (n : ℕ) → IsShort n → lacks 10 (decimal n) ≡ true

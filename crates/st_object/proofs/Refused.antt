@@ -9,9 +9,9 @@ use Rattle.st_card.proofs.PieceLemmas.{first_piece}
 use Rattle.st_object.specs.Lines.{spelled, text_of}
 use Rattle.st_object.specs.Draft.{Draft, blank, IsDraft, is_empty, lines_of, is_whole, with_item}
 use Rattle.st_object.specs.Meaning.{item_in}
-use Rattle.st_object.specs.Object.{Program, IsProgram, AreWords, draft_of, object_text, program_of, with_line, finished, unended, end_of, read_from, read_text, lines_in, text_lines, first_lines, IsFront, IsBadLine}
+use Rattle.st_object.specs.Object.{Program, draft_of, program_of, with_line, finished, unended, end_of, read_from, read_text, lines_in, text_lines, IsFront, IsBadLine}
 use Rattle.st_object.specs.declared.items.Item.{Item}
-use Rattle.st_object.proofs.Told.{chained, the_one}
+use Rattle.st_object.proofs.Told.{chained}
 use Rattle.st_object.proofs.LineByLine.{line_kept}
 use Rattle.st_object.proofs.Written.{text_of-append}
 use Rattle.st_object.proofs.Whole.{whole_program, whole_words, whole_lines_of}

@@ -1,26 +1,26 @@
 -- What is spelled is read as the same item, and what is read is spelled so.
-use Rattle.std.proofs.Common.{◌≡◌, ◌≢◌, ◌≤◌, ◌<◌, ◌+◌, ◌-◌, ◌*◌, ◌/◌, ◌%◌, ◌^◌, ◌==◌, ◌&&◌, ℕ, suc, zero, Bool, true, false, not, nat_le, nat_lt, nat_eq, List, [], ◌∷◌, ◌++◌, Option, Some, None, if◌then◌else◌, length, codes, decimal, refl, ap, sym, subst, ◌∙◌, arith, rules, append_assoc}
+use Rattle.std.proofs.Common.{◌≡◌, ◌≢◌, ◌≤◌, ◌<◌, ◌+◌, ◌-◌, ◌*◌, ◌/◌, ◌%◌, ◌^◌, ◌==◌, ◌&&◌, ℕ, suc, zero, Bool, true, false, not, nat_le, nat_lt, List, [], ◌∷◌, ◌++◌, Option, Some, None, if◌then◌else◌, length, decimal, refl, ap, sym, ◌∙◌, arith, rules, append_assoc}
 use Rattle.std.specs.Char.{is_ascii_digit}
 use Rattle.std.specs.List.{list_all}
 use Rattle.std.specs.Option.{option_map, option_and_then}
-use Rattle.std.specs.Cmp.Lexicographic.{pointwise, same_text, other_text}
+use Rattle.std.specs.Cmp.Lexicographic.{other_text}
 use Rattle.std.proofs.lemmas.Bool.Decides.{nat_tests}
 use Rattle.std.proofs.lemmas.Str.Parse.{IsNumeralModel, numerals_by_fold}
 use Rattle.std.proofs.lemmas.Fmt.{digits_decimal, digits_value-decimal, decimal_nonempty}
 use Rattle.std.proofs.lemmas.List.Folds.{list_all-append}
 use Rattle.std.proofs.Math.Nat.{mod-eq_of_lt, pow-succ'}
 use Rattle.st_report.specs.Line.{hex_digit, hex_text, hex_word, half_address}
-use Rattle.st_card.specs.Number.{is_filled, is_number, value, value_after, reading}
+use Rattle.st_card.specs.Number.{is_filled, is_number, value, value_after}
 use Rattle.st_card.specs.Controls.{good}
 use Rattle.st_card.specs.Pieces.{lacks}
-use Rattle.st_card.specs.Tables.{is_same, row_of}
+use Rattle.st_card.specs.Tables.{is_same}
 use Rattle.st_card.specs.declared.numbers.Reading.TheVariants.{Bad, Large, Good}
 use Rattle.st_object.specs.Lines.{spelled}
 use Rattle.st_object.specs.Meaning.{parts_at, number_in, both, numbers_in, IsShort, IsItem, hex_digit_in, hex_after, word_in, item_behind, item_loosely, if_spelled, item_in}
 use Rattle.st_object.specs.declared.items.Item.{Item}
 use Rattle.st_object.specs.declared.items.Item.TheVariants.{Object, Start, Word, Budget, Delay, Signal, Dump, Trace, Time, Chart, Snap, Back, Fin}
 use Rattle.st_object.specs.declared.items.Kind.TheVariants as kinds
-use Rattle.st_object.proofs.Parts.{parts_around, parts_none}
+use Rattle.st_object.proofs.Parts.{parts_around}
 
 own : IsNumeralModel (λ ds. list_all is_ascii_digit ds ≡ true) (value_after 0)
 own = numerals_by_fold _ (search rules) value_after (search rules)

@@ -1,16 +1,16 @@
 -- What a line that was read spells.
-use Rattle.std.proofs.Common.{◌≡◌, ◌≤◌, ◌<◌, ◌+◌, ◌*◌, ◌/◌, ◌%◌, ◌^◌, ◌==◌, ◌&&◌, ℕ, Bool, true, false, nat_le, nat_lt, List, [], ◌∷◌, Option, Some, None, if◌then◌else◌, refl, ap, sym, subst, ◌∙◌, arith}
+use Rattle.std.proofs.Common.{◌≡◌, ◌≤◌, ◌<◌, ◌+◌, ◌*◌, ◌%◌, ◌^◌, ℕ, Bool, true, false, nat_le, List, [], ◌∷◌, Option, Some, None, if◌then◌else◌, refl, ap, sym, subst, ◌∙◌, arith}
 use Rattle.std.specs.Option.{option_map, option_and_then}
 use Rattle.std.specs.Cmp.Lexicographic.{same_text}
 use Rattle.std.proofs.lemmas.Bool.Decides.{nat_tests}
-use Rattle.st_card.specs.Number.{is_number, value, reading}
+use Rattle.st_card.specs.Number.{is_number, value}
 use Rattle.st_card.specs.Controls.{good}
 use Rattle.st_card.specs.Tables.{is_same, row_of}
 use Rattle.st_card.specs.declared.numbers.Reading.TheVariants.{Bad, Large, Good}
 use Rattle.st_object.specs.Lines.{spelled}
-use Rattle.st_object.specs.Meaning.{parts_at, number_in, numbers_in, IsShort, hex_digit_in, hex_after, word_in, marks, keywords, item_behind, item_loosely, if_spelled, item_in}
+use Rattle.st_object.specs.Meaning.{parts_at, number_in, IsShort, hex_digit_in, hex_after, marks, keywords, item_behind, item_loosely, if_spelled, item_in}
 use Rattle.st_object.specs.declared.items.Item.{Item}
-use Rattle.st_object.specs.declared.items.Item.TheVariants.{Object, Start, Word, Budget, Delay, Signal, Dump, Trace, Time, Chart, Snap, Back, Fin}
+use Rattle.st_object.specs.declared.items.Item.TheVariants.{Word, Snap}
 use Rattle.st_object.specs.declared.items.Kind.{Kind}
 use Rattle.st_object.specs.declared.items.Kind.TheVariants as kinds
 

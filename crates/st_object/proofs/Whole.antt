@@ -1,15 +1,14 @@
 -- A draft that is whole is a program, and its lines are the program's object text.
-use Rattle.std.proofs.Common.{◌≡◌, ◌≤◌, ◌<◌, ◌+◌, ◌-◌, ◌^◌, ◌==◌, ◌&&◌, ℕ, Bool, true, false, not, nat_lt, List, [], ◌∷◌, ◌++◌, length, get_or, replicate, Option, Some, None, is_some, IfSome, unwrap_or, refl, ap, sym, subst, ◌∙◌, length-append, append-nil, arith, lit<}
-use Rattle.std.specs.List.{All}
+use Rattle.std.proofs.Common.{◌≡◌, ◌≤◌, ◌<◌, ◌+◌, ◌-◌, ◌^◌, ◌==◌, ℕ, Bool, true, false, not, nat_lt, List, ◌++◌, length, get_or, replicate, Option, Some, None, is_some, IfSome, unwrap_or, refl, ap, sym, ◌∙◌, length-append, append-nil, arith, lit<}
 use Rattle.std.proofs.lemmas.List.{length-replicate, get_or_append_left, get_or-append_right, get_or-replicate, get_or_past}
 use Rattle.std.proofs.lemmas.List.Elements.{All-append, All-replicate}
 use Rattle.std.proofs.lemmas.Bool.Decides.{nat_tests}
 use Rattle.st_bits.specs.Storage.{words_of_storage}
-use Rattle.st_object.specs.Lines.{text_of, marked, word_lines}
-use Rattle.st_object.specs.Draft.{Draft, IsDraft, is_empty, start_lines, lines_of, lines_from_start, lines_from_words, lines_from_budget, lines_from_fin, has_start, has_budget, has_delays, is_whole}
-use Rattle.st_object.specs.Object.{Program, IsProgram, AreWords, draft_of, object_text, filled_up, program_of}
+use Rattle.st_object.specs.Lines.{marked, word_lines}
+use Rattle.st_object.specs.Draft.{Draft, IsDraft, is_empty, start_lines, lines_of, lines_from_budget, has_start, has_budget, has_delays, is_whole}
+use Rattle.st_object.specs.Object.{IsProgram, AreWords, draft_of, filled_up, program_of}
 use Rattle.st_object.specs.declared.items.Item.{Item}
-use Rattle.st_object.specs.declared.items.Item.TheVariants.{Object, Start}
+use Rattle.st_object.specs.declared.items.Item.TheVariants.{Object}
 use Rattle.st_object.proofs.Empties.{holds_both}
 use Rattle.st_object.proofs.Grown.{word_lines-append, word_lines-zeros}
 

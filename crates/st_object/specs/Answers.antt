@@ -1,5 +1,5 @@
 -- What adding a line answers, and what reading an object text does.
-use Rattle.std.specs.Prelude.{◌≡◌, ℕ, List, [], ◌++◌, Option, Some, None, Result, Ok, Err}
+use Rattle.std.specs.Prelude.{◌≡◌, ℕ, List, ◌++◌, Option, Some, None, Result, Ok, Err}
 use Rattle.st_card.specs.declared.faults.Fault.TheVariants.{BadObjectCard}
 use Rattle.st_object.specs.Draft.{Draft}
 use Rattle.st_object.specs.Object.{Program, IsBadLine}

@@ -1,6 +1,6 @@
 //! What the lines of an object text mean.
 
-ghost use Rattle.std.specs.Prelude.{◌≡◌, ◌≤◌, ◌<◌, ◌^◌, IfSome};
+ghost use Rattle.std.specs.Prelude.{◌≡◌, ◌≤◌, ◌<◌, IfSome};
 ghost use Rattle.std.specs.Option.{option_map};
 ghost use Rattle.st_object.specs.Meaning as spec;
 ghost use Rattle.st_object.specs.declared.items.Kind.TheVariants as kinds;

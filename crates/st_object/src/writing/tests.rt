@@ -1,13 +1,12 @@
-ghost use Rattle.std.specs.Prelude.{◌<◌, ◌^◌, length};
-
 use super::*;
 use crate::reading::read_object;
 use std::test::Fail;
 
 // Whether a text is read, and written again as it stands.
-fn is_kept(alloc: Global, text: &[u8]) -> Result<bool, Fail>
-    requires { length text.now < 2 ^ 32 }
-{
+fn is_kept(alloc: Global, text: &[u8]) -> Result<bool, Fail> {
+    if text.len() > 1_000 {
+        return Ok(false);
+    }
     let image = read_object(alloc, text)?;
     let again = write_object(alloc, &image)?;
     Ok(again.as_slice() == text)
