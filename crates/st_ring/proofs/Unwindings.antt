@@ -1,5 +1,5 @@
 -- Levels undone one after another.
-use Rattle.std.proofs.Common.{◌≡◌, ℕ, List, [], ◌∷◌, ◌++◌, get_or, set, refl, ap, sym, ◌∙◌, Option, None, Some}
+use Rattle.std.proofs.Common.{◌≡◌, ℕ, List, [], ◌∷◌, ◌++◌, set, refl, ap, sym, ◌∙◌, Option, None, Some}
 use Rattle.std.proofs.lemmas.List.{set-set, set-get_or}
 use Rattle.st_prep.specs.EarlyChange.{words_after}
 use Rattle.st_prep.specs.declared.entries.IndexChange.{IndexChange}

@@ -10,7 +10,7 @@ pub struct Level {
     pub prepared: Prepared,
     /// The tick at which it was prepared.
     pub p: u64,
-    /// The greatest of the ticks at which its operands came, once they are there.
+    /// The greatest of that tick and of those at which its operand words come.
     pub r: u64,
     /// The operand words that came, each in its slot.
     pub have: [Option<u64>; 2],

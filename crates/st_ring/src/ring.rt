@@ -1,5 +1,4 @@
 ghost use Rattle.std.specs.Prelude.{◌≡◌, ℕ, ◌+◌, ◌<◌, ◌≤◌, List, [], ◌∷◌, ◌++◌, length, slice_get, slice_set, MatchOption, IfSome, Some};
-ghost use Rattle.st_prep.specs.declared.entries.IndexChange.{IndexChange as Change};
 ghost use Rattle.st_ring.specs.declared.level.Level.{Level as Row};
 ghost use Rattle.st_ring.specs.Levels.{HasNumber, filled as filled_of};
 ghost use Rattle.st_ring.specs.Unwinding.{made, Kept, put_back as put_back_of, unwound};

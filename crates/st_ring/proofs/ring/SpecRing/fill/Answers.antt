@@ -3,7 +3,6 @@ use Rattle.std.proofs.lemmas.List.{get_or_default}
 use Rattle.std.proofs.lemmas.Option.{get_or_from_slice_get}
 use Rattle.st_ring.specs.declared.level.Level.{Level}
 use Rattle.st_ring.specs.Levels.{filled}
-use Rattle.st_ring.specs.Slots.{window}
 use Rattle.st_ring.proofs.Windows.{length-window, window-set, window-get}
 use Rattle.st_ring.proofs.ring.SpecRing.fill.Goals as goal
 

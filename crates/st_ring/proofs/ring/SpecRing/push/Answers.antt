@@ -1,4 +1,4 @@
-use Rattle.std.proofs.Common.{◌≡◌, ◌<◌, List, [], ◌∷◌, ◌++◌, length, ap, ◌∙◌, arith, rules}
+use Rattle.std.proofs.Common.{◌<◌, List, [], ◌∷◌, ◌++◌, length, ap, ◌∙◌, arith, rules}
 use Rattle.st_ring.specs.declared.level.Level.{Level}
 use Rattle.st_ring.proofs.Windows.{length-window, window-push}
 use Rattle.st_ring.proofs.ring.SpecRing.push.Goals as goal

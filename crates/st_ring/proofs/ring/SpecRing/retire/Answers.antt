@@ -1,4 +1,4 @@
-use Rattle.std.proofs.Common.{◌≡◌, ◌<◌, length, ap, sym, ◌∙◌, arith, rules}
+use Rattle.std.proofs.Common.{◌<◌, length, ap, sym, ◌∙◌, arith, rules}
 use Rattle.st_ring.proofs.Windows.{length-window, window-oldest}
 use Rattle.st_ring.proofs.ring.SpecRing.retire.Goals as goal
 

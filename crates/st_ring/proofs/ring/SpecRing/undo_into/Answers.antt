@@ -1,4 +1,4 @@
-use Rattle.std.proofs.Common.{List, ℕ, ◌++◌, [], ◌∷◌, ap, sym, ◌∙◌}
+use Rattle.std.proofs.Common.{List, ℕ, ap, sym, ◌∙◌}
 use Rattle.st_ring.specs.declared.level.Level.{Level}
 use Rattle.st_ring.specs.Unwinding.{unwound}
 use Rattle.st_ring.proofs.Unwindings.{unwound-youngest, unwound-nothing, made-undone}
