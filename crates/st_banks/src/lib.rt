@@ -1,0 +1,12 @@
+//! The banks of storage: how long a read takes, and when a bank accepts the next one.
+//! `docs/timetable.md` has the rules.
+#![tactic(auto, using(st_bits::specs::Storage::words_of_storage_is))]
+
+mod banks;
+mod delays;
+
+pub use banks::{BANKS, Banks};
+pub use delays::{DelayError, Delays};
+
+#[cfg(test)]
+mod tests;
