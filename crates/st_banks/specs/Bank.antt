@@ -26,8 +26,8 @@ abbrev pub last_answer : BankTimes → ℕ → ℕ
 last_answer m w = slice_index m.answers (bank_of w)
 
 -- the tick at which a read of the word is answered, if its bank accepts it at the tick: that is, if it is no longer busy
-abbrev pub answered : BankTimes → ℕ → ℕ → Option ℕ
-answered m w tick = if nat_le (last_answer m w) tick then Some (tick + delay m.delays tick) else None
+abbrev pub accepted : BankTimes → ℕ → ℕ → Option ℕ
+accepted m w tick = if nat_le (last_answer m w) tick then Some (tick + delay m.delays tick) else None
 
 -- the banks after that: an answer is the last one of the bank, and where there is none nothing has changed
 abbrev pub after_read : BankTimes → ℕ → Option ℕ → BankTimes

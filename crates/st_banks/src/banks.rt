@@ -32,7 +32,7 @@ impl Model for Banks {
 }
 
 impl Banks {
-    ghost use Rattle.st_banks.specs.Bank.{IsBankTimes, unread, last_answer as last_answer_of, answered, after_read};
+    ghost use Rattle.st_banks.specs.Bank.{IsBankTimes, unread, last_answer as last_answer_of, accepted, after_read};
 
     /// The banks before the first read.
     pub fn new(delays: Delays) -> Banks
@@ -64,7 +64,7 @@ impl Banks {
         requires register { 32 ≤ w }
         requires inside { w < words_of_storage }
         requires early { tick < 2 ^ 63 }
-        ensures value { result ≡ answered self.old w tick }
+        ensures value { result ≡ accepted self.old w tick }
         ensures after { self.new ≡ after_read self.old w result }
         ensures bound { IfSome result (λ answer. (tick < answer) × (answer ≤ tick + 255)) }
     {

@@ -4,9 +4,11 @@
 
 mod banks;
 mod delays;
+mod laws;
 
 pub use banks::{BANKS, Banks};
 pub use delays::{DelayError, Delays};
+pub use laws::{delays_are_bounded, reads_keep_their_bank_busy, words_lie_in_banks};
 
 #[cfg(test)]
 mod tests;

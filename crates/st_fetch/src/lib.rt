@@ -3,9 +3,11 @@
 #![tactic(auto)]
 
 mod held;
+mod laws;
 mod wants;
 
 pub use held::{Held, Hold};
+pub use laws::{answers_are_known, requests_hold_four, stores_change_content_alone};
 pub use wants::{WANTS, Want, Wants};
 
 #[cfg(test)]
