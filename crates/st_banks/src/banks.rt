@@ -61,7 +61,7 @@ impl Banks {
     /// Reads the word `w`, which is none of the registers, at `tick`. The result is the tick at which the bank answers;
     /// it is None, and nothing changes, exactly where the last answer of the bank is later than `tick`.
     pub fn accept(&mut self, w: u32, tick: u64) -> Option<u64>
-        requires register { 32 ≤ w }
+        requires above_registers { 32 ≤ w }
         requires inside { w < words_of_storage }
         requires early { tick < 2 ^ 63 }
         ensures value { result ≡ accepted self.old w tick }

@@ -1,4 +1,4 @@
-ghost use Rattle.std.specs.Prelude.{◌≡◌, [], false, true};
+ghost use Rattle.std.specs.Prelude.{◌≡◌, ◌≤◌, [], length, false, true};
 ghost use Rattle.st_fetch.specs.HeldWords.{is_held, requested, answered, answer_of, found, patched};
 
 use arrayvec::ArrayVec;
@@ -67,6 +67,13 @@ impl Hold {
         Hold {
             words: ArrayVec::new(),
         }
+    }
+
+    /// Makes known that at most four words are held.
+    pub fn shape(&self)
+        ensures { length self.now ≤ 4 }
+    {
+        let _ = self.words.is_full();
     }
 
     /// Whether the word `w` is held.

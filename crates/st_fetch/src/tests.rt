@@ -23,6 +23,7 @@ fn a_fifth_request_drops_the_oldest(rt: HostRuntime) {
     hold.answer(40, 7, 12);
     hold.answer(42, 9, 14);
     hold.request(44);
+    hold.shape();
     assert_eq!(rt; (hold.held(40), hold.word(40)), (false, None));
     assert_eq!(rt;
         (hold.held(41), hold.held(42), hold.held(43), hold.held(44)),
