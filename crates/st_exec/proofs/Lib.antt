@@ -9,3 +9,5 @@ pub mod SparedLemmas
 pub mod AheadLemmas
 pub mod ReadLemmas
 pub mod TransferLemmas
+pub mod AlikeStates
+pub mod AlikeDeeds

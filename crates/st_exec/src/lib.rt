@@ -19,7 +19,7 @@ pub use completing::complete;
 pub use execution::{execute, read_operands};
 pub use laws::{
     entries_ahead_leave_the_rest, entries_are_bounded, entries_count_as_one,
-    only_indicator_branches_are_missed,
+    indicators_are_passed_over, only_indicator_branches_are_missed,
 };
 pub use step::{Step, interrupt, is_at_rest, next_address, one};
 pub use transfers::{print_out, read_in};
