@@ -11,3 +11,6 @@ pub mod ReadLemmas
 pub mod TransferLemmas
 pub mod AlikeStates
 pub mod AlikeDeeds
+pub mod BitBounds
+pub mod ResultBounds
+pub mod MachineKept

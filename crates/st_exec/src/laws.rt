@@ -41,3 +41,9 @@ pub fn indicators_are_passed_over()
         → p.serial ≡ false → is_missed p s ≡ false → is_missed p u ≡ false
         → AreAlike (completed p s) (completed p u) }
 {}
+
+/// An entry of a state leaves a state: storage whole, each word in its bits, the fixed bits of the registers, the counter
+/// below 2^19, and each order with its area in storage.
+pub fn entries_leave_states()
+    ensures { (p : Prepared) (s : Machine) → IsPrepared p → IsMachine s → IsMachine (completed p s) }
+{}

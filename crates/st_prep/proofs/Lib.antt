@@ -10,3 +10,4 @@ pub mod FetchLemmas
 pub mod PlanLemmas
 pub mod ReadingLemmas
 pub mod AlikeLemmas
+pub mod CountLemmas

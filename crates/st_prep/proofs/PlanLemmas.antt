@@ -29,7 +29,7 @@ without-turned x off word fits =
 
 -- ---- states
 
-fixed-indicators : (x : ℕ) → fixed 11 x ≡ x
+pub fixed-indicators : (x : ℕ) → fixed 11 x ≡ x
 unfolding fixed
 fixed-indicators x = refl
 
@@ -75,7 +75,7 @@ place-fits : (s : Machine) (t : Option ℕ) → IsMachine s → IfSome t (λ i. 
 unfolding place_of
 place-fits s t m some = record { counter = m.counter; address = address-below t s m; table = some }
 
-sight-fits : (s : Machine) (t : Option ℕ) → IsMachine s → IfSome t (λ i. i < 64) → IsSight (sight s (place_of s t))
+pub sight-fits : (s : Machine) (t : Option ℕ) → IsMachine s → IfSome t (λ i. i < 64) → IsSight (sight s (place_of s t))
 unfolding sight
 sight-fits s t m some = record {
   place = place-fits s t m some;

@@ -29,6 +29,11 @@ words_read (Reads w r) c = w ∷ words_read (r (c w)) c
 abbrev pub half_of : ℕ → ℕ → ℕ
 half_of content h = part content (32 * (h % 2)) 32
 
+-- how many words an index-side word is
+abbrev pub count_of : Option ℕ → ℕ
+count_of None = 0
+count_of (Some w) = 1
+
 -- what an instruction is read for
 abbrev pub Use : Type 0
 Use = Found → Reading

@@ -1,5 +1,5 @@
 //! What holds of preparation itself, and not of one call.
-ghost use Rattle.std.specs.Prelude.{◌≡◌, ◌≢◌, ℕ, suc, ◌<◌, ◌≤◌, Bool, true, false, List, length, take, All, Option, Some, is_some, IfSome};
+ghost use Rattle.std.specs.Prelude.{◌≡◌, ◌≢◌, ℕ, suc, ◌+◌, ◌<◌, ◌≤◌, Bool, true, false, List, length, take, All, Option, Some, is_some, IfSome};
 ghost use Rattle.st_bits.specs.Storage.{words_of_storage};
 ghost use Rattle.st_state.specs.Machine.{Machine, IsMachine, word};
 ghost use Rattle.st_state.specs.Boundary.{forbidden};
@@ -9,7 +9,7 @@ ghost use Rattle.st_prep.specs.Plan.{Sight, needs, prepared, sight, plan};
 ghost use Rattle.st_prep.specs.declared.entries.Place.{Place};
 ghost use Rattle.st_prep.specs.Ranges.{IsPrepared};
 ghost use Rattle.st_prep.specs.Fetch.{index_words, place_of, fetched};
-ghost use Rattle.st_prep.specs.Reading.{Reading, outcome, words_read, reading};
+ghost use Rattle.st_prep.specs.Reading.{Reading, outcome, words_read, count_of, reading};
 ghost use Rattle.st_prep.specs.Alike.{AreAlike};
 
 /// What forbids an access to a word of a state is seen from its boundary register and the mark for interrupts alone.
@@ -67,4 +67,13 @@ pub fn indicators_are_not_seen()
         → (needs (sight s (place_of s t))).index_read ≢ Some 11 → plan u t ≡ plan s t }
     ensures ahead { (s u : Machine) (t : Option ℕ) → AreAlike s u → (plan s t).serial ≡ false
         → plan u t ≡ plan s t }
+{}
+
+/// An entry of a state reads 36 words at most: instruction words, the index-side word and operands.
+pub fn entries_read_36_words_at_most()
+    ensures { (s : Machine) (t : Option ℕ) → IsMachine s → IfSome t (λ i. i < 64)
+        → let p = place_of s t in
+        length (words_read (reading (index_words s) (word s 3) s.enabled p) (word s))
+        + count_of (needs (sight s p)).index_read
+        + ((plan s t).reads.len + (plan s t).reads.len2) ≤ 36 }
 {}
