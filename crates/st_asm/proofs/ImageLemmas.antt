@@ -1,36 +1,26 @@
--- Laying half-words.
-use Rattle.std.proofs.Common.{◌≡◌, ◌≢◌, ◌≤◌, ◌<◌, ◌+◌, ◌/◌, ℕ, List, [], ◌∷◌, length, refl, ap, ◌∙◌, arith, get_or, replicate, get_or-set_other}
-use Rattle.std.proofs.lemmas.List.{length-set, length-replicate, get_or-replicate}
-use Rattle.st_asm.specs.Image.{words, instructions, with_half, with_half_at, laid, image_of}
-use Rattle.st_asm.specs.declared.job.Load.{Load}
+-- The image after a card's bits are put into it.
+use Rattle.std.proofs.Common.{◌≡◌, ◌≤◌, ◌<◌, ◌+◌, ◌*◌, ◌^◌, ◌==◌, ℕ, Bool, false, List, length, get_or, ap, sym, ◌∙◌, arith, if◌then◌else◌}
+use Rattle.st_bits.specs.Bits.{bits, all_bits, put, words_of}
+use Rattle.st_bits.proofs.Windows.{words_of-all_bits}
+use Rattle.st_asm.specs.Valuing.{image_with}
+use Rattle.st_asm.specs.Sound.{IsImage}
 
-pub laid-start : (loads : List Load) (image : List ℕ) → image ≡ replicate words 0 → laid 64 (instructions loads) image ≡ image_of loads
-unfolding image_of
-laid-start loads image zeros = ap (λ (s : List ℕ). laid 64 (instructions loads) s) zeros
+-- words whose bits are the old ones with a number put in
+pub image-put : (old new : List ℕ) (place count number : ℕ) → (count ≡ 0 → ⊥) → length new ≡ length old →
+    ((w : ℕ) → get_or new w 0 < 2 ^ 64) → all_bits new ≡ put (all_bits old) place (bits count number) →
+    new ≡ image_with old place count number
+unfolding image_with
+image-put old new place count number some size below is =
+    let counted : (count == 0) ≡ false = grind arith in
+    sym (words_of-all_bits new below)
+    ∙ (ap (λ n. words_of n (all_bits new)) size
+    ∙ (ap (λ b. words_of (length old) b) is
+    ∙ sym (ap (λ b. if b then old else words_of (length old) (put (all_bits old) place (bits count number))) counted)))
 
-words-value : words ≡ 98304
-unfolding words
-words-value = refl
-
-length-laid : (halves : List ℕ) (at : ℕ) (image : List ℕ) → length (laid at halves image) ≡ length image
-length-laid [] at image = refl
-length-laid (half ∷ halves) at image = length-laid halves (at + 1) (with_half_at at half image) ∙ simp length-set
-
-pub length-image_of : (loads : List Load) → length (image_of loads) ≡ 98304
-unfolding image_of
-length-image_of loads = length-laid (instructions loads) 64 (replicate words 0) ∙ (length-replicate words 0 ∙ words-value)
-
-front-laid : (halves : List ℕ) (at : ℕ) (image : List ℕ) (k : ℕ) → 64 ≤ at → k < 32 →
-    get_or (laid at halves image) k 0 ≡ get_or image k 0
-front-laid [] at image k high low = refl
-front-laid (half ∷ halves) at image k high low =
-    let other : k ≢ at / 2 = omega arith in
-    let higher : 64 ≤ at + 1 = omega arith in
-    front-laid halves (at + 1) (with_half_at at half image) k higher low ∙ get_or-set_other image (at / 2) k (with_half at half (get_or image (at / 2) 0)) 0 other
-
-pub front-image_of : (loads : List Load) (k : ℕ) → k < 32 → get_or (image_of loads) k 0 ≡ 0
-unfolding image_of
-front-image_of loads k low =
-    let start : 64 ≤ 64 = omega arith in
-    let within : k < words = omega (arith, words-value) in
-    front-laid (instructions loads) 64 (replicate words 0) k start low ∙ get_or-replicate words k 0 0 within
+-- a place behind the registers leaves them as they were
+pub image-kept : (old new : List ℕ) (place : ℕ) → IsImage old → length new ≡ length old → 2048 ≤ place →
+    ((w : ℕ) → 64 * w + 64 ≤ place → get_or new w 0 ≡ get_or old w 0) → IsImage new
+image-kept old new place is size behind same = record {
+  size = size ∙ is.size;
+  registers = λ w below. same w (omega arith) ∙ is.registers w below;
+}

@@ -1,5 +1,8 @@
-pub mod ListLemmas
-pub mod NumberLemmas
-pub mod PieceLemmas
-pub mod JobLemmas
+pub mod PassLemmas
+pub mod StopLemmas
+pub mod LineLemmas
+pub mod TableLemmas
+pub mod FieldLemmas
+pub mod FaultLemmas
+pub mod KeptLemmas
 pub mod ImageLemmas

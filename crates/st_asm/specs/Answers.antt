@@ -1,8 +1,23 @@
-use Rattle.std.specs.Prelude.{◌≡◌, ⊤, Result, Ok, Err}
+-- What answers say of what is wanted.
+use Rattle.std.specs.Prelude.{◌≡◌, ℕ, ⊤, Result, Ok, Err}
+use Rattle.st_card.specs.declared.faults.Fault.{Fault}
 use Rattle.st_asm.specs.Pass.{Refusal}
+use Rattle.st_asm.specs.declared.stop.Stop.{Stop}
+use Rattle.st_asm.specs.declared.stop.Stop.TheVariants.{Faulty, NoMemory}
 use Rattle.st_asm.specs.declared.stop.AsmError.{AsmError}
 use Rattle.st_asm.specs.declared.stop.AsmError.TheVariants.{Refused, NoMemory as OutOfMemory}
 
+-- why a pass stops at a card: it has the fault that is wanted, or memory ran out
+abbrev pub Stops : {A : Type 0} → Result A Fault → Stop → Type 0
+Stops wanted (Faulty fault) = wanted ≡ Err fault
+Stops wanted NoMemory = ⊤
+
+-- why there is no answer: the wanted one is this refusal, or memory ran out
 abbrev pub Explains : {A : Type 0} → Result A Refusal → AsmError → Type 0
 Explains wanted (Refused card fault) = wanted ≡ Err (record { card = card; fault = fault })
 Explains wanted OutOfMemory = ⊤
+
+-- why a pass stops, with the number of the card at which it does
+abbrev pub stopped_at : ℕ → Stop → AsmError
+stopped_at card (Faulty fault) = Refused card fault
+stopped_at card NoMemory = OutOfMemory

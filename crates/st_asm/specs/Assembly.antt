@@ -1,11 +1,18 @@
-use Rattle.std.specs.Prelude.{ℕ, List, Result, Ok, Err}
+-- A job assembled: the form pass, the name pass and the value pass, one after the other.
+use Rattle.std.specs.Prelude.{ℕ, ◌==◌, List, [], ◌∷◌, length, Result, Ok, Err, if◌then◌else◌}
+use Rattle.st_card.specs.Cards.{cards_of}
 use Rattle.st_card.specs.Controls.{Asked}
-use Rattle.st_card.specs.declared.faults.Fault.TheVariants.{NoEnd}
-use Rattle.st_asm.specs.Pass.{Refusal}
+use Rattle.st_asm.specs.Pass.{Refusal, then_for}
+use Rattle.st_asm.specs.Forming.{Found, form_pass}
+use Rattle.st_asm.specs.Symbols.{table}
+use Rattle.st_asm.specs.Naming.{Named, name_pass}
+use Rattle.st_asm.specs.Valuing.{Laid, value_pass}
 use Rattle.st_asm.specs.declared.naming.Symbol.{Symbol}
 use Rattle.st_asm.specs.declared.valuing.Listed.{Listed}
 use Rattle.st_asm.specs.declared.assembling.Assembled.{Assembled}
 
+-- what a job gives: the words of storage, the start, the rows of the listing, the symbols, and what its
+-- control cards ask for
 pub record Assembly : Type 0 where
   pub image : List ℕ
   pub start : ℕ
@@ -13,9 +20,34 @@ pub record Assembly : Type 0 where
   pub symbols : List Symbol
   pub asked : Asked
 
-unfoldable pub assembly : List ℕ → Result Assembly Refusal
-assembly job = Err (record { card = 1; fault = NoEnd })
+-- what is asked for with what counts where no card says it: 1000 instructions, and one delay of 1
+unfoldable pub with_defaults : Asked → Asked
+with_defaults asked = record asked {
+  budget = if asked.budget == 0 then 1000 else asked.budget;
+  delays = if length asked.delays == 0 then 1 ∷ [] else asked.delays;
+}
 
+-- what the three passes leave together
+abbrev pub together : Found → Named → Laid → Assembly
+together found named laid = record {
+  image = laid.image;
+  start = laid.start;
+  rows = laid.rows;
+  symbols = named.symbols;
+  asked = with_defaults found.asked;
+}
+
+-- what a job gives, or the first faulty card of the earliest pass that finds one
+unfoldable pub assembly : List ℕ → Result Assembly Refusal
+assembly job = then_for
+    (λ found. then_for
+    (λ named. then_for
+    (λ laid. Ok (together found named laid))
+    (value_pass (table named.symbols) found.lines named.places))
+    (name_pass found.lines))
+    (form_pass job (cards_of job))
+
+-- the parts of what the assembler answers
 abbrev pub shown : Assembled → Assembly
 shown a = record {
   image = a.image.items;

@@ -1,32 +1,76 @@
-use Rattle.std.specs.Prelude.{◌≡◌, ℕ, ◌<◌, ◌≤◌, ◌^◌, List, length, slice_index, All, IsAscii, Option, None, IfSome}
+-- What always holds of what the assembler gives.
+use Rattle.std.specs.Prelude.{◌≡◌, ℕ, ◌+◌, ◌<◌, ◌≤◌, ◌^◌, List, length, slice_index, slice_index_or, map, All, IsAscii, IsTrue, Option, IfSome}
 use Rattle.st_bits.specs.Storage.{words_of_storage}
-use Rattle.st_card.specs.Cards.{cards_of}
 use Rattle.st_card.specs.Limits.{IsWithinLimits}
+use Rattle.st_card.specs.Controls.{Asked}
+use Rattle.st_strap.specs.WellFormed.{IsWellFormedIfAny}
+use Rattle.st_asm.specs.Forming.{Found, is_built}
+use Rattle.st_asm.specs.Naming.{Named}
+use Rattle.st_asm.specs.Valuing.{Laid}
 use Rattle.st_asm.specs.Assembly.{Assembly}
+use Rattle.st_asm.specs.declared.line.Line.{Line}
 use Rattle.st_asm.specs.declared.naming.Symbol.{Symbol}
 use Rattle.st_asm.specs.declared.valuing.Listed.{Listed}
 
+-- a location is a bit address
 abbrev pub IsLocation : Option ℕ → Type 0
 IsLocation location = IfSome location (λ a. a < 2 ^ 24)
 
+-- a row of the listing has at most 64 bits, and its location is a bit address
 pub record IsRow (row : Listed) : Type 0 where
   pub few : row.length ≤ 64
   pub fits : row.bits < 2 ^ row.length
   pub location : IsLocation row.location
 
+-- an image has all words of storage, and those of the registers are 0
 pub record IsImage (image : List ℕ) : Type 0 where
   pub size : length image ≡ words_of_storage
   pub registers : (w : ℕ) → w < 32 → slice_index image w ≡ 0
 
+-- the numbers of the cards of lines, and of rows
+abbrev pub cards_in : List Line → List ℕ
+cards_in lines = map (λ line. line.card) lines
+
+abbrev pub numbers_in : List Listed → List ℕ
+numbers_in rows = map (λ row. row.card) rows
+
+-- a card that was read says a well-formed statement, and its name is printable
+pub record IsLine (line : Line) : Type 0 where
+  pub well : IsWellFormedIfAny line.statement
+  pub name : IfSome line.name IsAscii
+
+-- so does each card of a deck, whose controls keep their limits and are built
+pub record IsDeck (found : Found) : Type 0 where
+  pub lines : All IsLine found.lines
+  pub limits : IsWithinLimits found.asked
+  pub built : IsTrue (is_built found.asked)
+
+-- what is laid so far is an image, a start and rows
+pub record IsSoundLayout (laid : Laid) : Type 0 where
+  pub image : IsImage laid.image
+  pub start : laid.start < 2 ^ 19
+  pub rows : All IsRow laid.rows
+
+-- a symbol has a printable name, and its value is a bit address
 pub record IsSymbol (symbol : Symbol) : Type 0 where
   pub ascii : IsAscii symbol.name
   pub value : symbol.value < 2 ^ 24
 
-pub record IsSound (job : List ℕ) (a : Assembly) : Type 0 where
+-- the symbols and the places of a deck
+pub record IsNamed (named : Named) : Type 0 where
+  pub symbols : All IsSymbol named.symbols
+  pub places : All IsLocation named.places
+
+-- what a job of so many cards gives: an image, a start, a row for each card in order, symbols, and
+-- controls within their limits that say how many instructions may be done and have a delay
+pub record IsSound (cards : ℕ) (a : Assembly) : Type 0 where
   pub image : IsImage a.image
   pub start : a.start < 2 ^ 19
   pub rows : All IsRow a.rows
-  pub row_count : length a.rows ≡ length (cards_of job)
+  pub row_count : length a.rows ≡ cards
+  pub numbers : (k : ℕ) (d : Listed) → k < cards → (slice_index_or a.rows k d).card ≡ k + 1
   pub symbols : All IsSymbol a.symbols
   pub limits : IsWithinLimits a.asked
-  pub good : All (λ card. card.fault ≡ None) (cards_of job)
+  pub built : IsTrue (is_built a.asked)
+  pub budget : 1 ≤ a.asked.budget
+  pub delays : 1 ≤ length a.asked.delays

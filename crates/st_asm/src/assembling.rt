@@ -1,28 +1,93 @@
-ghost use Rattle.std.specs.Prelude.{◌≡◌, ◌<◌, ◌^◌, IfOk, IfErr, Ok, length};
-ghost use Rattle.st_asm.specs.Answers.{Explains};
-ghost use Rattle.st_asm.specs.Sound.{IsSound};
-ghost use Rattle.st_asm.specs.Assembly as spec;
+//! A job assembled.
 
-use crate::naming::Symbol;
+ghost use Rattle.std.specs.Prelude.{◌≡◌, ◌<◌, ◌≤◌, ◌^◌, ℕ, All, IfOk, IfErr, OnErr, length, slice_index, [], ◌∷◌, ◌==◌, if◌then◌else◌};
+ghost use Rattle.st_card.specs.Cards.{cards_of};
+ghost use Rattle.st_card.specs.Limits.{IsWithinLimits};
+ghost use Rattle.st_asm.specs.Answers.{Explains};
+ghost use Rattle.st_asm.specs.Assembly as spec;
+ghost use Rattle.st_asm.specs.Sound.{IsSound};
+
+use crate::forming::{Deck, form_pass};
+use crate::naming::{Names, Symbol, name_pass};
 use crate::stop::AsmError;
-use crate::valuing::Listed;
-use st_card::Controls;
+use crate::valuing::{Layout, Listed, value_pass};
+use st_card::{Controls, split};
 use std::alloc::Global;
 
+// How many instructions may be done where no card says it.
+const USUAL_BUDGET: u64 = 1_000;
+
+// The delay of storage, in ticks, where no card says one.
+const USUAL_DELAY: u8 = 1;
+
+/// What a job gives.
 #[derive(Debug, Drop)]
 pub struct Assembled {
+    /// The words of storage, 98,304 from word 0 on; words 0 to 31 are zero.
     pub image: Vec<u64>,
+    /// The half-word address of the first instruction, below 2^19.
     pub start: u32,
+    /// A row for each card, in order.
     pub listing: Vec<Listed>,
+    /// The symbols in order of definition.
     pub symbols: Vec<Symbol>,
+    /// What the control cards ask for, with 1,000 instructions and one delay of 1 tick where none
+    /// says it.
     pub controls: Controls,
 }
 
-pub fn assemble(_alloc: Global, _job: &[u8]) -> Result<Assembled, AsmError>
-    requires { length _job.now < 2 ^ 32 }
-    ensures ok { IfOk result (λ a. spec.assembly _job.now ≡ Ok (spec.shown a)) }
-    ensures sound { IfOk result (λ a. IsSound _job.now (spec.shown a)) }
-    ensures err { IfErr result (Explains (spec.assembly _job.now)) }
+/// The image, the start, the listing, the symbols and the controls of a job, or the first faulty card.
+///
+/// The cards are gone over three times: for what each says by itself, for the names and places, and for
+/// the values. docs/strap.md has the rules and all faults. `NoMemory` where memory ran out.
+#[tactic(auto, unfolding(crate::specs::Assembly::assembly))]
+pub fn assemble(alloc: Global, job: &[u8]) -> Result<Assembled, AsmError>
+    requires { length job.now < 2 ^ 32 }
+    ensures ok { IfOk result (λ a. spec.assembly job.now ≡ Ok (spec.shown a)) }
+    ensures err { IfErr result (Explains (spec.assembly job.now)) }
+
+    // A row for each card, and what the machine asks of an image, a start and controls.
+    ensures sound { IfOk result (λ a. IsSound (length (cards_of job.now)) (spec.shown a)) }
 {
-    Err(AsmError::NoMemory)
+    let Ok(cards) = split(alloc, job) else {
+        return Err(AsmError::NoMemory);
+    };
+    let deck = form_pass(alloc, job, cards.as_slice())?;
+    let names = name_pass(alloc, deck.lines.as_slice())?;
+    let layout = value_pass(
+        alloc,
+        &names.table,
+        deck.lines.as_slice(),
+        names.places.as_slice(),
+    )?;
+    let controls = with_defaults(deck.controls)?;
+    Ok(Assembled {
+        image: layout.image,
+        start: layout.start,
+        listing: layout.rows,
+        symbols: names.symbols,
+        controls,
+    })
 }
+
+// Controls with what counts where no card says it.
+#[tactic(auto, unfolding(crate::specs::Assembly::with_defaults))]
+fn with_defaults(mut controls: Controls) -> Result<Controls, AsmError>
+    ensures defaults { IfOk result (λ c. c ≡ spec.with_defaults controls) }
+    ensures err { IfErr result (λ e. e ≡ AsmError.NoMemory) }
+{
+    controls.budget = budget_or_usual(controls.budget);
+    if controls.delays.is_empty() && controls.delays.push(USUAL_DELAY).is_err() {
+        return Err(AsmError::NoMemory);
+    }
+    Ok(controls)
+}
+
+fn budget_or_usual(budget: u64) -> u64
+    ensures { result ≡ (if budget == 0 then 1000 else budget) }
+{
+    if budget == 0 { USUAL_BUDGET } else { budget }
+}
+
+#[cfg(test)]
+mod tests;

@@ -1,12 +1,22 @@
-//! Reads the one form of job that is built so far, and lays its image.
-#![tactic(auto)]
+//! The assembler: a job of cards to an image of storage, in three passes, with a listing.
+#![tactic(auto, using(st_bits::specs::Storage::words_of_storage_is))]
 
-mod image;
-mod job;
-mod number;
-mod pieces;
+mod assembling;
+mod checks;
+mod forming;
+mod laws;
+mod laying;
+mod line;
+mod naming;
+mod numbers;
+mod places;
+mod stop;
+mod symbols;
+mod values;
+mod valuing;
 
-pub use image::{AsmError, Assembled, Fault, assemble};
-pub use job::Load;
-pub use number::{read_number, read_number_below};
-pub use pieces::{cut, pair_at};
+pub use assembling::{Assembled, assemble};
+pub use laws::passes_stop_at_the_first_fault;
+pub use naming::Symbol;
+pub use stop::AsmError;
+pub use valuing::Listed;

@@ -1,5 +1,239 @@
+//! The name pass: which names are defined, and the place of each card.
+
+ghost use Rattle.std.specs.Prelude.{◌≡◌, ◌<◌, ◌^◌, ℤ, ℕ, List, All, IfOk, IfErr, OnOk, IfSome, false, length, ◌++◌, ◌∷◌, []};
+ghost use Rattle.st_asm.specs.Answers.{Stops, Explains};
+ghost use Rattle.st_asm.specs.Naming as spec;
+ghost use Rattle.st_asm.specs.Pass.{pass};
+ghost use Rattle.st_asm.specs.Symbols.{is_among, is_defined, names_of, table};
+ghost use Rattle.st_strap.specs.WellFormed.{IsWellFormed, IsWellFormedIfAny};
+
+use crate::line::Line;
+use crate::places::role_of;
+use crate::stop::{AsmError, Stop};
+use crate::symbols::{knows_all, names_in};
+use crate::values::values_of;
+use st_card::Fault;
+use st_expr::Symbols;
+use st_strap::Statement;
+use std::alloc::Global;
+
+// How many names a job may define.
+const MOST_NAMES: usize = 4_000;
+
+// The bit address of the first location: word 32.
+const FIRST_LOCATION: u32 = 64 * 32;
+
+/// A symbol: a name that a card defines.
 #[derive(Clone, Copy, Debug, PartialEq, Eq)]
 pub struct Symbol {
+    /// The name, filled with blanks to eight bytes.
     pub name: [u8; 8],
+    /// Its value, a bit address below 2^24: the card's place, or on SYN the value of the field.
     pub value: u32,
+}
+
+// What is known of names and places.
+#[derive(Drop)]
+pub(crate) struct Names {
+    // The location, a bit address below 2^24.
+    pub location: u32,
+    // The symbols in order of definition.
+    pub symbols: Vec<Symbol>,
+    // The table in which they are found.
+    pub table: Symbols,
+    // The places of the cards, bit addresses below 2^24.
+    pub places: Vec<Option<u32>>,
+}
+
+// The name pass.
+#[tactic(auto, unfolding(crate::specs::Naming::name_pass))]
+pub(crate) fn name_pass(alloc: Global, lines: &[Line]) -> Result<Names, AsmError>
+    requires { All (λ line. IsWellFormedIfAny line.statement) lines.now }
+    ensures ok { IfOk result (λ n. spec.name_pass lines.now ≡ Ok (spec.named_in n)) }
+    ensures err { IfErr result (Explains (spec.name_pass lines.now)) }
+    ensures kept { IfOk result spec.IsKept }
+{
+    let Ok(all) = names_in(alloc, lines) else {
+        return Err(AsmError::NoMemory);
+    };
+    name_lines(alloc, &all, lines)
+}
+
+// What is known behind all cards, with a table in which all names are.
+fn name_lines(alloc: Global, all: &Symbols, lines: &[Line]) -> Result<Names, AsmError>
+    requires well { All (λ line. IsWellFormedIfAny line.statement) lines.now }
+    ensures ok { IfOk result (λ n. pass (spec.name_card (is_defined all.now)) (λ line. line.card)
+        spec.unnamed lines.now ≡ Ok (spec.named_in n)) }
+    ensures err { IfErr result (Explains
+        (pass (spec.name_card (is_defined all.now)) (λ line. line.card) spec.unnamed lines.now)) }
+    ensures kept { IfOk result spec.IsKept }
+{
+    let mut names = no_names(alloc);
+    let mut rest = lines;
+    'lines: while let [line, after @ ..] = rest {
+        if let Err(stop) = name_line(&mut names, all, line) {
+            return Err(stop.at(line.card));
+        }
+        rest = after;
+    }
+    Ok(names)
+}
+
+// What is known before the first card.
+fn no_names(alloc: Global) -> Names
+    ensures named { spec.named_in result ≡ spec.unnamed }
+    ensures kept { spec.IsKept result }
+{
+    Names {
+        location: FIRST_LOCATION,
+        symbols: Vec::new(alloc),
+        table: Symbols::new(alloc),
+        places: Vec::new(alloc),
+    }
+}
+
+// A card more.
+#[tactic(auto, unfolding(crate::specs::Naming::name_card))]
+fn name_line(names: &mut Names, all: &Symbols, line: &Line) -> Result<(), Stop>
+    requires well { IsWellFormedIfAny line.now.statement }
+    requires kept { spec.IsKept names.old }
+    ensures ok { OnOk result (spec.name_card (is_defined all.now) (spec.named_in names.old) line.now
+        ≡ Ok (spec.named_in names.new)) }
+    ensures err { IfErr result
+        (Stops (spec.name_card (is_defined all.now) (spec.named_in names.old) line.now)) }
+    ensures kept { OnOk result (spec.IsKept names.new) }
+{
+    match name_fault(names, all, line) {
+        Some(fault) => Err(Stop::Faulty(fault)),
+        None => add_line(names, line),
+    }
+}
+
+// The fault of a card, if it has one.
+#[tactic(auto, unfolding(crate::specs::Naming::name_fault))]
+fn name_fault(names: &Names, all: &Symbols, line: &Line) -> Option<Fault>
+    requires well { IsWellFormedIfAny line.now.statement }
+    requires kept { spec.IsKept names.now }
+    ensures { result ≡ spec.name_fault (is_defined all.now) (spec.named_in names.now) line.now }
+{
+    if is_taken(&names.table, line.name) {
+        Some(Fault::NameTwice)
+    } else if !is_known(all, &line.statement) {
+        Some(Fault::UndefinedSymbol)
+    } else if !is_earlier(&names.table, &line.statement) {
+        Some(Fault::SymbolNotEarlier)
+    } else if line.name.is_some() && names.symbols.len() >= MOST_NAMES {
+        Some(Fault::TooManyNames)
+    } else {
+        None
+    }
+}
+
+// Whether a card's name is defined already.
+fn is_taken(symbols: &Symbols, name: Option<[u8; 8]>) -> bool
+    ensures { result ≡ spec.is_taken symbols.now name }
+{
+    match name {
+        None => false,
+        Some(name) => symbols.get(name).is_some(),
+    }
+}
+
+// Whether the names that a card speaks of are in a table.
+fn is_known(all: &Symbols, statement: &Option<Statement>) -> bool
+    ensures { result ≡ spec.is_known (is_defined all.now) statement.now }
+{
+    match statement {
+        None => true,
+        Some(statement) => knows_all(all, statement),
+    }
+}
+
+// Whether they are defined by earlier cards, where they have to be.
+fn is_earlier(symbols: &Symbols, statement: &Option<Statement>) -> bool
+    requires { IsWellFormedIfAny statement.now }
+    ensures { result ≡ spec.is_earlier symbols.now statement.now }
+{
+    match statement {
+        None => true,
+        Some(statement) => is_statement_earlier(symbols, statement),
+    }
+}
+
+fn is_statement_earlier(symbols: &Symbols, statement: &Statement) -> bool
+    requires { IsWellFormed statement.now }
+    ensures { result ≡ spec.is_statement_earlier symbols.now statement.now }
+{
+    if role_of(statement).needs_earlier() {
+        knows_all(symbols, statement)
+    } else {
+        true
+    }
+}
+
+// A card more, which has no fault.
+#[tactic(auto, unfolding(crate::specs::Naming::name_step))]
+fn add_line(names: &mut Names, line: &Line) -> Result<(), Stop>
+    requires well { IsWellFormedIfAny line.now.statement }
+    requires kept { spec.IsKept names.old }
+    requires fresh { spec.is_taken names.old.table line.now.name ≡ false }
+    ensures ok { OnOk result (spec.name_step (spec.named_in names.old) line.now
+        ≡ spec.named_in names.new) }
+    ensures err { IfErr result (λ stop. stop ≡ Stop.NoMemory) }
+    ensures kept { OnOk result (spec.IsKept names.new) }
+{
+    let (place, behind) = placed(&names.table, names.location, &line.statement);
+    if let Some(name) = line.name {
+        define(names, name, place.unwrap_or(0))?;
+    }
+    names.location = behind;
+    match names.places.push(place) {
+        Ok(()) => Ok(()),
+        Err(_) => Err(Stop::NoMemory),
+    }
+}
+
+// The place of a card, and the location behind it.
+fn placed(symbols: &Symbols, location: u32, statement: &Option<Statement>) -> (Option<u32>, u32)
+    requires well { IsWellFormedIfAny statement.now }
+    requires location { location < 2 ^ 24 }
+    ensures place { result.0 ≡ spec.place_of symbols.now location statement.now }
+    ensures behind { result.1 ≡ spec.behind symbols.now location statement.now }
+    ensures below { result.1 < 2 ^ 24 }
+{
+    match statement {
+        None => (None, location),
+        Some(statement) => placed_statement(symbols, location, statement),
+    }
+}
+
+fn placed_statement(symbols: &Symbols, location: u32, statement: &Statement) -> (Option<u32>, u32)
+    requires well { IsWellFormed statement.now }
+    requires location { location < 2 ^ 24 }
+    ensures place { result.0 ≡ spec.place_of_statement symbols.now location statement.now }
+    ensures behind { result.1 ≡ spec.behind_statement symbols.now location statement.now }
+    ensures below { result.1 < 2 ^ 24 }
+{
+    let role = role_of(statement);
+    let value = values_of(symbols, statement).first;
+    (role.place(location, value), role.behind(location, value))
+}
+
+// A name more.
+fn define(names: &mut Names, name: [u8; 8], value: u32) -> Result<(), Stop>
+    requires kept { spec.IsKept names.old }
+    requires fresh { is_defined names.old.table name ≡ false }
+    ensures ok { OnOk result (spec.named_in names.new ≡ record (spec.named_in names.old) {
+      symbols = names.old.symbols.items ++ record { name = name; value = value } ∷ [];
+    }) }
+    ensures err { IfErr result (λ stop. stop ≡ Stop.NoMemory) }
+    ensures kept { OnOk result (spec.IsKept names.new) }
+{
+    if names.table.define(name, value).is_err() {
+        return Err(Stop::NoMemory);
+    }
+    match names.symbols.push(Symbol { name, value }) {
+        Ok(()) => Ok(()),
+        Err(_) => Err(Stop::NoMemory),
+    }
 }

@@ -1,5 +1,7 @@
 //! Why a job has no image.
 
+ghost use Rattle.std.specs.Prelude.{◌≡◌};
+ghost use Rattle.st_asm.specs.Answers as spec;
 
 use st_card::Fault;
 
@@ -13,3 +15,21 @@ pub enum AsmError {
     NoMemory,
 }
 
+// Why a pass stops at a card.
+#[derive(Clone, Copy)]
+pub(crate) enum Stop {
+    Faulty(Fault),
+    NoMemory,
+}
+
+impl Stop {
+    // The same with the card's number.
+    pub(crate) fn at(self, card: u32) -> AsmError
+        ensures { result ≡ spec.stopped_at card self }
+    {
+        match self {
+            Stop::Faulty(fault) => AsmError::Refused { card, fault },
+            Stop::NoMemory => AsmError::NoMemory,
+        }
+    }
+}

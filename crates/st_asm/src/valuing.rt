@@ -1,7 +1,247 @@
+//! The value pass: the image, the start, and the rows of the listing.
+
+ghost use Rattle.std.specs.Prelude.{◌≡◌, ◌<◌, ◌≤◌, ◌^◌, ◌+◌, ◌*◌, ◌++◌, ◌∷◌, [], ℕ, List, All, IfOk, IfErr, OnOk, IfSome, IsTrue, None, length, unwrap_or, unsigned_abs, if◌then◌else◌};
+ghost use Rattle.std.specs.List.{zip};
+ghost use Rattle.st_asm.specs.Answers.{Stops, Explains};
+ghost use Rattle.st_asm.specs.Checks.{value_fault as fault_of, in_storage};
+ghost use Rattle.st_asm.specs.Pass.{pass};
+ghost use Rattle.st_asm.specs.Valuing as spec;
+ghost use Rattle.st_asm.specs.Forming.{is_end as ends};
+ghost use Rattle.st_asm.specs.Laying.{half_word as half_word_of};
+ghost use Rattle.st_bits.specs.Storage.{words_of_storage};
+ghost use Rattle.st_asm.specs.Sound.{IsSoundLayout, IsImage, IsRow, IsLocation};
+ghost use Rattle.st_strap.specs.WellFormed.{IsWellFormed, IsWellFormedIfAny};
+
+use crate::checks::value_fault;
+use crate::forming::is_end;
+use crate::laying::{bits_of, half_word};
+use crate::line::Line;
+use crate::places::role_of;
+use crate::stop::{AsmError, Stop};
+use crate::values::{Values, values_of};
+use st_bits::{WORDS, put_field};
+use st_expr::Symbols;
+use st_strap::Statement;
+use std::alloc::{AllocError, Global};
+
+/// A row of the listing: what a card lays, and where.
 #[derive(Clone, Copy, Debug, PartialEq, Eq)]
 pub struct Listed {
+    /// The card's number, from 1 on.
     pub card: u32,
+    /// The place of what the card lays, passes over or names, a bit address below 2^24; none for
+    /// comments, control cards and the end.
     pub location: Option<u32>,
+    /// The bits that the card lays, as a number below 2^length.
     pub bits: u64,
+    /// How many bits the card lays, at most 64.
     pub length: u8,
+}
+
+// What is laid.
+#[derive(Drop)]
+pub(crate) struct Layout {
+    // The words of storage.
+    pub image: Vec<u64>,
+    // The half-word address of the first instruction.
+    pub start: u32,
+    // A row for each card.
+    pub rows: Vec<Listed>,
+}
+
+// The value pass.
+#[tactic(auto, unfolding(crate::specs::Valuing::value_pass))]
+pub(crate) fn value_pass(
+    alloc: Global,
+    symbols: &Symbols,
+    lines: &[Line],
+    places: &[Option<u32>],
+) -> Result<Layout, AsmError>
+    requires well { All (λ line. IsWellFormedIfAny line.statement) lines.now }
+    requires located { All IsLocation places.now }
+    ensures ok { IfOk result (λ l. spec.value_pass symbols.now lines.now places.now
+        ≡ Ok (spec.laid_in l)) }
+    ensures err { IfErr result (Explains (spec.value_pass symbols.now lines.now places.now)) }
+    ensures sound { IfOk result (λ l. IsSoundLayout (spec.laid_in l)) }
+{
+    let Ok(mut layout) = empty_layout(alloc) else {
+        return Err(AsmError::NoMemory);
+    };
+    let mut rest = lines;
+    let mut places_left = places;
+    'lines: while let [line, after @ ..] = rest {
+        let [place, places_after @ ..] = places_left else {
+            return Ok(layout);
+        };
+        if let Err(stop) = value_line(&mut layout, symbols, line, *place) {
+            return Err(stop.at(line.card));
+        }
+        rest = after;
+        places_left = places_after;
+    }
+    Ok(layout)
+}
+
+// What is laid before the first card.
+fn empty_layout(alloc: Global) -> Result<Layout, AllocError>
+    ensures laid { IfOk result (λ l. spec.laid_in l ≡ spec.unlaid) }
+    ensures sound { IfOk result (λ l. IsSoundLayout (spec.laid_in l)) }
+{
+    Ok(Layout {
+        image: vec![in alloc; 0u64; number_of_words()]?,
+        start: 0,
+        rows: Vec::new(alloc),
+    })
+}
+
+// The words of storage.
+fn number_of_words() -> usize
+    ensures { result ≡ words_of_storage }
+{
+    WORDS as usize
+}
+
+// A card more.
+#[tactic(auto, unfolding(crate::specs::Valuing::value_card))]
+fn value_line(
+    layout: &mut Layout,
+    symbols: &Symbols,
+    line: &Line,
+    place: Option<u32>,
+) -> Result<(), Stop>
+    requires well { IsWellFormedIfAny line.now.statement }
+    requires located { IsLocation place }
+    requires sound { IsSoundLayout (spec.laid_in layout.old) }
+    ensures ok { OnOk result (spec.value_card symbols.now (spec.laid_in layout.old) (line.now, place)
+        ≡ Ok (spec.laid_in layout.new)) }
+    ensures err { IfErr result
+        (Stops (spec.value_card symbols.now (spec.laid_in layout.old) (line.now, place))) }
+    ensures sound { OnOk result (IsSoundLayout (spec.laid_in layout.new)) }
+{
+    match &line.statement {
+        None => add_silent(layout, line.card, place),
+        Some(s) => value_statement(layout, line.card, s, values_of(symbols, s), place),
+    }
+}
+
+// A card more that says nothing.
+fn add_silent(layout: &mut Layout, card: u32, place: Option<u32>) -> Result<(), Stop>
+    requires located { IsLocation place }
+    requires sound { IsSoundLayout (spec.laid_in layout.old) }
+    ensures ok { OnOk result (spec.laid_in layout.new
+        ≡ spec.with_silent (spec.laid_in layout.old) card place) }
+    ensures err { IfErr result (λ stop. stop ≡ Stop.NoMemory) }
+    ensures sound { OnOk result (IsSoundLayout (spec.laid_in layout.new)) }
+{
+    add_row(
+        layout,
+        Listed {
+            card,
+            location: place,
+            bits: 0,
+            length: 0,
+        },
+    )
+}
+
+// A row more.
+fn add_row(layout: &mut Layout, row: Listed) -> Result<(), Stop>
+    requires row { IsRow row }
+    requires sound { IsSoundLayout (spec.laid_in layout.old) }
+    ensures ok { OnOk result (spec.laid_in layout.new ≡ record (spec.laid_in layout.old) {
+      rows = layout.old.rows.items ++ row ∷ [];
+    }) }
+    ensures err { IfErr result (λ stop. stop ≡ Stop.NoMemory) }
+    ensures sound { OnOk result (IsSoundLayout (spec.laid_in layout.new)) }
+{
+    match layout.rows.push(row) {
+        Ok(()) => Ok(()),
+        Err(_) => Err(Stop::NoMemory),
+    }
+}
+
+// A statement card more.
+#[tactic(auto, unfolding(crate::specs::Valuing::value_statement))]
+fn value_statement(
+    layout: &mut Layout,
+    card: u32,
+    s: &Statement,
+    v: Values,
+    place: Option<u32>,
+) -> Result<(), Stop>
+    requires well { IsWellFormed s.now }
+    requires located { IsLocation place }
+    requires sound { IsSoundLayout (spec.laid_in layout.old) }
+    ensures ok { OnOk result (spec.value_statement (spec.laid_in layout.old) card s.now v place
+        ≡ Ok (spec.laid_in layout.new)) }
+    ensures err { IfErr result
+        (Stops (spec.value_statement (spec.laid_in layout.old) card s.now v place)) }
+    ensures sound { OnOk result (IsSoundLayout (spec.laid_in layout.new)) }
+{
+    match value_fault(s, role_of(s), v, place.unwrap_or(0)) {
+        Some(fault) => Err(Stop::Faulty(fault)),
+        None => lay(layout, card, s, v, place),
+    }
+}
+
+// A statement card more, which has no fault.
+fn lay(
+    layout: &mut Layout,
+    card: u32,
+    s: &Statement,
+    v: Values,
+    place: Option<u32>,
+) -> Result<(), Stop>
+    requires well { IsWellFormed s.now }
+    requires located { IsLocation place }
+    requires sound { IsSoundLayout (spec.laid_in layout.old) }
+    requires good { fault_of s.now v (unwrap_or place 0) ≡ None }
+    ensures ok { OnOk result (spec.laid_in layout.new
+        ≡ spec.with_laid (spec.laid_in layout.old) card s.now v place) }
+    ensures err { IfErr result (λ stop. stop ≡ Stop.NoMemory) }
+    ensures sound { OnOk result (IsSoundLayout (spec.laid_in layout.new)) }
+{
+    let length = role_of(s).length() as u8;
+    let bits = bits_of(s, v);
+    put_bits(
+        layout.image.as_mut_slice(),
+        place.unwrap_or(0),
+        length,
+        bits,
+    );
+    layout.start = start_behind(layout.start, s, v);
+    add_row(
+        layout,
+        Listed {
+            card,
+            location: place,
+            bits,
+            length,
+        },
+    )
+}
+
+// The start, as far as it is known behind a statement.
+fn start_behind(start: u32, s: &Statement, v: Values) -> u32
+    requires { unsigned_abs v.first < 2 ^ 24 }
+    ensures start { result ≡ (if ends s.now then half_word_of v.first else start) }
+    ensures below { start < 2 ^ 19 → result < 2 ^ 19 }
+{
+    if is_end(s) { half_word(v.first) } else { start }
+}
+
+// Puts so many bits into the image from a place on.
+#[tactic(auto, unfolding(crate::specs::Valuing::image_with))]
+fn put_bits(image: &mut [u64], place: u32, length: u8, bits: u64)
+    requires few { length ≤ 64 }
+    requires image { IsImage image.old }
+    requires inside { IsTrue (in_storage place length) }
+    requires fits { bits < 2 ^ length }
+    ensures put { image.new ≡ spec.image_with image.old place length bits }
+    ensures image { IsImage image.new }
+{
+    if length == 0 {
+        return;
+    }
+    put_field(image, place, length, bits);
 }

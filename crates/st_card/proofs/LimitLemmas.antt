@@ -41,7 +41,7 @@ only : {X : Type 0} (p : X → Bool) (x : X) → p x ≡ true → AllPass p (x �
 only p x holds = AllPass-from_list_all p (x ∷ []) (ap (λ b. b && true) holds)
 
 -- what is given keeps the limits where the rest is as before
-budget-kept : (kept new : Asked) (numbers : List ℕ) → spec.with_budget kept numbers ≡ Some new →
+pub budget-kept : (kept new : Asked) (numbers : List ℕ) → spec.with_budget kept numbers ≡ Some new →
     IsWithinLimits kept → IsWithinLimits new
 budget-kept kept new [] same limits = cc
 budget-kept kept new (n ∷ []) same limits =
@@ -57,7 +57,7 @@ budget-kept kept new (n ∷ []) same limits =
     })
 budget-kept kept new (n ∷ m ∷ ms) same limits = cc
 
-back-kept : (kept new : Asked) (numbers : List ℕ) → spec.with_back kept numbers ≡ Some new →
+pub back-kept : (kept new : Asked) (numbers : List ℕ) → spec.with_back kept numbers ≡ Some new →
     IsWithinLimits kept → IsWithinLimits new
 back-kept kept new [] same limits = cc
 back-kept kept new (n ∷ []) same limits =
@@ -73,7 +73,7 @@ back-kept kept new (n ∷ []) same limits =
     })
 back-kept kept new (n ∷ m ∷ ms) same limits = cc
 
-delays-kept : (kept new : Asked) (numbers : List ℕ) → spec.with_delays kept numbers ≡ Some new →
+pub delays-kept : (kept new : Asked) (numbers : List ℕ) → spec.with_delays kept numbers ≡ Some new →
     IsWithinLimits kept → IsWithinLimits new
 delays-kept kept new [] same limits = cc
 delays-kept kept new (n ∷ ns) same limits =
@@ -92,7 +92,7 @@ delays-kept kept new (n ∷ ns) same limits =
       back = limits.back;
     })
 
-dump-kept : (kept new : Asked) (numbers : List ℕ) → spec.with_dump kept numbers ≡ Some new →
+pub dump-kept : (kept new : Asked) (numbers : List ℕ) → spec.with_dump kept numbers ≡ Some new →
     IsWithinLimits kept → IsWithinLimits new
 dump-kept kept new [] same limits = cc
 dump-kept kept new (first ∷ []) same limits = cc
@@ -123,7 +123,7 @@ last_item {X} test items passes d some =
     let last = slice_get-get_or items (length items - 1) d within in
     sym (ap (λ (o : Option X). option_map_or test o true) last) ∙ passes
 
-signal-kept : (kept new : Asked) (numbers : List ℕ) → spec.with_signal kept numbers ≡ Some new →
+pub signal-kept : (kept new : Asked) (numbers : List ℕ) → spec.with_signal kept numbers ≡ Some new →
     IsWithinLimits kept → IsWithinLimits new
 signal-kept kept new [] same limits = cc
 signal-kept kept new (count ∷ []) same limits = cc
@@ -176,7 +176,7 @@ rising-push xs x rising above k within =
     ] in
     step (nat_lt (k + 1) (length xs)) refl
 
-snap-kept : (kept new : Asked) (numbers : List ℕ) → AllPass is_tick numbers → spec.with_snap kept numbers ≡ Some new →
+pub snap-kept : (kept new : Asked) (numbers : List ℕ) → AllPass is_tick numbers → spec.with_snap kept numbers ≡ Some new →
     IsWithinLimits kept → IsWithinLimits new
 snap-kept kept new [] short same limits = cc
 snap-kept kept new (tick ∷ []) short same limits =
@@ -223,19 +223,19 @@ list-kept kept new [] same limits =
     mark-kept kept.list kept _ new (marks-kept kept true kept.trace kept.time kept.chart limits) same
 list-kept kept new (n ∷ ns) same limits = cc
 
-trace-kept : (kept new : Asked) (numbers : List ℕ) → spec.with_trace kept numbers ≡ Some new →
+pub trace-kept : (kept new : Asked) (numbers : List ℕ) → spec.with_trace kept numbers ≡ Some new →
     IsWithinLimits kept → IsWithinLimits new
 trace-kept kept new [] same limits =
     mark-kept kept.trace kept _ new (marks-kept kept kept.list true kept.time kept.chart limits) same
 trace-kept kept new (n ∷ ns) same limits = cc
 
-time-kept : (kept new : Asked) (numbers : List ℕ) → spec.with_time kept numbers ≡ Some new →
+pub time-kept : (kept new : Asked) (numbers : List ℕ) → spec.with_time kept numbers ≡ Some new →
     IsWithinLimits kept → IsWithinLimits new
 time-kept kept new [] same limits =
     mark-kept kept.time kept _ new (marks-kept kept kept.list kept.trace true kept.chart limits) same
 time-kept kept new (n ∷ ns) same limits = cc
 
-chart-kept : (kept new : Asked) (numbers : List ℕ) → spec.with_chart kept numbers ≡ Some new →
+pub chart-kept : (kept new : Asked) (numbers : List ℕ) → spec.with_chart kept numbers ≡ Some new →
     IsWithinLimits kept → IsWithinLimits new
 chart-kept kept new [] same limits =
     mark-kept kept.chart kept _ new (marks-kept kept kept.list kept.trace kept.time true limits) same

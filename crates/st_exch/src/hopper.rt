@@ -1,6 +1,6 @@
 //! The cards that stand in the card reader.
 
-ghost use Rattle.std.specs.Prelude.{◌≡◌, ◌+◌, ◌^◌, ◌<◌, ◌≤◌, List, [], ◌∷◌, ◌++◌, length, MatchOption, IfOk, OnOk, All};
+ghost use Rattle.std.specs.Prelude.{◌≡◌, ◌+◌, ◌^◌, ◌<◌, ◌≤◌, List, [], ◌∷◌, ◌++◌, length, MatchOption, IfOk, OnOk};
 ghost use Rattle.st_card.specs.Cards.{IsCardOf};
 ghost use Rattle.st_card.specs.declared.cards.Card.{Card as CardRow};
 ghost use Rattle.st_exch.specs.Reader as spec;

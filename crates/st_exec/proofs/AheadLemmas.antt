@@ -32,7 +32,7 @@ change-marks : (c : Option IndexChange) (s : Machine) → HasMarks s (with_chang
 change-marks None s = marks-same s
 change-marks (Some c) s = marks-words s _ (length-set s.words (16 + c.number) (fixed (16 + c.number) c.word))
 
-early-marks : (p : Prepared) (s : Machine) → HasMarks s (early p s)
+pub early-marks : (p : Prepared) (s : Machine) → HasMarks s (early p s)
 unfolding early
 early-marks p s =
     let u = with_change p.index s in
@@ -159,7 +159,7 @@ finished-late : (b : Bool) (p : Prepared) (t : Machine)
 finished-late true p t = refl
 finished-late false p t = refl
 
-completed-late : (p : Prepared) (s : Machine) → p.place.table ≡ None
+pub completed-late : (p : Prepared) (s : Machine) → p.place.table ≡ None
     → completed p s ≡ counted (late p.suppressed p (early p s)) (if p.suppressed then p.following else counter p (early p s))
 unfolding completed finished
 completed-late p s e =

@@ -9,7 +9,7 @@ use Rattle.st_state.specs.Machine.{Machine, word, placed}
 
 -- ---- lengths
 
-length-all_bits : (ws : List ℕ) → length (all_bits ws) ≡ 64 * length ws
+pub length-all_bits : (ws : List ℕ) → length (all_bits ws) ≡ 64 * length ws
 unfolding all_bits
 length-all_bits [] = refl
 length-all_bits (w ∷ ws) =
@@ -50,6 +50,16 @@ get_or-fixed_from k zero (x ∷ ws) h =
 get_or-fixed_from k (suc i) (x ∷ ws) h =
     let place : k + 1 + i ≡ k + suc i = omega arith in
     get_or-fixed_from (k + 1) i ws (omega arith) ∙ ap (λ j. fixed j (get_or ws i 0)) place
+
+-- a word of storage after bits are put into it
+pub word-placed_by : (s : Machine) (a : ℕ) (v : List ℕ) (i : ℕ) → i < length s.words
+    → word (placed s a v) i ≡ fixed i (num (field (put (all_bits s.words) a v) (64 * i) 64))
+word-placed_by s a v i here =
+    let bs = put (all_bits s.words) a v in
+    let ws = words_of (length s.words) bs in
+    get_or-fixed_from 0 i ws (omega (arith, length-words_of (length s.words) bs))
+    ∙ ap (λ k. fixed k (get_or ws i 0)) (zero-add i)
+    ∙ ap (fixed i) (get_or-words_of (length s.words) i bs here)
 
 -- ---- fields apart from what is put
 
@@ -94,10 +104,8 @@ word-placed s a v i here inside apart =
     let room : a + length v ≤ length (all_bits ws) = omega (arith, length-all_bits ws) in
     let start : 64 * i ≡ 64 * i + 0 = omega arith in
     let one : word s i / 1 ≡ word s i = omega arith in
-    get_or-fixed_from 0 i (words_of (length ws) (put (all_bits ws) a v)) (omega (arith, length-words_of (length ws) (put (all_bits ws) a v)))
-    ∙ ap (λ k. fixed k (get_or (words_of (length ws) (put (all_bits ws) a v)) i 0)) (zero-add i)
+    word-placed_by s a v i here
     ∙ ap (fixed i)
-    (get_or-words_of (length ws) i (put (all_bits ws) a v) here
-    ∙ ap num (field-put_apart (all_bits ws) v a (64 * i) 64 room apart ∙ ap (λ k. field (all_bits ws) k 64) start)
+    (ap num (field-put_apart (all_bits ws) v a (64 * i) 64 room apart ∙ ap (λ k. field (all_bits ws) k 64) start)
     ∙ num-in_word ws i 0 64 here (omega arith)
     ∙ ap (λ x. x % 2 ^ 64) one)

@@ -24,7 +24,7 @@ field_near : (e n : ℕ) (b : Bool) → nat_le (e % 64 + n) 64 ≡ b → n ≤ 6
 field_near e n true t few h = let le : e % 64 + n ≤ 64 = leb-true (e % 64 + n) 64 t in omega arith
 field_near e n false t few h = omega arith
 
-some_words : (b : Bool) → 1 ≤ (if b then 1 else 2)
+pub some_words : (b : Bool) → 1 ≤ (if b then 1 else 2)
 some_words true = omega arith
 some_words false = omega arith
 

@@ -9,3 +9,8 @@ pub mod SparedLemmas
 pub mod AheadLemmas
 pub mod ReadLemmas
 pub mod TransferLemmas
+pub mod AlikeStates
+pub mod AlikeDeeds
+pub mod BitBounds
+pub mod ResultBounds
+pub mod MachineKept

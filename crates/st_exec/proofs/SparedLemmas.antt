@@ -188,7 +188,7 @@ marks-field : (f : Option ℕ) (a n : ℕ) (t : Machine) → HasMarks t (with_fi
 marks-field None a n t = marks-same t
 marks-field (Some v) a n t = marks-words t _ (length-placed t a (bits n v))
 
-marks-registers : (o : Outcome) (t : Machine) → HasMarks t (with_registers o t)
+pub marks-registers : (o : Outcome) (t : Machine) → HasMarks t (with_registers o t)
 unfolding with_registers
 marks-registers o t =
     let a = with_accumulator o.done.acc t in

@@ -2,6 +2,7 @@
 ghost use Rattle.std.specs.Prelude.{◌≡◌, ◌+◌, ◌≤◌, true, false};
 ghost use Rattle.st_state.specs.Machine.{Machine, IsMachine};
 ghost use Rattle.st_prep.specs.declared.entries.Prepared.{Prepared};
+ghost use Rattle.st_prep.specs.Alike.{AreAlike};
 ghost use Rattle.st_prep.specs.Ranges.{IsPrepared};
 ghost use Rattle.st_exec.specs.Completion.{completed, guessed, is_missed};
 ghost use Rattle.st_exec.specs.Ahead.{IsPast, is_indicator_branch};
@@ -28,4 +29,21 @@ pub fn entries_ahead_leave_the_rest()
 pub fn only_indicator_branches_are_missed()
     ensures right { (p : Prepared) (s : Machine) → IsPrepared p → is_missed p s ≡ false → guessed p s ≡ completed p s }
     ensures missed { (p : Prepared) (s : Machine) → IsPrepared p → is_missed p s ≡ true → is_indicator_branch p.instr ≡ true }
+{}
+
+/// Two states that differ in word 11 alone differ in no more after the guess of an entry that is not done alone, nor after
+/// the entry itself where the guess is right of both: a branch on an indicator that only one of them takes parts their
+/// counters.
+pub fn indicators_are_passed_over()
+    ensures guessed { (p : Prepared) (s u : Machine) → IsPrepared p → IsMachine s → AreAlike s u
+        → p.serial ≡ false → AreAlike (guessed p s) (guessed p u) }
+    ensures completed { (p : Prepared) (s u : Machine) → IsPrepared p → IsMachine s → AreAlike s u
+        → p.serial ≡ false → is_missed p s ≡ false → is_missed p u ≡ false
+        → AreAlike (completed p s) (completed p u) }
+{}
+
+/// An entry of a state leaves a state: storage whole, each word in its bits, the fixed bits of the registers, the counter
+/// below 2^19, and each order with its area in storage.
+pub fn entries_leave_states()
+    ensures { (p : Prepared) (s : Machine) → IsPrepared p → IsMachine s → IsMachine (completed p s) }
 {}

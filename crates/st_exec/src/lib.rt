@@ -18,8 +18,8 @@ mod transmission;
 pub use completing::complete;
 pub use execution::{execute, read_operands};
 pub use laws::{
-    entries_ahead_leave_the_rest, entries_are_bounded, entries_count_as_one,
-    only_indicator_branches_are_missed,
+    entries_ahead_leave_the_rest, entries_are_bounded, entries_count_as_one, entries_leave_states,
+    indicators_are_passed_over, only_indicator_branches_are_missed,
 };
 pub use step::{Step, interrupt, is_at_rest, next_address, one};
 pub use transfers::{print_out, read_in};

@@ -8,3 +8,6 @@ pub mod PreparedLemmas
 pub mod RunLemmas
 pub mod FetchLemmas
 pub mod PlanLemmas
+pub mod ReadingLemmas
+pub mod AlikeLemmas
+pub mod CountLemmas

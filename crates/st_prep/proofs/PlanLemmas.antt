@@ -1,5 +1,5 @@
 -- Entries of states.
-use Rattle.std.proofs.Common.{◌≡◌, ℕ, ◌+◌, ◌-◌, ◌^◌, ◌<◌, ◌≤◌, Bool, List, length, get_or, take, drop, Option, None, Some, refl, sym, ◌∙◌, ap, arith, bit_and, inl, inr}
+use Rattle.std.proofs.Common.{◌≡◌, ℕ, ◌+◌, ◌-◌, ◌/◌, ◌^◌, ◌<◌, ◌≤◌, Bool, true, false, ◌||◌, if◌then◌else◌, List, length, get_or, take, drop, Option, None, Some, is_some, refl, sym, ◌∙◌, ap, arith, bit_and, inl, inr}
 use Rattle.std.specs.Prelude.{IfSome}
 use Rattle.std.proofs.lemmas.List.{get_or-take, get_or-drop, get_or_past, length-take}
 use Rattle.std.proofs.lemmas.Bool.Decides.{leb_tells}
@@ -12,11 +12,13 @@ use Rattle.st_state.proofs.Kept.{is_machine-with_word}
 use Rattle.st_state.proofs.Turned.{turned_below, turned-masks}
 use Rattle.st_prep.specs.declared.entries.Place.{Place}
 use Rattle.st_prep.specs.declared.entries.Fetched.{Fetched}
-use Rattle.st_prep.specs.Fetch.{index_words, address_by, place_of, fetched}
+use Rattle.st_prep.specs.declared.fetching.Found.{Found}
+use Rattle.st_prep.specs.EarlyChange.{effective}
+use Rattle.st_prep.specs.Fetch.{index_words, address_by, place_of, found, is_execute, with_target, alone, fetched}
 use Rattle.st_prep.specs.Plan.{Sight, needs, prepared, sight, opened, side_word, side_of, plan, IsSeen}
 use Rattle.st_prep.specs.Ranges.{IsPlace, IsPrepared}
 use Rattle.st_prep.proofs.FetchLemmas.{fetched-fits}
-use Rattle.st_prep.proofs.PreparedLemmas.{IsSight, is_prepared}
+use Rattle.st_prep.proofs.PreparedLemmas.{IsSight, is_prepared, alone-serial}
 
 -- ---- indicators
 
@@ -27,7 +29,7 @@ without-turned x off word fits =
 
 -- ---- states
 
-fixed-indicators : (x : ℕ) → fixed 11 x ≡ x
+pub fixed-indicators : (x : ℕ) → fixed 11 x ≡ x
 unfolding fixed
 fixed-indicators x = refl
 
@@ -73,7 +75,7 @@ place-fits : (s : Machine) (t : Option ℕ) → IsMachine s → IfSome t (λ i. 
 unfolding place_of
 place-fits s t m some = record { counter = m.counter; address = address-below t s m; table = some }
 
-sight-fits : (s : Machine) (t : Option ℕ) → IsMachine s → IfSome t (λ i. i < 64) → IsSight (sight s (place_of s t))
+pub sight-fits : (s : Machine) (t : Option ℕ) → IsMachine s → IfSome t (λ i. i < 64) → IsSight (sight s (place_of s t))
 unfolding sight
 sight-fits s t m some = record {
   place = place-fits s t m some;
@@ -89,7 +91,7 @@ plan-prepared s t m some =
 
 -- ---- states that look the same
 
-same_seen : (p q : Place) (f g : Fetched) (x y : List ℕ) (b c : ℕ) (m n : Bool) → p ≡ q → f ≡ g → x ≡ y → b ≡ c → m ≡ n
+pub same_seen : (p q : Place) (f g : Fetched) (x y : List ℕ) (b c : ℕ) (m n : Bool) → p ≡ q → f ≡ g → x ≡ y → b ≡ c → m ≡ n
     → ◌≡◌ {A = Sight} (record { place = p; fetched = f; x = x; bounds = b; enabled = m })
     (record { place = q; fetched = g; x = y; bounds = c; enabled = n })
 same_seen p q f g x y b c m n e1 e2 e3 e4 e5 = cc
@@ -107,3 +109,29 @@ unfolding plan
 prepared-plan s v r h e =
     ap (prepared v) e
     ∙ ap (λ u. prepared u (side_word v.place.table s (needs u).index_read)) (sym (sight-seen s v h))
+
+-- ---- EX
+
+target-executes : (b : Bool) (own : Found) (target : Found) → is_execute own.decoded.instr ≡ b
+    → is_some (if b then with_target own.decoded target else alone own).target ≡ true
+    → is_execute (if b then with_target own.decoded target else alone own).instr.instr ≡ true
+target-executes true own target e h = e
+target-executes false own target e h = absurd (cc)
+
+-- what has a target is EX
+fetched-target : (s : Machine) (p : Place) → is_some (fetched s p).target ≡ true → is_execute (fetched s p).instr.instr ≡ true
+unfolding fetched
+fetched-target s p h =
+    let own = found s p.address in
+    target-executes (is_execute own.decoded.instr) own (found s (effective (index_words s) own.decoded.instr / 32)) refl h
+
+or-second : (a b : Bool) → b ≡ true → (a || b) ≡ true
+or-second true b h = refl
+or-second false b h = h
+
+-- and is done alone
+pub target-serial : (s : Machine) (i : Option ℕ) → is_some (fetched s (place_of s i)).target ≡ true → (plan s i).serial ≡ true
+unfolding plan sight
+target-serial s i h =
+    let p = place_of s i in
+    alone-serial _ _ (or-second (is_some p.table) (is_execute (fetched s p).instr.instr) (fetched-target s p h))

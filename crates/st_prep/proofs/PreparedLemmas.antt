@@ -1,5 +1,5 @@
 -- What holds of each prepared entry, of whatever is seen.
-use Rattle.std.proofs.Common.{◌≡◌, ℕ, ◌^◌, ◌<◌, ◌≤◌, Bool, true, false, List, not, get_or, Option, None, Some, is_some, refl, arith}
+use Rattle.std.proofs.Common.{◌≡◌, ℕ, ◌^◌, ◌<◌, ◌≤◌, Bool, true, false, ◌||◌, List, not, get_or, Option, None, Some, is_some, refl, ◌∙◌, arith}
 use Rattle.std.specs.Prelude.{IfSome, unwrap_or}
 use Rattle.std.proofs.lemmas.Bool.{not-false, ltb-false}
 use Rattle.st_bits.specs.Storage.{words_of_storage}
@@ -209,3 +209,42 @@ same_by_fault (Some i) s r = refl
 pub same_serial : (s : Sight) (r : Option ℕ) → (prepared s r).serial ≡ (needs s).serial
 unfolding prepared needs
 same_serial s r = same_by_fault (fault_of s) s r
+
+-- ---- the index-side word
+
+entry-read : (s : Sight) (r q : Option ℕ)
+    → entry s.place s.fetched s.x r
+    ≡ record (entry s.place s.fetched s.x q) {
+      index = (entry s.place s.fetched s.x r).index;
+      ind = (entry s.place s.fetched s.x r).ind;
+    }
+unfolding entry
+entry-read s r q = refl
+
+read-by_fault : (f : Option ℕ) (s : Sight) (r q : Option ℕ)
+    → prepared_by f s r
+    ≡ record (prepared_by f s q) { index = (prepared_by f s r).index; ind = (prepared_by f s r).ind }
+read-by_fault None s r q = entry-read s r q
+read-by_fault (Some i) s r q = refl
+
+-- what is read there shows in the index change and its indicators alone
+pub prepared-read : (s : Sight) (r q : Option ℕ)
+    → prepared s r ≡ record (prepared s q) { index = (prepared s r).index; ind = (prepared s r).ind }
+unfolding prepared
+prepared-read s r q = read-by_fault (fault_of s) s r q
+
+-- ---- EX
+
+alone-left : (a b c d e : Bool) → a ≡ true → (a || b || c || d || e) ≡ true
+alone-left true b c d e h = refl
+alone-left false b c d e h = cc
+
+alone-by_fault : (f : Option ℕ) (s : Sight) → is_alone s.place s.fetched ≡ true → (needs_by f s).serial ≡ true
+unfolding is_serial
+alone-by_fault None s h = alone-left (is_alone s.place s.fetched) _ _ _ _ h
+alone-by_fault (Some i) s h = h
+
+-- what is alone even where it is suppressed is done alone
+pub alone-serial : (s : Sight) (r : Option ℕ) → is_alone s.place s.fetched ≡ true → (prepared s r).serial ≡ true
+unfolding needs
+alone-serial s r h = same_serial s r ∙ alone-by_fault (fault_of s) s h

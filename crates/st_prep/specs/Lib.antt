@@ -4,3 +4,5 @@ pub mod Fetch
 pub mod Checks
 pub mod Ranges
 pub mod Plan
+pub mod Reading
+pub mod Alike

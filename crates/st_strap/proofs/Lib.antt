@@ -1,2 +1,4 @@
 pub mod TableBounds
 pub mod FieldLemmas
+pub mod ReadLemmas
+pub mod StatementLemmas

@@ -6,3 +6,4 @@ pub mod Describing
 pub mod Forming
 pub mod Reading
 pub mod Saying
+pub mod WellFormed

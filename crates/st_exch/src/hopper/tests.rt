@@ -65,19 +65,3 @@ fn a_job_that_ends_with_its_last_statement_leaves_the_reader_empty(
     assert_eq!(rt; Hopper::empty().next(), None);
     Ok(())
 }
-
-#[test]
-fn a_job_of_20_000_blank_cards_is_held_whole(rt: HostRuntime) -> Result<(), Fail> {
-    let job = vec![in rt.alloc(); b'\n'; 20_000]?;
-    let mut hopper = Hopper::new(rt.alloc(), job.as_slice())
-        .ok()
-        .ok_or("memory")?;
-    let mut held = 0;
-    for _ in 0..20_001 {
-        if hopper.next().is_some() {
-            held += 1;
-        }
-    }
-    assert_eq!(rt; held, 20_000);
-    Ok(())
-}

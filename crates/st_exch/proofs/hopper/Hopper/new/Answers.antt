@@ -1,4 +1,4 @@
-use Rattle.std.proofs.Common.{◌≡◌, ◌++◌, List, [], ◌∷◌, length, take, sym, ap, ◌∙◌, subst, arith, All}
+use Rattle.std.proofs.Common.{◌≡◌, List, take, sym, ap, ◌∙◌, subst, arith, All}
 use Rattle.std.proofs.lemmas.List.{take_all, take_more}
 use Rattle.st_card.specs.declared.cards.Card.{Card}
 use Rattle.st_card.specs.Cards.{IsCardOf}

@@ -1,0 +1,98 @@
+-- What holds where the value pass finds no fault.
+use Rattle.std.proofs.Common.{◌≡◌, ◌≤◌, ◌<◌, ◌+◌, ◌*◌, ◌==◌, ◌^◌, ◌||◌, ◌&&◌, ℕ, ℤ, pos, negsuc, Bool, true, false, not, List, [], ◌∷◌, Option, Some, None, nat_lt, nat_le, length, is_some, unsigned_abs, refl, arith}
+use Rattle.std.specs.Bool.{IsTrue}
+use Rattle.st_card.specs.Cards.{first_fault}
+use Rattle.st_card.specs.declared.faults.Fault.{Fault}
+use Rattle.st_card.specs.declared.faults.Fault.TheVariants.{NameTwice, UndefinedSymbol, SymbolNotEarlier, TooManyNames}
+use Rattle.st_strap.specs.declared.statement.Statement.{Statement}
+use Rattle.st_strap.specs.declared.statement.Statement.TheVariants.{Half, Sum, Refill, Branch, Floating, Vfl, Connect, Move, BitBranch, IndBranch, StoreCounter, Transfer, Data, IndexWord, Synonym, SetLocation, Reserve, End}
+use Rattle.st_asm.specs.Naming.{Named, is_taken, is_known, is_earlier, name_fault}
+use Rattle.st_asm.specs.Symbols.{table}
+use Rattle.st_asm.specs.declared.line.Line.{Line}
+use Rattle.st_asm.specs.Checks.{is_address, in_range, is_index_word, fits, fits_index_word, on_boundary, in_storage, extent, value_fault}
+use Rattle.st_asm.specs.Places.{role_of, length_in}
+use Rattle.st_asm.specs.declared.values.Values.{Values}
+use Rattle.st_asm.specs.declared.places.Role.{Role}
+use Rattle.st_asm.specs.declared.places.Role.TheVariants.{Lays, Passes, Sets, Names, Ends}
+
+none_of : (a b c d : Bool) (e f g h : Fault) →
+    first_fault ((not a, e) ∷ (not b, f) ∷ (not c, g) ∷ (not d, h) ∷ []) ≡ None →
+    (a ≡ true) × (b ≡ true) × (c ≡ true) × (d ≡ true)
+none_of true true true true e f g h none = (refl, refl, refl, refl)
+none_of true true true false e f g h none = let no : ⊥ = cc in absurd no
+none_of true true false d e f g h none = let no : ⊥ = cc in absurd no
+none_of true false c d e f g h none = let no : ⊥ = cc in absurd no
+none_of false b c d e f g h none = let no : ⊥ = cc in absurd no
+
+-- a statement without a fault passes every test
+pub faultless : (s : Statement) (v : Values) (place : ℕ) → value_fault s v place ≡ None →
+    (in_range s v ≡ true) × (fits s v ≡ true) × (on_boundary s v ≡ true)
+    × (in_storage place (extent (role_of s) v.first) ≡ true)
+unfolding value_fault
+faultless s v place none =
+    none_of (in_range s v) (fits s v) (on_boundary s v) (in_storage place (extent (role_of s) v.first)) _ _ _ _ none
+
+-- an address is below 2^24
+pub address-below : (a : ℤ) → is_address a ≡ true → unsigned_abs a < 2 ^ 24
+address-below (pos n) is = grind arith
+address-below (negsuc n) is = let no : ⊥ = cc in absurd no
+
+both : (a b : Bool) → (a && b) ≡ true → (a ≡ true) × (b ≡ true)
+both true true e = (refl, refl)
+both true false e = let no : ⊥ = cc in absurd no
+both false b e = let no : ⊥ = cc in absurd no
+
+-- the second value is an address
+pub second-below : (s : Statement) (v : Values) → in_range s v ≡ true → unsigned_abs v.second < 2 ^ 24
+unfolding in_range
+second-below (IndexWord value count refill flags) v is = address-below v.second is
+second-below _ v is = address-below v.second (both (is_address v.first) (is_address v.second) is).1
+
+-- the first one is an address, or the value of an index word
+pub first-below : (s : Statement) (v : Values) → in_range s v ≡ true → fits s v ≡ true → unsigned_abs v.first < 2 ^ 24
+unfolding in_range fits
+first-below (IndexWord value count refill flags) v is good =
+    let front = (both (nat_lt (unsigned_abs v.first) (2 ^ 24) && nat_le count 262143) (nat_le flags 7) good).0 in
+    let value_fits = (both (nat_lt (unsigned_abs v.first) (2 ^ 24)) (nat_le count 262143) front).0 in
+    grind arith
+first-below _ v is good = address-below v.first (both (is_address v.first) (is_address v.second) is).0
+
+-- what is laid is in storage where what is laid or passed over is
+pub laid-in_storage : (role : Role) (value : ℤ) (place : ℕ) → in_storage place (extent role value) ≡ true →
+    in_storage place (length_in role) ≡ true
+unfolding in_storage
+laid-in_storage (Lays unit bits) value place is = is
+laid-in_storage Passes value place is = refl
+laid-in_storage Sets value place is = refl
+laid-in_storage Names value place is = refl
+laid-in_storage Ends value place is = refl
+
+-- where there is no fault, the first test fails
+pub first-passes : (b : Bool) (fault : Fault) (rows : List (Bool × Fault)) → first_fault ((b, fault) ∷ rows) ≡ None → b ≡ false
+first-passes true fault rows none = let no : ⊥ = cc in absurd no
+first-passes false fault rows none = refl
+
+-- a card without a fault has a fresh name
+pub fresh-name : (on_cards : List ℕ → Bool) (named : Named) (line : Line) → name_fault on_cards named line ≡ None →
+    is_taken (table named.symbols) line.name ≡ false
+unfolding name_fault
+fresh-name on_cards named line none =
+    let symbols = table named.symbols in
+    first-passes (is_taken symbols line.name) NameTwice
+    ((not (is_known on_cards line.statement), UndefinedSymbol)
+    ∷ (not (is_earlier symbols line.statement), SymbolNotEarlier)
+    ∷ (is_some line.name && nat_le 4000 (length named.symbols), TooManyNames) ∷ []) none
+
+either-true : (a b : Bool) → (a || b) ≡ true → a ≡ false → b ≡ true
+either-true true b e f = let no : ⊥ = cc in absurd no
+either-true false b e f = e
+
+-- bits in storage, if there are any, are behind the registers and before the end
+pub storage-means : (place count : ℕ) → in_storage place count ≡ true → (count ≡ 0 → ⊥) →
+    (2048 ≤ place) × (place + count ≤ 64 * 98304)
+unfolding in_storage
+storage-means place count is some =
+    let not_none : (count == 0) ≡ false = grind arith in
+    let parts = both (nat_le 2048 place) (nat_le (place + count) (64 * 98304))
+    (either-true (count == 0) (nat_le 2048 place && nat_le (place + count) (64 * 98304)) is not_none) in
+    (grind (arith, parts.0), grind (arith, parts.1))

@@ -1,0 +1,37 @@
+-- How a pass goes on, and where it stops.
+use Rattle.std.proofs.Common.{◌≡◌, ◌≤◌, ◌<◌, ◌-◌, ℕ, suc, refl, List, [], ◌∷◌, length, get_or, take, drop, Result, Ok, Err, ap, sym, ◌∙◌, arith}
+use Rattle.std.proofs.Math.Seq.{take-length}
+use Rattle.st_card.specs.declared.faults.Fault.{Fault}
+use Rattle.st_asm.specs.Pass.{Refusal, onward, pass}
+use Rattle.st_asm.specs.Answers.{Stops, Explains, stopped_at}
+use Rattle.st_asm.specs.declared.stop.Stop.{Stop}
+use Rattle.st_asm.specs.declared.stop.Stop.TheVariants.{Faulty, NoMemory}
+
+-- a list that is not empty, as a slice pattern has it
+pub first_and_rest : {X : Type 0} (xs : List X) (first : X) → 1 ≤ length xs → first ≡ get_or xs 0 first →
+    xs ≡ first ∷ take (length xs - 1) (drop 1 xs)
+first_and_rest [] first some is_first = let no : ⊥ = omega arith in absurd no
+first_and_rest (x ∷ xs) first some is_first =
+    let count : length xs ≡ suc (length xs) - 1 = omega arith in
+    let tail : xs ≡ take (suc (length xs) - 1) xs = sym (take-length xs) ∙ ap (λ n. take n xs) count in
+    ap (λ y. y ∷ xs) (sym is_first) ∙ ap (λ t. first ∷ t) tail
+
+-- a card without a fault
+pub pass-next : {S X : Type 0} (next : S → X → Result S Fault) (number : X → ℕ) (state after : S) (x : X) (xs all : List X) →
+    all ≡ x ∷ xs → next state x ≡ Ok after → pass next number state all ≡ pass next number after xs
+pass-next next number state after x xs all parts good =
+    ap (λ l. pass next number state l) parts
+    ∙ ap (λ r. onward (λ s. pass next number s xs) (number x) r) good
+
+-- a card at which the pass stops
+pub pass-stop : {S X : Type 0} (next : S → X → Result S Fault) (number : X → ℕ) (state : S) (x : X) (xs all : List X) (stop : Stop) →
+    all ≡ x ∷ xs → Stops (next state x) stop → Explains (pass next number state all) (stopped_at (number x) stop)
+pass-stop next number state x xs all (Faulty fault) parts bad =
+    ap (λ l. pass next number state l) parts
+    ∙ ap (λ r. onward (λ s. pass next number s xs) (number x) r) bad
+pass-stop next number state x xs all NoMemory parts bad = tt
+
+-- a list without items
+pub no_items : {X : Type 0} (xs : List X) → length xs < 1 → xs ≡ []
+no_items [] none = refl
+no_items (x ∷ xs) none = let no : ⊥ = omega arith in absurd no

@@ -1,0 +1,86 @@
+-- Tables of names, and which names are in them.
+use Rattle.std.proofs.Common.{◌≡◌, ◌&&◌, ◌||◌, ℕ, Bool, true, false, cond, List, [], ◌∷◌, ◌++◌, Option, Some, None, is_some, IsSome, nat_eq, refl, ap, sym, ◌∙◌}
+use Rattle.std.proofs.lemmas.Bool.{eqb-true}
+use Rattle.std.specs.Cmp.Lexicographic.{pointwise}
+use Rattle.std.specs.List.{cons_option}
+use Rattle.st_card.specs.Tables.{is_same, row_of}
+use Rattle.st_expr.specs.Value.{Defines}
+use Rattle.st_asm.specs.Symbols.{is_among, is_defined, names_of}
+use Rattle.st_asm.specs.declared.line.Line.{Line}
+
+both_true : (a b : Bool) → (a && b) ≡ true → (a ≡ true) × (b ≡ true)
+both_true true true e = (refl, refl)
+both_true true false e = (refl, e)
+both_true false b e = let no : ⊥ = cc in absurd no
+
+-- words that are the same are equal
+pub same_words : (a b : List ℕ) → is_same a b ≡ true → a ≡ b
+same_words [] [] e = refl
+same_words [] (y ∷ ys) e = let no : ⊥ = cc in absurd no
+same_words (x ∷ xs) [] e = let no : ⊥ = cc in absurd no
+same_words (x ∷ xs) (y ∷ ys) e =
+    let parts = both_true (nat_eq x y) (pointwise nat_eq xs ys) e in
+    ap (λ c. c ∷ xs) (eqb-true x y parts.0) ∙ ap (λ cs. y ∷ cs) (same_words xs ys parts.1)
+
+-- a name put at the end of a table
+pub defined-behind : (table : List (List ℕ × ℕ)) (name query : List ℕ) (value : ℕ) →
+    is_defined (table ++ (name, value) ∷ []) query ≡ (is_defined table query || is_same query name)
+defined-behind [] name query value =
+    elim (is_same query name) as (λ b. is_some (cond b (Some value) None) ≡ b) [ true ↦ refl | false ↦ refl ]
+defined-behind (row ∷ rows) name query value =
+    elim (is_same query row.0) as (λ b. is_some (cond b (Some row.1) (row_of query (rows ++ (name, value) ∷ [])))
+    ≡ (is_some (cond b (Some row.1) (row_of query rows)) || is_same query name)) [
+      | true ↦ refl
+      | false ↦ defined-behind rows name query value
+    ]
+
+or-same : (d s : Bool) → (s ≡ true → d ≡ true) → d ≡ (d || s)
+or-same true s h = refl
+or-same false true h = h refl
+or-same false false h = refl
+
+-- a name that was defined, or was there
+pub defined-now : (old new : List (List ℕ × ℕ)) (name : List ℕ) (value : ℕ) (fresh : Bool) → Defines old new name value fresh →
+    (query : List ℕ) → is_defined new query ≡ (is_defined old query || is_same query name)
+defined-now old new name value true (absent, added) query =
+    ap (λ t. is_defined t query) added ∙ defined-behind old name query value
+defined-now old new name value false (there, unchanged) query =
+    ap (λ t. is_defined t query) unchanged
+    ∙ or-same (is_defined old query) (is_same query name)
+    (λ e. ap (λ q. is_defined old q) (same_words query name e) ∙ there)
+
+or-assoc : (a b c : Bool) → ((a || b) || c) ≡ (a || (b || c))
+or-assoc true b c = refl
+or-assoc false b c = refl
+
+-- what is left of the names: a card with a name, and one without
+pub names-named : (old new : List (List ℕ × ℕ)) (name : List ℕ) (line : Line) (lines all : List Line) →
+    all ≡ line ∷ lines → line.name ≡ Some name →
+    ((query : List ℕ) → is_defined new query ≡ (is_defined old query || is_same query name)) →
+    (query : List ℕ) → (is_defined new query || is_among (names_of lines) query)
+    ≡ (is_defined old query || is_among (names_of all) query)
+unfolding names_of
+names-named old new name line lines all parts is_name now query =
+    ap (λ b. b || is_among (names_of lines) query) (now query)
+    ∙ (or-assoc (is_defined old query) (is_same query name) (is_among (names_of lines) query)
+    ∙ ap (λ ns. is_defined old query || is_among ns query)
+    (sym (ap (λ ls. names_of ls) parts ∙ ap (λ o. cons_option o (names_of lines)) is_name)))
+
+pub names-unnamed : (table : List (List ℕ × ℕ)) (line : Line) (lines all : List Line) → all ≡ line ∷ lines →
+    line.name ≡ None → (query : List ℕ) → (is_defined table query || is_among (names_of lines) query)
+    ≡ (is_defined table query || is_among (names_of all) query)
+unfolding names_of
+names-unnamed table line lines all parts is_none query =
+    ap (λ ns. is_defined table query || is_among ns query)
+    (sym (ap (λ ls. names_of ls) parts ∙ ap (λ o. cons_option o (names_of lines)) is_none))
+
+or-false : (b : Bool) → b ≡ (b || false)
+or-false true = refl
+or-false false = refl
+
+-- no names are left
+pub names-none : (table : List (List ℕ × ℕ)) (lines : List Line) → lines ≡ [] → (query : List ℕ) →
+    is_defined table query ≡ (is_defined table query || is_among (names_of lines) query)
+unfolding names_of
+names-none table lines empty query =
+    or-false (is_defined table query) ∙ ap (λ ls. is_defined table query || is_among (names_of ls) query) (sym empty)

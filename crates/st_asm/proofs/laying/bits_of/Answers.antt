@@ -1,0 +1,11 @@
+use Rattle.std.proofs.Common.{subst}
+use Rattle.std.specs.Bool.{IsTrue}
+use Rattle.st_asm.specs.Checks.{fits}
+use Rattle.st_asm.proofs.FieldLemmas.{holds-below}
+use Rattle.st_asm.proofs.laying.bits_of.Goals as goal
+
+pub field_of-requires-clause-few : goal.field_of-requires-clause-few
+unfolding fits
+field_of-requires-clause-few c =
+    holds-below c.in-Data.form c.in-Data.minus c.in-Data.number
+    (subst (λ s. IsTrue (fits s c.args.v)) c.in-Data.is c.requires.fits)

@@ -1,0 +1,11 @@
+use Rattle.std.proofs.Common.{◌≡◌, ◌*◌, ◌/◌, ◌%◌, true, ℕ, Bool, ap, ◌∙◌, subst, sym}
+use Rattle.std.specs.Bool.{IsFalse}
+use Rattle.st_format.specs.Validity.{misfits}
+use Rattle.st_asm.proofs.FieldLemmas.{digits-whole}
+use Rattle.st_asm.proofs.numbers.digit_count.Goals as goal
+
+pub returns-clause-whole : goal.returns-clause-whole
+returns-clause-whole c =
+    let form = c.args.form in
+    ap (λ m. form.byte * (m / form.byte)) c.magnitude_bits.ensures.bits
+    ∙ digits-whole form c.requires.form c.requires.decimal

@@ -1,0 +1,81 @@
+-- The faults of the value pass.
+use Rattle.std.specs.Prelude.{ℕ, ℤ, pos, negsuc, ◌+◌, ◌*◌, ◌%◌, ◌^◌, ◌==◌, ◌&&◌, ◌||◌, Bool, true, false, not, nat_le, nat_lt, unsigned_abs, List, [], ◌∷◌, Option, Some, None, if◌then◌else◌}
+use Rattle.st_card.specs.Cards.{first_fault}
+use Rattle.st_card.specs.declared.faults.Fault.{Fault}
+use Rattle.st_card.specs.declared.faults.Fault.TheVariants.{AddressOutOfRange, ValueDoesNotFit, NotOnABoundary, LocationOutOfStorage}
+use Rattle.st_strap.specs.declared.statement.Statement.{Statement}
+use Rattle.st_strap.specs.declared.statement.Statement.TheVariants.{Half, Sum, Refill, Branch, Floating, Vfl, Connect, Move, BitBranch, IndBranch, StoreCounter, Transfer, Data, IndexWord, Synonym, SetLocation, Reserve, End}
+use Rattle.st_asm.specs.declared.values.Values.{Values}
+use Rattle.st_asm.specs.declared.places.Role.{Role}
+use Rattle.st_asm.specs.declared.places.Role.TheVariants.{Lays, Passes, Sets, Names, Ends}
+use Rattle.st_asm.specs.Numbers.{holds}
+use Rattle.st_asm.specs.Places.{role_of}
+
+-- whether a number is an address: 0 to 2^24 - 1
+abbrev pub is_address : ℤ → Bool
+is_address (pos n) = nat_lt n (2 ^ 24)
+is_address (negsuc n) = false
+
+-- whether a statement is an index word
+abbrev pub is_index_word : Statement → Bool
+is_index_word (IndexWord value count refill flags) = true
+is_index_word _ = false
+
+-- whether each address of a statement is one; the value of an index word is no address
+unfoldable pub in_range : Statement → Values → Bool
+in_range s v =
+    if is_index_word s then is_address v.second else is_address v.first && is_address v.second
+
+-- whether the value, the count and the flags of an index word fit
+abbrev pub fits_index_word : ℤ → ℕ → ℕ → Bool
+fits_index_word value count flags =
+    nat_lt (unsigned_abs value) (2 ^ 24) && nat_le count 262143 && nat_le flags 7
+
+-- whether each value fits its place
+unfoldable pub fits : Statement → Values → Bool
+fits (Vfl op negated form at offset) v = nat_le offset 127
+fits (Connect kind truth form at offset) v = nat_le offset 127
+fits (Move swap at second count) v = nat_le 1 count && nat_le count 16
+fits (Transfer write at count) v = nat_le 1 count && nat_le count 1000
+fits (Data form minus number) v = holds form minus number
+fits (IndexWord value count refill flags) v = fits_index_word v.first count flags
+fits _ v = true
+
+-- whether a bit address is a multiple
+abbrev pub is_multiple : ℕ → ℤ → Bool
+is_multiple unit a = unsigned_abs a % unit == 0
+
+-- whether each address is on the boundary that its use asks for: addresses of half-word instructions,
+-- second addresses and the start are half-words, a refill address is a word
+unfoldable pub on_boundary : Statement → Values → Bool
+on_boundary (Half op j at) v = is_multiple 32 v.first
+on_boundary (Branch op at) v = is_multiple 32 v.first
+on_boundary (Floating number at) v = is_multiple 32 v.first
+on_boundary (End at) v = is_multiple 32 v.first
+on_boundary (Move swap at second count) v = is_multiple 32 v.second
+on_boundary (BitBranch sense change at second) v = is_multiple 32 v.second
+on_boundary (IndBranch sense off at second) v = is_multiple 32 v.second
+on_boundary (StoreCounter at second) v = is_multiple 32 v.second
+on_boundary (IndexWord value count refill flags) v = is_multiple 64 v.second
+on_boundary _ v = true
+
+-- how many bits a statement lays or passes over
+abbrev pub extent : Role → ℤ → ℕ
+extent (Lays unit bits) value = bits
+extent Passes value = unsigned_abs value
+extent Sets value = 0
+extent Names value = 0
+extent Ends value = 0
+
+-- whether bits from a place on are all in the words 32 to 98,303
+unfoldable pub in_storage : ℕ → ℕ → Bool
+in_storage place bits = bits == 0 || (nat_le 2048 place && nat_le (place + bits) (64 * 98304))
+
+-- the fault of a statement with its values at its place, if it has one
+unfoldable pub value_fault : Statement → Values → ℕ → Option Fault
+value_fault s v place = first_fault (
+    (not (in_range s v), AddressOutOfRange)
+    ∷ (not (fits s v), ValueDoesNotFit)
+    ∷ (not (on_boundary s v), NotOnABoundary)
+    ∷ (not (in_storage place (extent (role_of s) v.first)), LocationOutOfStorage)
+    ∷ [])

@@ -1,0 +1,100 @@
+-- The form pass: each card by itself, what the control cards ask for, and where the end is.
+use Rattle.std.specs.Prelude.{ℕ, ◌+◌, ◌==◌, ◌&&◌, Bool, true, false, not, List, [], ◌∷◌, ◌++◌, length, Option, Some, None, Result, Ok, Err, if◌then◌else◌}
+use Rattle.st_card.specs.Cards.{text_in}
+use Rattle.st_card.specs.Controls.{Asked, nothing, added}
+use Rattle.st_card.specs.declared.cards.Card.{Card}
+use Rattle.st_card.specs.declared.cards.CardKind.{CardKind}
+use Rattle.st_card.specs.declared.cards.CardKind.TheVariants.{Comment, Control, Statement as StatementCard}
+use Rattle.st_card.specs.declared.faults.Fault.{Fault}
+use Rattle.st_card.specs.declared.faults.Fault.TheVariants.{BadName, BadControlCard, CardAfterEnd, NoEnd, NotYetBuilt}
+use Rattle.st_strap.specs.Order.{judged, mapped}
+use Rattle.st_strap.specs.Saying.{statement_of}
+use Rattle.st_strap.specs.declared.statement.Statement.{Statement}
+use Rattle.st_strap.specs.declared.statement.Statement.TheVariants.{End}
+use Rattle.st_asm.specs.Pass.{Refusal, pass, unless_faulty, then_for}
+use Rattle.st_asm.specs.Lines.{name_field, statement_field, name_in, silent, saying}
+use Rattle.st_asm.specs.declared.line.Line.{Line}
+use Rattle.st_asm.specs.declared.forming.Deck.{Deck}
+
+-- what has been read so far: whether the end was there, what is asked for, and the cards
+pub record Found : Type 0 where
+  pub ended : Bool
+  pub asked : Asked
+  pub lines : List Line
+
+-- what a deck of the code has
+abbrev pub found_in : Deck → Found
+found_in d = record { ended = d.ended; asked = d.controls; lines = d.lines.items }
+
+-- before the first card
+abbrev pub unread : Found
+unread = record { ended = false; asked = nothing; lines = [] }
+
+-- whether all that is asked for is built: `/TIME`, `/SNAP`, `/CHART` and `/BACK` are not yet
+unfoldable pub is_built : Asked → Bool
+is_built asked = not asked.time && not asked.chart && length asked.snaps == 0 && asked.back == 0
+
+-- the faults that count on any card, whatever its kind: all that a card has by itself but a bad column 1
+abbrev pub general_fault : Option Fault → Option Fault
+general_fault None = None
+general_fault (Some BadName) = None
+general_fault (Some fault) = Some fault
+
+-- whether a statement is the end
+abbrev pub is_end : Statement → Bool
+is_end (End at) = true
+is_end _ = false
+
+-- a card more
+abbrev pub with_line : Found → Line → Found
+with_line found line = record found { lines = found.lines ++ line ∷ [] }
+
+-- a statement card more
+abbrev pub with_statement : Found → ℕ → List ℕ → Statement → Found
+with_statement found card name statement = record {
+  ended = is_end statement;
+  asked = found.asked;
+  lines = found.lines ++ saying card (name_in name) statement ∷ [];
+}
+
+-- a control card more, where all that is asked for then is built
+abbrev pub with_asked : Found → ℕ → Asked → Result Found Fault
+with_asked found card asked =
+    if is_built asked
+    then Ok (record { ended = found.ended; asked = asked; lines = found.lines ++ silent card ∷ [] })
+    else Err NotYetBuilt
+
+-- what a control card does
+unfoldable pub form_control : Found → ℕ → List ℕ → Result Found Fault
+form_control found card text =
+    if found.ended then judged BadControlCard (added found.asked text) (λ asked. with_asked found card asked)
+    else Err BadControlCard
+
+-- what a statement card does, with the fault that it has by itself
+unfoldable pub form_statement : Found → ℕ → Option Fault → List ℕ → Result Found Fault
+form_statement found card fault text =
+    if found.ended then Err CardAfterEnd
+    else unless_faulty fault (mapped (λ s. with_statement found card (name_field text) s)
+    (statement_of (name_field text) (statement_field text)))
+
+-- what a card of a kind does
+abbrev pub form_kind : CardKind → Found → ℕ → Option Fault → List ℕ → Result Found Fault
+form_kind Comment found card fault text = Ok (with_line found (silent card))
+form_kind Control found card fault text = form_control found card text
+form_kind StatementCard found card fault text = form_statement found card fault text
+
+-- what a card does
+unfoldable pub form_card : List ℕ → Found → Card → Result Found Fault
+form_card job found card = unless_faulty (general_fault card.fault)
+    (form_kind card.kind found card.number card.fault (text_in job card))
+
+-- what is left of the form pass over so many cards: a job without an end is refused at the card
+-- after the last
+abbrev pub with_end : ℕ → Found → Result Found Refusal
+with_end cards found =
+    if found.ended then Ok found else Err (record { card = cards + 1; fault = NoEnd })
+
+-- the form pass over the cards of a job
+unfoldable pub form_pass : List ℕ → List Card → Result Found Refusal
+form_pass job cards =
+    then_for (with_end (length cards)) (pass (form_card job) (λ card. card.number) unread cards)

@@ -1,0 +1,104 @@
+-- The name pass: which names are defined, and the place of each card.
+use Rattle.std.specs.Prelude.{◌≡◌, ◌<◌, ◌^◌, ℕ, ℤ, pos, ◌&&◌, Bool, true, false, not, nat_le, List, [], ◌∷◌, ◌++◌, length, Option, Some, None, unwrap_or, is_some, Result, Ok, Err, if◌then◌else◌}
+use Rattle.st_card.specs.Cards.{first_fault}
+use Rattle.st_card.specs.declared.faults.Fault.{Fault}
+use Rattle.st_card.specs.declared.faults.Fault.TheVariants.{NameTwice, UndefinedSymbol, SymbolNotEarlier, TooManyNames}
+use Rattle.st_strap.specs.declared.statement.Statement.{Statement}
+use Rattle.st_asm.specs.Pass.{Refusal, pass, unless_faulty}
+use Rattle.st_asm.specs.Symbols.{table, accepts_all, is_among, is_defined, names_of}
+use Rattle.st_asm.specs.Values.{values_of}
+use Rattle.st_asm.specs.Places.{role_of, place_in, behind_in, needs_earlier}
+use Rattle.st_asm.specs.declared.line.Line.{Line}
+use Rattle.st_asm.specs.declared.naming.Symbol.{Symbol}
+use Rattle.st_asm.specs.declared.naming.Names.{Names}
+
+-- what is known so far: the location, the symbols in order of definition, and the places of the cards
+pub record Named : Type 0 where
+  pub location : ℕ
+  pub symbols : List Symbol
+  pub places : List (Option ℕ)
+
+-- what the names of the code have
+abbrev pub named_in : Names → Named
+named_in n = record { location = n.location; symbols = n.symbols.items; places = n.places.items }
+
+-- the table by which names are found has the symbols, and the location is a bit address
+pub record IsKept (names : Names) : Type 0 where
+  pub table_is : names.table ≡ table names.symbols.items
+  pub location_fits : names.location < 2 ^ 24
+
+-- before the first card: the location is bit 0 of word 32
+abbrev pub unnamed : Named
+unnamed = record { location = 2048; symbols = []; places = [] }
+
+-- whether a card's name is in the table already
+abbrev pub is_taken : List (List ℕ × ℕ) → Option (List ℕ) → Bool
+is_taken symbols None = false
+is_taken symbols (Some name) = is_defined symbols name
+
+-- whether a test accepts the names that a card speaks of
+abbrev pub is_known : (List ℕ → Bool) → Option Statement → Bool
+is_known test None = true
+is_known test (Some s) = accepts_all test s
+
+-- whether the names of a statement are in the table, where they have to be
+abbrev pub is_statement_earlier : List (List ℕ × ℕ) → Statement → Bool
+is_statement_earlier symbols s =
+    if needs_earlier (role_of s) then accepts_all (is_defined symbols) s else true
+
+abbrev pub is_earlier : List (List ℕ × ℕ) → Option Statement → Bool
+is_earlier symbols None = true
+is_earlier symbols (Some s) = is_statement_earlier symbols s
+
+-- the fault of a card, if it has one; the test says which names are on cards at all
+unfoldable pub name_fault : (List ℕ → Bool) → Named → Line → Option Fault
+name_fault on_cards named line = let symbols = table named.symbols in first_fault (
+    (is_taken symbols line.name, NameTwice)
+    ∷ (not (is_known on_cards line.statement), UndefinedSymbol)
+    ∷ (not (is_earlier symbols line.statement), SymbolNotEarlier)
+    ∷ (is_some line.name && nat_le 4000 (length named.symbols), TooManyNames)
+    ∷ [])
+
+-- the value of a statement's first expression, as far as its names are defined
+abbrev pub value_at : List (List ℕ × ℕ) → Statement → ℤ
+value_at symbols s = (values_of symbols s).first
+
+-- the place of a statement that is met at a location
+abbrev pub place_of_statement : List (List ℕ × ℕ) → ℕ → Statement → Option ℕ
+place_of_statement symbols location s = place_in (role_of s) location (value_at symbols s)
+
+abbrev pub place_of : List (List ℕ × ℕ) → ℕ → Option Statement → Option ℕ
+place_of symbols location None = None
+place_of symbols location (Some s) = place_of_statement symbols location s
+
+-- the location behind it
+abbrev pub behind_statement : List (List ℕ × ℕ) → ℕ → Statement → ℕ
+behind_statement symbols location s = behind_in (role_of s) location (value_at symbols s)
+
+abbrev pub behind : List (List ℕ × ℕ) → ℕ → Option Statement → ℕ
+behind symbols location None = location
+behind symbols location (Some s) = behind_statement symbols location s
+
+-- the symbol that a name becomes at a place, if there is a name
+abbrev pub symbol_of : Option (List ℕ) → Option ℕ → List Symbol
+symbol_of None place = []
+symbol_of (Some name) place = record { name = name; value = unwrap_or place 0 } ∷ []
+
+-- what is known behind a card without a fault
+unfoldable pub name_step : Named → Line → Named
+name_step named line =
+    let place = place_of (table named.symbols) named.location line.statement in record {
+      location = behind (table named.symbols) named.location line.statement;
+      symbols = named.symbols ++ symbol_of line.name place;
+      places = named.places ++ place ∷ [];
+    }
+
+-- what a card does
+unfoldable pub name_card : (List ℕ → Bool) → Named → Line → Result Named Fault
+name_card on_cards named line =
+    unless_faulty (name_fault on_cards named line) (Ok (name_step named line))
+
+-- the name pass
+unfoldable pub name_pass : List Line → Result Named Refusal
+name_pass lines =
+    pass (name_card (is_among (names_of lines))) (λ line. line.card) unnamed lines

@@ -1,0 +1,73 @@
+-- Where statements are laid: the location, and what becomes of it.
+use Rattle.std.specs.Prelude.{ℕ, ℤ, ◌≤◌, ◌+◌, ◌-◌, ◌*◌, ◌/◌, ◌%◌, ◌^◌, Bool, true, false, Option, Some, None}
+use Rattle.st_strap.specs.declared.statement.Statement.{Statement}
+use Rattle.st_strap.specs.declared.statement.Statement.TheVariants.{Half, Sum, Refill, Branch, Floating, Vfl, Connect, Move, BitBranch, IndBranch, StoreCounter, Transfer, Data, IndexWord, Synonym, SetLocation, Reserve, End}
+use Rattle.st_asm.specs.declared.places.Role.{Role}
+use Rattle.st_asm.specs.declared.places.Role.TheVariants.{Lays, Passes, Sets, Names, Ends}
+use Rattle.st_asm.specs.Values.{wrapped}
+
+-- what a statement does to the location: an instruction lays 32 or 64 bits from a multiple of 32 on,
+-- an index word 64 from a multiple of 64 on, a number as many as its form says where the location is
+abbrev pub role_of : Statement → Role
+role_of (Half op j at) = Lays 32 32
+role_of (Sum j listed) = Lays 32 32
+role_of (Refill j) = Lays 32 32
+role_of (Branch op at) = Lays 32 32
+role_of (Floating number at) = Lays 32 32
+role_of (Vfl op negated form at offset) = Lays 32 64
+role_of (Connect kind truth form at offset) = Lays 32 64
+role_of (Move swap at second count) = Lays 32 64
+role_of (BitBranch sense change at second) = Lays 32 64
+role_of (IndBranch sense off at second) = Lays 32 64
+role_of (StoreCounter at second) = Lays 32 64
+role_of (Transfer write at count) = Lays 32 64
+role_of (Data form minus number) = Lays 1 form.length
+role_of (IndexWord value count refill flags) = Lays 64 64
+role_of (Synonym at) = Names
+role_of (SetLocation at) = Sets
+role_of (Reserve at) = Passes
+role_of (End at) = Ends
+
+-- units are 1 to 64, and at most 64 bits are laid
+abbrev pub IsRole : Role → Type 0
+IsRole (Lays unit bits) = (1 ≤ unit) × (unit ≤ 64) × (bits ≤ 64)
+IsRole Passes = Unit {0}
+IsRole Sets = Unit {0}
+IsRole Names = Unit {0}
+IsRole Ends = Unit {0}
+
+-- how many bits it lays
+abbrev pub length_in : Role → ℕ
+length_in (Lays unit bits) = bits
+length_in Passes = 0
+length_in Sets = 0
+length_in Names = 0
+length_in Ends = 0
+
+-- the next multiple of a unit, modulo 2^24
+abbrev pub aligned : ℕ → ℕ → ℕ
+aligned unit location = (location + (unit - 1)) / unit * unit % 2 ^ 24
+
+-- the place of a statement that is met at a location: that of what it lays or passes over, or its value
+abbrev pub place_in : Role → ℕ → ℤ → Option ℕ
+place_in (Lays unit bits) location value = Some (aligned unit location)
+place_in Passes location value = Some (aligned 64 location)
+place_in Sets location value = Some (wrapped value)
+place_in Names location value = Some (wrapped value)
+place_in Ends location value = None
+
+-- the location behind it
+abbrev pub behind_in : Role → ℕ → ℤ → ℕ
+behind_in (Lays unit bits) location value = (aligned unit location + bits) % 2 ^ 24
+behind_in Passes location value = (aligned 64 location + wrapped value) % 2 ^ 24
+behind_in Sets location value = wrapped value
+behind_in Names location value = location
+behind_in Ends location value = location
+
+-- whether the names of its field have to be defined by earlier cards
+abbrev pub needs_earlier : Role → Bool
+needs_earlier (Lays unit bits) = false
+needs_earlier Passes = true
+needs_earlier Sets = true
+needs_earlier Names = true
+needs_earlier Ends = false

@@ -1,0 +1,63 @@
+-- Which names a statement speaks of, and whether they are known.
+use Rattle.std.specs.Prelude.{ℕ, Bool, true, false, List, [], ◌∷◌, map, Option, Some, None, is_some}
+use Rattle.std.specs.List.{list_all, list_any, filter_map}
+use Rattle.arrayvec.specs.ArrayVec.{ArrayVec}
+use Rattle.st_card.specs.Tables.{is_same, row_of}
+use Rattle.st_expr.specs.declared.terms.Term.{Term}
+use Rattle.st_expr.specs.declared.terms.Atom.{Atom}
+use Rattle.st_expr.specs.declared.terms.Atom.TheVariants.{Number, Name}
+use Rattle.st_strap.specs.declared.statement.Statement.{Statement}
+use Rattle.st_strap.specs.declared.statement.Statement.TheVariants.{Half, Sum, Refill, Branch, Floating, Vfl, Connect, Move, BitBranch, IndBranch, StoreCounter, Transfer, Data, IndexWord, Synonym, SetLocation, Reserve, End}
+use Rattle.st_asm.specs.declared.line.Line.{Line}
+use Rattle.st_asm.specs.declared.naming.Symbol.{Symbol}
+
+-- symbols as a table of values
+abbrev pub table : List Symbol → List (List ℕ × ℕ)
+table symbols = map (λ s. (s.name, s.value)) symbols
+
+-- the expressions of a statement
+abbrev pub expressions : Statement → List (ArrayVec Term)
+expressions (Half op j at) = at.expr ∷ []
+expressions (Sum j listed) = []
+expressions (Refill j) = []
+expressions (Branch op None) = []
+expressions (Branch op (Some at)) = at.expr ∷ []
+expressions (Floating number at) = at.expr ∷ []
+expressions (Vfl op negated form at offset) = at.expr ∷ []
+expressions (Connect kind truth form at offset) = at.expr ∷ []
+expressions (Move swap at second count) = at.expr ∷ second ∷ []
+expressions (BitBranch sense change at second) = at.expr ∷ second ∷ []
+expressions (IndBranch sense off at second) = at.expr ∷ second ∷ []
+expressions (StoreCounter at second) = at.expr ∷ second ∷ []
+expressions (Transfer write at count) = at.expr ∷ []
+expressions (Data form minus number) = []
+expressions (IndexWord value count refill flags) = value ∷ refill ∷ []
+expressions (Synonym at) = at ∷ []
+expressions (SetLocation at) = at ∷ []
+expressions (Reserve at) = at ∷ []
+expressions (End at) = at ∷ []
+
+-- whether a test accepts the name of a term, if it has one
+abbrev pub accepts_atom : (List ℕ → Bool) → Atom → Bool
+accepts_atom test (Number n) = true
+accepts_atom test (Name name) = test name
+
+-- whether a test accepts each name of an expression
+abbrev pub accepts : (List ℕ → Bool) → List Term → Bool
+accepts test terms = list_all (λ term. accepts_atom test term.atom) terms
+
+-- whether a test accepts each name that a statement speaks of
+unfoldable pub accepts_all : (List ℕ → Bool) → Statement → Bool
+accepts_all test statement = list_all (λ e. accepts test e.items) (expressions statement)
+
+-- whether a name is one of a list
+abbrev pub is_among : List (List ℕ) → List ℕ → Bool
+is_among names name = list_any (λ other. is_same name other) names
+
+-- whether a name is in a table
+abbrev pub is_defined : List (List ℕ × ℕ) → List ℕ → Bool
+is_defined symbols name = is_some (row_of name symbols)
+
+-- the names of cards
+unfoldable pub names_of : List Line → List (List ℕ)
+names_of lines = filter_map (λ line. line.name) lines

@@ -1,0 +1,152 @@
+//! The faults of the value pass.
+
+ghost use Rattle.std.specs.Prelude.{◌≡◌, ◌<◌, ◌≤◌, ◌^◌, unsigned_abs};
+ghost use Rattle.st_asm.specs.Checks as spec;
+ghost use Rattle.st_asm.specs.Places.{role_of, IsRole};
+ghost use Rattle.st_strap.specs.WellFormed.{IsWellFormed};
+
+use crate::numbers::holds;
+use crate::places::Role;
+use crate::values::Values;
+use st_bits::WORDS;
+use st_card::Fault;
+use st_strap::Statement;
+
+// The first bit behind the addresses.
+const ADDRESSES: u64 = 1 << 24;
+
+// The most bits that an operand stands left of the accumulator's last one.
+const MOST_OFFSET: u64 = 127;
+
+// The most words that are moved.
+const MOST_MOVED: u64 = 16;
+
+// The most instructions that an order waits for.
+const MOST_WAITED: u64 = 1_000;
+
+// The greatest count of an index word, and its greatest flags.
+const MOST_COUNT: u64 = 262_143;
+
+const MOST_FLAGS: u64 = 7;
+
+// The first bit that may be laid.
+const FIRST_BIT: u64 = 64 * 32;
+
+// The fault of a statement with its values at its place, if it has one.
+#[tactic(auto, unfolding(crate::specs::Checks::value_fault))]
+pub(crate) fn value_fault(s: &Statement, role: Role, v: Values, place: u32) -> Option<Fault>
+    requires well { IsWellFormed s.now }
+    requires role { role ≡ role_of s.now }
+    ensures { result ≡ spec.value_fault s.now v place }
+{
+    if !in_range(s, v) {
+        Some(Fault::AddressOutOfRange)
+    } else if !fits(s, v) {
+        Some(Fault::ValueDoesNotFit)
+    } else if !on_boundary(s, v) {
+        Some(Fault::NotOnABoundary)
+    } else if !in_storage(place, extent(role, v.first)) {
+        Some(Fault::LocationOutOfStorage)
+    } else {
+        None
+    }
+}
+
+// Whether each address is one.
+#[tactic(auto, unfolding(crate::specs::Checks::in_range))]
+fn in_range(s: &Statement, v: Values) -> bool
+    ensures { result ≡ spec.in_range s.now v }
+{
+    if is_index_word(s) {
+        is_address(v.second)
+    } else {
+        is_address(v.first) && is_address(v.second)
+    }
+}
+
+fn is_index_word(s: &Statement) -> bool
+    ensures { result ≡ spec.is_index_word s.now }
+{
+    matches!(s, Statement::IndexWord { .. })
+}
+
+fn is_address(a: i64) -> bool
+    ensures { result ≡ spec.is_address a }
+{
+    a >= 0 && a.unsigned_abs() < ADDRESSES
+}
+
+// Whether each value fits its place.
+#[tactic(auto, unfolding(crate::specs::Checks::fits))]
+fn fits(s: &Statement, v: Values) -> bool
+    requires { IsWellFormed s.now }
+    ensures { result ≡ spec.fits s.now v }
+{
+    match s {
+        Statement::Vfl { offset, .. } | Statement::Connect { offset, .. } => *offset <= MOST_OFFSET,
+        Statement::Move { count, .. } => 1 <= *count && *count <= MOST_MOVED,
+        Statement::Transfer { count, .. } => 1 <= *count && *count <= MOST_WAITED,
+        Statement::Data {
+            form,
+            minus,
+            number,
+        } => holds(*form, *minus, *number),
+        Statement::IndexWord { count, flags, .. } => fits_index_word(v.first, *count, *flags),
+        _ => true,
+    }
+}
+
+fn fits_index_word(value: i64, count: u64, flags: u64) -> bool
+    ensures { result ≡ spec.fits_index_word value count flags }
+{
+    value.unsigned_abs() < ADDRESSES && count <= MOST_COUNT && flags <= MOST_FLAGS
+}
+
+// Whether each address is on the boundary that its use asks for.
+#[tactic(auto, unfolding(crate::specs::Checks::on_boundary))]
+fn on_boundary(s: &Statement, v: Values) -> bool
+    ensures { result ≡ spec.on_boundary s.now v }
+{
+    match s {
+        Statement::Half { .. }
+        | Statement::Branch { .. }
+        | Statement::Floating { .. }
+        | Statement::End { .. } => is_multiple(32, v.first),
+        Statement::Move { .. }
+        | Statement::BitBranch { .. }
+        | Statement::IndBranch { .. }
+        | Statement::StoreCounter { .. } => is_multiple(32, v.second),
+        Statement::IndexWord { .. } => is_multiple(64, v.second),
+        _ => true,
+    }
+}
+
+fn is_multiple(unit: u64, a: i64) -> bool
+    requires { 1 ≤ unit }
+    ensures { result ≡ spec.is_multiple unit a }
+{
+    a.unsigned_abs() % unit == 0
+}
+
+// How many bits are laid or passed over.
+fn extent(role: Role, value: i64) -> u64
+    requires { IsRole role }
+    ensures extent { result ≡ spec.extent role value }
+    ensures few { result ≤ 2 ^ 63 }
+{
+    match role {
+        Role::Lays { bits, .. } => u64::from(bits),
+        Role::Passes => value.unsigned_abs(),
+        _ => 0,
+    }
+}
+
+// Whether bits from a place on are all in the words of storage that are no registers.
+#[tactic(auto, unfolding(crate::specs::Checks::in_storage))]
+fn in_storage(place: u32, bits: u64) -> bool
+    requires { bits ≤ 2 ^ 63 }
+    ensures { result ≡ spec.in_storage place bits }
+{
+    let place = u64::from(place);
+    bits == 0 || (FIRST_BIT <= place && place + bits <= 64 * u64::from(WORDS))
+}

@@ -1,0 +1,187 @@
+//! The form pass: each card by itself, what the control cards ask for, and where the end is.
+
+ghost use Rattle.std.specs.Prelude.{◌≡◌, ◌<◌, ◌≤◌, ◌^◌, length, All, IfOk, IfErr, OnOk, Option};
+ghost use Rattle.st_card.specs.Cards.{IsCardOf};
+ghost use Rattle.st_card.specs.Limits.{IsWithinLimits};
+ghost use Rattle.st_asm.specs.Answers.{Stops, Explains};
+ghost use Rattle.st_asm.specs.Pass.{pass};
+ghost use Rattle.st_asm.specs.Forming as spec;
+
+use crate::line::{Line, name_field, name_in, silent, statement_field};
+use crate::stop::{AsmError, Stop};
+use st_card::{Card, CardError, CardKind, Controls, Fault};
+use st_strap::{Statement, read_statement};
+use std::alloc::Global;
+
+// What has been read of a job.
+#[derive(Drop)]
+pub(crate) struct Deck {
+    // The cards, in order.
+    pub lines: Vec<Line>,
+    // What the control cards ask for.
+    pub controls: Controls,
+    // Whether the end was there.
+    pub ended: bool,
+}
+
+// The form pass over the cards of a job.
+#[tactic(auto, unfolding(crate::specs::Forming::form_pass))]
+pub(crate) fn form_pass(alloc: Global, job: &[u8], cards: &[Card]) -> Result<Deck, AsmError>
+    requires texts { All (IsCardOf job.now) cards.now }
+    requires few { length cards.now ≤ 20001 }
+    ensures ok { IfOk result (λ d. spec.form_pass job.now cards.now ≡ Ok (spec.found_in d)) }
+    ensures err { IfErr result (Explains (spec.form_pass job.now cards.now)) }
+{
+    let deck = read_cards(alloc, job, cards)?;
+    if deck.ended {
+        Ok(deck)
+    } else {
+        Err(AsmError::Refused {
+            card: cards.len() as u32 + 1,
+            fault: Fault::NoEnd,
+        })
+    }
+}
+
+// What all cards together are.
+fn read_cards(alloc: Global, job: &[u8], cards: &[Card]) -> Result<Deck, AsmError>
+    requires texts { All (IsCardOf job.now) cards.now }
+    ensures ok { IfOk result (λ d. pass (spec.form_card job.now) (λ card. card.number)
+        spec.unread cards.now ≡ Ok (spec.found_in d)) }
+    ensures err { IfErr result (Explains (pass (spec.form_card job.now) (λ card. card.number)
+        spec.unread cards.now)) }
+{
+    let mut deck = empty_deck(alloc);
+    let mut rest = cards;
+    'cards: while let [card, after @ ..] = rest {
+        if let Err(stop) = add_card(&mut deck, job, *card) {
+            return Err(stop.at(card.number));
+        }
+        rest = after;
+    }
+    Ok(deck)
+}
+
+// The deck before the first card.
+fn empty_deck(alloc: Global) -> Deck
+    ensures found { spec.found_in result ≡ spec.unread }
+{
+    Deck {
+        lines: Vec::new(alloc),
+        controls: Controls::new(alloc),
+        ended: false,
+    }
+}
+
+// A card more.
+#[tactic(auto, unfolding(crate::specs::Forming::form_card))]
+fn add_card(deck: &mut Deck, job: &[u8], card: Card) -> Result<(), Stop>
+    requires { IsCardOf job.now card }
+    ensures ok { OnOk result (spec.form_card job.now (spec.found_in deck.old) card
+        ≡ Ok (spec.found_in deck.new)) }
+    ensures err { IfErr result (Stops (spec.form_card job.now (spec.found_in deck.old) card)) }
+{
+    if let Some(fault) = general_fault(card.fault) {
+        return Err(Stop::Faulty(fault));
+    }
+    let text = card.text(job);
+    match card.kind {
+        CardKind::Comment => add_line(deck, silent(card.number)),
+        CardKind::Control => add_control(deck, card.number, text),
+        CardKind::Statement => add_statement(deck, card.number, card.fault, text),
+    }
+}
+
+// The fault that counts on any card, whatever its kind.
+fn general_fault(fault: Option<Fault>) -> Option<Fault>
+    ensures { result ≡ spec.general_fault fault }
+{
+    match fault {
+        Some(Fault::BadName) => None,
+        fault => fault,
+    }
+}
+
+// A line more.
+fn add_line(deck: &mut Deck, line: Line) -> Result<(), Stop>
+    ensures ok { OnOk result (spec.found_in deck.new
+        ≡ spec.with_line (spec.found_in deck.old) line) }
+    ensures err { IfErr result (λ stop. stop ≡ Stop.NoMemory) }
+{
+    match deck.lines.push(line) {
+        Ok(()) => Ok(()),
+        Err(_) => Err(Stop::NoMemory),
+    }
+}
+
+// A control card more.
+#[tactic(auto, unfolding(crate::specs::Forming::form_control))]
+fn add_control(deck: &mut Deck, card: u32, text: &[u8]) -> Result<(), Stop>
+    ensures ok { OnOk result (spec.form_control (spec.found_in deck.old) card text.now
+        ≡ Ok (spec.found_in deck.new)) }
+    ensures err { IfErr result (Stops (spec.form_control (spec.found_in deck.old) card text.now)) }
+{
+    if !deck.ended {
+        return Err(Stop::Faulty(Fault::BadControlCard));
+    }
+    match deck.controls.add(card, text) {
+        Err(CardError::Refused { fault, .. }) => Err(Stop::Faulty(fault)),
+        Err(CardError::NoMemory) => Err(Stop::NoMemory),
+        Ok(()) if is_built(&deck.controls) => add_line(deck, silent(card)),
+        Ok(()) => Err(Stop::Faulty(Fault::NotYetBuilt)),
+    }
+}
+
+// Whether all that is asked for is built.
+#[tactic(auto, unfolding(crate::specs::Forming::is_built))]
+fn is_built(controls: &Controls) -> bool
+    ensures { result ≡ spec.is_built controls.now }
+{
+    !controls.time && !controls.chart && controls.snaps.is_empty() && controls.back == 0
+}
+
+// A statement card more, with the fault that it has by itself.
+#[tactic(auto, unfolding(crate::specs::Forming::form_statement))]
+fn add_statement(deck: &mut Deck, card: u32, fault: Option<Fault>, text: &[u8]) -> Result<(), Stop>
+    ensures ok { OnOk result (spec.form_statement (spec.found_in deck.old) card fault text.now
+        ≡ Ok (spec.found_in deck.new)) }
+    ensures err { IfErr result
+        (Stops (spec.form_statement (spec.found_in deck.old) card fault text.now)) }
+{
+    if deck.ended {
+        return Err(Stop::Faulty(Fault::CardAfterEnd));
+    }
+    if let Some(fault) = fault {
+        return Err(Stop::Faulty(fault));
+    }
+    let name = name_field(text);
+    match read_statement(name, statement_field(text)) {
+        Err(fault) => Err(Stop::Faulty(fault)),
+        Ok(statement) => add_read(deck, card, name, statement),
+    }
+}
+
+// A statement card more, which was read.
+fn add_read(deck: &mut Deck, card: u32, name: &[u8], statement: Statement) -> Result<(), Stop>
+    requires { length name.now ≤ 8 }
+    ensures ok { OnOk result (spec.found_in deck.new
+        ≡ spec.with_statement (spec.found_in deck.old) card name.now statement) }
+    ensures err { IfErr result (λ stop. stop ≡ Stop.NoMemory) }
+{
+    deck.ended = is_end(&statement);
+    add_line(
+        deck,
+        Line {
+            card,
+            name: name_in(name),
+            statement: Some(statement),
+        },
+    )
+}
+
+// Whether a statement is the end.
+pub(crate) fn is_end(statement: &Statement) -> bool
+    ensures { result ≡ spec.is_end statement.now }
+{
+    matches!(statement, Statement::End { .. })
+}

@@ -1,0 +1,105 @@
+//! What a card is to the passes behind the first one.
+
+ghost use Rattle.std.specs.Prelude.{◌≡◌, ◌≤◌, ◌<◌, ◌-◌, length, IfOk, IfErr, drop, take};
+ghost use Rattle.st_asm.specs.Lines as spec;
+
+use st_card::columns;
+use st_expr::padded;
+use st_strap::Statement;
+
+// How many columns stand before the statement.
+const BEFORE_STATEMENT: usize = 9;
+
+// How many columns the name has.
+const NAME_COLUMNS: usize = 8;
+
+// A card without a fault of the form pass.
+#[derive(Drop)]
+pub(crate) struct Line {
+    // The card's number.
+    pub card: u32,
+    // The name, filled with blanks to eight bytes.
+    pub name: Option<[u8; 8]>,
+    // What the card says; comments and control cards say nothing here.
+    pub statement: Option<Statement>,
+}
+
+// A comment or a control card.
+pub(crate) fn silent(card: u32) -> Line
+    ensures { result ≡ spec.silent card }
+{
+    Line {
+        card,
+        name: None,
+        statement: None,
+    }
+}
+
+// The name of a statement card: columns 2 to 9 without the blanks at both ends.
+#[tactic(auto, unfolding(crate::specs::Lines::name_field))]
+pub(crate) fn name_field(text: &[u8]) -> &[u8]
+    ensures name { result.now ≡ spec.name_field text.now }
+    ensures short { length result.now ≤ 8 }
+{
+    let behind = match text {
+        [] => text,
+        [_, behind @ ..] => behind,
+    };
+    without_end(without_front(front(behind, NAME_COLUMNS)))
+}
+
+// The statement of a statement card: columns 10 to 72.
+#[tactic(auto, unfolding(crate::specs::Lines::statement_field))]
+pub(crate) fn statement_field(text: &[u8]) -> &[u8]
+    ensures statement { result.now ≡ spec.statement_field text.now }
+    ensures short { length result.now ≤ 63 }
+{
+    let read = columns(text);
+    read.split_at(BEFORE_STATEMENT.min(read.len())).1
+}
+
+// The first bytes of a text, so many of them where there are that many.
+fn front(text: &[u8], count: usize) -> &[u8]
+    ensures { result.now ≡ take count text.now }
+{
+    text.split_at(count.min(text.len())).0
+}
+
+// A text without the blanks at its start.
+fn without_front(text: &[u8]) -> &[u8]
+    ensures text { result.now ≡ spec.without_front text.now }
+    ensures shorter { length result.now ≤ length text.now }
+{
+    let mut rest = text;
+    'bytes: while let [b' ', after @ ..] = rest {
+        rest = after;
+    }
+    rest
+}
+
+// A text without the blanks at its end.
+fn without_end(text: &[u8]) -> &[u8]
+    ensures text { result.now ≡ spec.without_end text.now }
+    ensures shorter { length result.now ≤ length text.now }
+{
+    let mut rest = text;
+    'bytes: while let [before @ .., last] = rest {
+        if *last != b' ' {
+            return rest;
+        }
+        rest = before;
+    }
+    rest
+}
+
+// A name filled with blanks to eight bytes, where there is one.
+#[tactic(auto, unfolding(crate::specs::Lines::name_in))]
+pub(crate) fn name_in(field: &[u8]) -> Option<[u8; 8]>
+    requires { length field.now ≤ 8 }
+    ensures { result ≡ spec.name_in field.now }
+{
+    match field {
+        [] => None,
+        _ => Some(padded(field)),
+    }
+}

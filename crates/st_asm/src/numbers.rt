@@ -1,0 +1,106 @@
+//! Numbers laid as fields.
+
+ghost use Rattle.std.specs.Prelude.{◌≡◌, ◌+◌, ◌-◌, ◌*◌, ◌^◌, ◌<◌, ◌≤◌, IsTrue};
+ghost use Rattle.st_asm.specs.Numbers as spec;
+ghost use Rattle.st_strap.specs.WellFormed.{IsNumberForm};
+
+use st_strap::Form;
+
+// The bits of a field that are its magnitude.
+fn magnitude_bits(form: Form) -> u8
+    requires { IsNumberForm form }
+    ensures bits { result ≡ spec.magnitude_bits form }
+    ensures few { result ≤ form.length }
+{
+    if form.unsigned {
+        form.length
+    } else {
+        form.length - form.byte
+    }
+}
+
+// How many digits a decimal field has.
+fn digit_count(form: Form) -> u8
+    requires form { IsNumberForm form }
+    requires decimal { IsTrue form.decimal }
+    ensures count { result ≡ spec.digit_count form }
+    ensures few { result ≤ 16 }
+    ensures whole { form.byte * result ≡ spec.magnitude_bits form }
+{
+    magnitude_bits(form) / form.byte
+}
+
+// The first number that is too large for a field.
+fn capacity(form: Form) -> u128
+    requires { IsNumberForm form }
+    ensures { result ≡ spec.capacity form }
+{
+    if form.decimal {
+        10u128.pow(u32::from(digit_count(form)))
+    } else {
+        1 << magnitude_bits(form)
+    }
+}
+
+// Whether a field can hold a number.
+#[tactic(auto, unfolding(crate::specs::Numbers::holds))]
+pub(crate) fn holds(form: Form, minus: bool, number: u64) -> bool
+    requires { IsNumberForm form }
+    ensures { result ≡ spec.holds form minus number }
+{
+    !(form.unsigned && minus) && u128::from(number) < capacity(form)
+}
+
+// The last digits of a number, so many of them, each right in a byte of so many bits.
+fn packed(byte: u8, count: u8, number: u64) -> u64
+    requires some { 4 ≤ byte }
+    requires room { byte * count ≤ 64 }
+    requires byte_fits { byte ≤ 8 }
+    ensures value { result ≡ spec.packed byte count number }
+    ensures below { result < 2 ^ (byte * count) }
+{
+    if count == 0 {
+        return 0;
+    }
+    (packed(byte, count - 1, number / 10) << byte) + number % 10
+}
+
+// The magnitude of a field.
+fn magnitude(form: Form, number: u64) -> u64
+    requires form { IsNumberForm form }
+    requires few { number < spec.capacity form }
+    ensures value { result ≡ spec.magnitude form number }
+    ensures below { result < 2 ^ spec.magnitude_bits form }
+{
+    if form.decimal {
+        packed(form.byte, digit_count(form), number)
+    } else {
+        number
+    }
+}
+
+// A sign byte without flags and zone.
+fn sign_byte(byte: u8, minus: bool) -> u64
+    requires some { 1 ≤ byte }
+    requires few { byte ≤ 8 }
+    ensures value { result ≡ spec.sign_byte byte minus }
+    ensures below { result < 2 ^ byte }
+{
+    if minus { 1 << (byte.min(4) - 1) } else { 0 }
+}
+
+// The bits of a field that holds a number.
+#[tactic(auto, unfolding(crate::specs::Numbers::field_of))]
+pub(crate) fn field_of(form: Form, minus: bool, number: u64) -> u64
+    requires form { IsNumberForm form }
+    requires few { number < spec.capacity form }
+    ensures bits { result ≡ spec.field_of form minus number }
+    ensures below { result < 2 ^ form.length }
+{
+    let magnitude = magnitude(form, number);
+    if form.unsigned {
+        magnitude
+    } else {
+        (magnitude << form.byte) + sign_byte(form.byte, minus)
+    }
+}

@@ -1,0 +1,131 @@
+//! Where statements are laid: the location, and what becomes of it.
+
+ghost use Rattle.std.specs.Prelude.{◌≡◌, ◌<◌, ◌≤◌, ◌^◌, IfSome};
+ghost use Rattle.st_asm.specs.Places as spec;
+ghost use Rattle.st_asm.specs.Places.{IsRole};
+ghost use Rattle.st_strap.specs.WellFormed.{IsWellFormed};
+
+use crate::values::wrapped;
+use st_strap::Statement;
+
+// How many bits a half-word and a word have.
+const HALF: u32 = 32;
+
+const WORD: u32 = 64;
+
+// What a statement does to the location.
+#[derive(Clone, Copy)]
+pub(crate) enum Role {
+    // So many bits are laid from the next multiple of the unit on.
+    Lays { unit: u32, bits: u32 },
+    // As many bits as the field says are passed over from the next word on.
+    Passes,
+    // The location is set to the field's value.
+    Sets,
+    // The card's name gets the field's value.
+    Names,
+    // The end.
+    Ends,
+}
+
+// What a statement does to the location.
+pub(crate) fn role_of(statement: &Statement) -> Role
+    requires { IsWellFormed statement.now }
+    ensures role { result ≡ spec.role_of statement.now }
+    ensures fits { IsRole result }
+{
+    match statement {
+        Statement::Half { .. }
+        | Statement::Sum { .. }
+        | Statement::Refill { .. }
+        | Statement::Branch { .. }
+        | Statement::Floating { .. } => Role::Lays {
+            unit: HALF,
+            bits: HALF,
+        },
+        Statement::Vfl { .. }
+        | Statement::Connect { .. }
+        | Statement::Move { .. }
+        | Statement::BitBranch { .. }
+        | Statement::IndBranch { .. }
+        | Statement::StoreCounter { .. }
+        | Statement::Transfer { .. } => Role::Lays {
+            unit: HALF,
+            bits: WORD,
+        },
+        Statement::Data { form, .. } => Role::Lays {
+            unit: 1,
+            bits: u32::from(form.length),
+        },
+        Statement::IndexWord { .. } => Role::Lays {
+            unit: WORD,
+            bits: WORD,
+        },
+        Statement::Synonym { .. } => Role::Names,
+        Statement::SetLocation { .. } => Role::Sets,
+        Statement::Reserve { .. } => Role::Passes,
+        Statement::End { .. } => Role::Ends,
+    }
+}
+
+impl Role {
+    // How many bits are laid.
+    pub(crate) fn length(self) -> u32
+        requires { IsRole self }
+        ensures length { result ≡ spec.length_in self }
+        ensures few { result ≤ 64 }
+    {
+        match self {
+            Role::Lays { bits, .. } => bits,
+            _ => 0,
+        }
+    }
+
+    // The place of a statement that is met at a location, if it has one.
+    pub(crate) fn place(self, location: u32, value: i64) -> Option<u32>
+        requires role { IsRole self }
+        requires location { location < 2 ^ 24 }
+        ensures place { result ≡ spec.place_in self location value }
+        ensures below { IfSome result (λ place. place < 2 ^ 24) }
+    {
+        match self {
+            Role::Lays { unit, .. } => Some(aligned(unit, location)),
+            Role::Passes => Some(aligned(WORD, location)),
+            Role::Sets | Role::Names => Some(wrapped(value)),
+            Role::Ends => None,
+        }
+    }
+
+    // The location behind it.
+    pub(crate) fn behind(self, location: u32, value: i64) -> u32
+        requires role { IsRole self }
+        requires location { location < 2 ^ 24 }
+        ensures location { result ≡ spec.behind_in self location value }
+        ensures below { result < 2 ^ 24 }
+    {
+        match self {
+            Role::Lays { unit, bits } => (aligned(unit, location) + bits) % (1 << 24),
+            Role::Passes => (aligned(WORD, location) + wrapped(value)) % (1 << 24),
+            Role::Sets => wrapped(value),
+            Role::Names | Role::Ends => location,
+        }
+    }
+
+    // Whether the names of the field have to be defined by earlier cards.
+    pub(crate) fn needs_earlier(self) -> bool
+        ensures { result ≡ spec.needs_earlier self }
+    {
+        matches!(self, Role::Passes | Role::Sets | Role::Names)
+    }
+}
+
+// The next multiple of a unit, modulo 2^24.
+fn aligned(unit: u32, location: u32) -> u32
+    requires some { 1 ≤ unit }
+    requires small { unit ≤ 64 }
+    requires location { location < 2 ^ 24 }
+    ensures place { result ≡ spec.aligned unit location }
+    ensures below { result < 2 ^ 24 }
+{
+    (location + (unit - 1)) / unit * unit % (1 << 24)
+}

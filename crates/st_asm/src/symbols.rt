@@ -1,0 +1,99 @@
+//! Which names a statement speaks of, and whether they are known.
+
+ghost use Rattle.std.specs.Prelude.{◌≡◌, ◌||◌, List, ℕ, IfOk, OnOk};
+ghost use Rattle.st_card.specs.Tables.{is_same};
+ghost use Rattle.st_asm.specs.Symbols as spec;
+
+use crate::line::Line;
+use st_bits::NoMemory;
+use st_expr::{Atom, Expr, Symbols, Term};
+use st_strap::Statement;
+use std::alloc::Global;
+
+// Whether each name that a statement speaks of is in a table.
+#[tactic(auto, unfolding(crate::specs::Symbols::accepts_all))]
+pub(crate) fn knows_all(symbols: &Symbols, statement: &Statement) -> bool
+    ensures { result ≡ spec.accepts_all (spec.is_defined symbols.now) statement.now }
+{
+    match statement {
+        Statement::Half { at, .. }
+        | Statement::Floating { at, .. }
+        | Statement::Vfl { at, .. }
+        | Statement::Connect { at, .. }
+        | Statement::Transfer { at, .. } => knows(symbols, &at.expr),
+        Statement::Branch { at: Some(at), .. } => knows(symbols, &at.expr),
+        Statement::Move { at, second, .. }
+        | Statement::BitBranch { at, second, .. }
+        | Statement::IndBranch { at, second, .. }
+        | Statement::StoreCounter { at, second } => {
+            knows(symbols, &at.expr) && knows(symbols, second)
+        }
+        Statement::IndexWord { value, refill, .. } => {
+            knows(symbols, value) && knows(symbols, refill)
+        }
+        Statement::Synonym { at }
+        | Statement::SetLocation { at }
+        | Statement::Reserve { at }
+        | Statement::End { at } => knows(symbols, at),
+        Statement::Sum { .. }
+        | Statement::Refill { .. }
+        | Statement::Data { .. }
+        | Statement::Branch { at: None, .. } => true,
+    }
+}
+
+// Whether each name of an expression is in a table.
+fn knows(symbols: &Symbols, expr: &Expr) -> bool
+    ensures { result ≡ spec.accepts (spec.is_defined symbols.now) expr.now.items }
+{
+    knows_terms(symbols, expr.as_slice())
+}
+
+fn knows_terms(symbols: &Symbols, terms: &[Term]) -> bool
+    ensures { result ≡ spec.accepts (spec.is_defined symbols.now) terms.now }
+{
+    let mut rest = terms;
+    'terms: while let [term, after @ ..] = rest {
+        if !knows_atom(symbols, term.atom) {
+            return false;
+        }
+        rest = after;
+    }
+    true
+}
+
+fn knows_atom(symbols: &Symbols, atom: Atom) -> bool
+    ensures { result ≡ spec.accepts_atom (spec.is_defined symbols.now) atom }
+{
+    match atom {
+        Atom::Number(_) => true,
+        Atom::Name(name) => symbols.get(name).is_some(),
+    }
+}
+
+// A table in which the names of all cards are, whatever their values.
+pub(crate) fn names_in(alloc: Global, lines: &[Line]) -> Result<Symbols, NoMemory>
+    ensures { IfOk result (λ t. (name : List ℕ)
+        → spec.is_defined t name ≡ spec.is_among (spec.names_of lines.now) name) }
+{
+    let mut names = Symbols::new(alloc);
+    let mut rest = lines;
+    'lines: while let [line, after @ ..] = rest {
+        if let Some(name) = line.name {
+            add_name(&mut names, name)?;
+        }
+        rest = after;
+    }
+    Ok(names)
+}
+
+// Puts a name into a table.
+fn add_name(names: &mut Symbols, name: [u8; 8]) -> Result<(), NoMemory>
+    ensures { OnOk result ((query : List ℕ) → spec.is_defined names.new query
+        ≡ (spec.is_defined names.old query || is_same query name)) }
+{
+    match names.define(name, 0) {
+        Ok(_) => Ok(()),
+        Err(_) => Err(NoMemory),
+    }
+}

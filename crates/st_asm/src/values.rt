@@ -1,0 +1,81 @@
+//! What the expressions of a statement are worth.
+
+ghost use Rattle.std.specs.Prelude.{◌≡◌, ◌<◌, ◌^◌, ◌+ℤ◌, ◌≤ℤ◌, ℤ, pos, neg_ℤ};
+ghost use Rattle.st_asm.specs.Values as spec;
+
+use st_expr::{Expr, Symbols, value_of};
+use st_strap::Statement;
+
+// The values of a statement's first and second expression, in bits; 0 where there is none.
+#[derive(Clone, Copy)]
+pub(crate) struct Values {
+    pub first: i64,
+    pub second: i64,
+}
+
+// The values of a statement's expressions; a name that is not defined makes its expression 0.
+#[tactic(auto, unfolding(crate::specs::Values::values_of))]
+pub(crate) fn values_of(symbols: &Symbols, statement: &Statement) -> Values
+    ensures { result ≡ spec.values_of symbols.now statement.now }
+{
+    match statement {
+        Statement::Half { at, .. }
+        | Statement::Floating { at, .. }
+        | Statement::Vfl { at, .. }
+        | Statement::Connect { at, .. }
+        | Statement::Transfer { at, .. } => value_alone(symbols, &at.expr),
+        Statement::Branch { at: Some(at), .. } => value_alone(symbols, &at.expr),
+        Statement::Move { at, second, .. }
+        | Statement::BitBranch { at, second, .. }
+        | Statement::IndBranch { at, second, .. }
+        | Statement::StoreCounter { at, second } => two_values(symbols, &at.expr, second),
+        Statement::IndexWord { value, refill, .. } => two_values(symbols, value, refill),
+        Statement::Synonym { at }
+        | Statement::SetLocation { at }
+        | Statement::Reserve { at }
+        | Statement::End { at } => value_alone(symbols, at),
+        Statement::Sum { .. }
+        | Statement::Refill { .. }
+        | Statement::Data { .. }
+        | Statement::Branch { at: None, .. } => Values {
+            first: 0,
+            second: 0,
+        },
+    }
+}
+
+fn value_alone(symbols: &Symbols, e: &Expr) -> Values
+    ensures { result ≡ record { first = spec.value_in symbols.now e.now; second = pos 0 } }
+{
+    Values {
+        first: value_in(symbols, e),
+        second: 0,
+    }
+}
+
+fn two_values(symbols: &Symbols, e: &Expr, f: &Expr) -> Values
+    ensures { result ≡ record {
+      first = spec.value_in symbols.now e.now;
+      second = spec.value_in symbols.now f.now;
+    } }
+{
+    Values {
+        first: value_in(symbols, e),
+        second: value_in(symbols, f),
+    }
+}
+
+fn value_in(symbols: &Symbols, e: &Expr) -> i64
+    ensures { result ≡ spec.value_in symbols.now e.now }
+{
+    value_of(e, symbols).unwrap_or(0)
+}
+
+// A number modulo 2^24.
+#[tactic(auto, unfolding(crate::specs::Values::wrapped))]
+pub(crate) fn wrapped(value: i64) -> u32
+    ensures value { result ≡ spec.wrapped value }
+    ensures below { result < 2 ^ 24 }
+{
+    value.rem_euclid(1 << 24) as u32
+}

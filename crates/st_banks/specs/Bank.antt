@@ -1,0 +1,35 @@
+-- The banks of storage: which words are in each, and until when it is busy.
+use Rattle.std.specs.Prelude.{ℕ, ◌≡◌, ◌+◌, ◌%◌, nat_lt, nat_le, if◌then◌else◌, List, length, replicate, slice_index, slice_set, Option, None, Some}
+use Rattle.st_banks.specs.Delay.{IsDelayList, delay}
+use Rattle.st_banks.specs.declared.banks.TheConstants.{BANKS}
+
+-- the bank of a word: the first 65,536 words lie in four banks in turn, the others in two
+unfoldable pub bank_of : ℕ → ℕ
+bank_of w = if nat_lt w 65536 then w % 4 else 4 + w % 2
+
+-- the delay list, and the tick at which each bank gives or gave its last answer, 0 before its first read
+pub record BankTimes : Type 0 where
+  pub delays : List ℕ
+  pub answers : List ℕ
+
+-- what holds of them: the list can be gone round, and each bank has its answer
+pub record IsBankTimes (m : BankTimes) : Type 0 where
+  pub delays : IsDelayList m.delays
+  pub banks : length m.answers ≡ BANKS
+
+-- the banks before the first read
+abbrev pub unread : List ℕ → BankTimes
+unread list = record { delays = list; answers = replicate BANKS 0 }
+
+-- the last answer of the bank that the word is in
+abbrev pub last_answer : BankTimes → ℕ → ℕ
+last_answer m w = slice_index m.answers (bank_of w)
+
+-- the tick at which a read of the word is answered, if its bank accepts it at the tick: that is, if it is no longer busy
+abbrev pub accepted : BankTimes → ℕ → ℕ → Option ℕ
+accepted m w tick = if nat_le (last_answer m w) tick then Some (tick + delay m.delays tick) else None
+
+-- the banks after that: an answer is the last one of the bank, and where there is none nothing has changed
+abbrev pub after_read : BankTimes → ℕ → Option ℕ → BankTimes
+after_read m w (Some answer) = record m { answers = slice_set m.answers (bank_of w) answer }
+after_read m w None = m

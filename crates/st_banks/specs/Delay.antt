@@ -1,0 +1,28 @@
+-- How long a read takes.
+use Rattle.std.specs.Prelude.{ℕ, ◌≡◌, ◌≤◌, ◌%◌, ◌==◌, List, length, All, slice_index, Option, None, Some, Result, Ok, Err}
+use Rattle.std.specs.List.{position}
+use Rattle.st_banks.specs.declared.delays.DelayError.{DelayError}
+use Rattle.st_banks.specs.declared.delays.DelayError.TheVariants.{ZeroDelay, NoMemory}
+
+-- a delay of a read
+abbrev pub IsDelay : ℕ → Type 0
+IsDelay d = (1 ≤ d) × (d ≤ 255)
+
+-- a list that can be gone round: not empty, and each entry a delay
+pub record IsDelayList (list : List ℕ) : Type 0 where
+  pub some : 1 ≤ length list
+  pub each : All IsDelay list
+
+-- the delay of a read that is accepted at the tick: the list is gone round, one entry a tick
+abbrev pub delay : List ℕ → ℕ → ℕ
+delay list tick = slice_index list (tick % length list)
+
+-- the place of the first entry that is zero
+abbrev pub first_zero : List ℕ → Option ℕ
+first_zero list = position (λ d. d == 0) list
+
+-- what is answered of a list: itself, or its first zero; want of memory comes only where no entry is zero
+abbrev pub IsAnswer : List ℕ → Result (List ℕ) DelayError → Type 0
+IsAnswer list (Ok delays) = (first_zero list ≡ None) × (delays ≡ list)
+IsAnswer list (Err (ZeroDelay place)) = first_zero list ≡ Some place
+IsAnswer list (Err NoMemory) = first_zero list ≡ None

@@ -1,0 +1,77 @@
+ghost use Rattle.std.specs.Prelude.{◌≡◌, ◌<◌, ◌≤◌, length, All, IfSome, IfNone};
+ghost use Rattle.st_banks.specs.Delay.{delay, first_zero as place_of_zero};
+
+use std::alloc::Global;
+use std::marker::Model;
+
+/// Why a list of delays is refused.
+#[derive(Clone, Copy, Debug, PartialEq, Eq)]
+pub enum DelayError {
+    /// The entry at this place, counted from 0, is zero; it is the first one that is.
+    ZeroDelay { place: u32 },
+    /// Memory ran out.
+    NoMemory,
+}
+
+/// The delays of reads, in ticks, each from 1 to 255. Contracts see the list.
+#[derive(Drop)]
+pub struct Delays {
+    list: Vec<u8>,
+}
+
+impl Model for Delays {
+    ghost use Rattle.std.specs.Prelude.{List, ℕ};
+    ghost use Rattle.st_banks.specs.Delay.{IsDelayList};
+
+    ghost Value = { List ℕ };
+
+    ghost view = { λ a. a.list.items };
+
+    ghost invariant = { λ a. IsDelayList a.list.items };
+}
+
+impl Delays {
+    ghost use Rattle.st_banks.specs.Delay.{IsAnswer, IsDelayList};
+
+    /// The delays of the list, which has 1 to 4,096 entries. A list with a zero is refused before memory is asked for.
+    pub fn new(alloc: Global, list: &[u8]) -> Result<Delays, DelayError>
+        requires some { 1 ≤ length list.now }
+        requires few { length list.now ≤ 4096 }
+        ensures { IsAnswer list.now result }
+    {
+        if let Some(place) = first_zero(list) {
+            return Err(DelayError::ZeroDelay {
+                place: place as u32,
+            });
+        }
+        match Vec::from_slice(alloc, list) {
+            Ok(list) => Ok(Delays { list }),
+            Err(_) => Err(DelayError::NoMemory),
+        }
+    }
+
+    /// Makes known what holds of each list of delays: it is not empty, and each entry is from 1 to 255.
+    pub fn shape(&self)
+        ensures { IsDelayList self.now }
+    {
+        let _ = &self.list;
+    }
+
+    /// The delay, from 1 to 255 ticks, of a read that is accepted at `tick`: the list is gone round, one entry a tick.
+    pub fn at(&self, tick: u64) -> u8
+        ensures value { result ≡ delay self.now tick }
+        ensures least { 1 ≤ result }
+        ensures most { result ≤ 255 }
+    {
+        self.list[(tick % self.list.len() as u64) as usize]
+    }
+}
+
+/// The place of the first entry that is zero.
+fn first_zero(list: &[u8]) -> Option<usize>
+    ensures value { result ≡ place_of_zero list.now }
+    ensures bound { IfSome result (λ place. place < length list.now) }
+    ensures none { IfNone result (All (λ delay. 1 ≤ delay) list.now) }
+{
+    list.iter().position(|delay| *delay == 0)
+}

@@ -1,0 +1,14 @@
+//! The banks of storage: how long a read takes, and when a bank accepts the next one.
+//! `docs/timetable.md` has the rules.
+#![tactic(auto, using(st_bits::specs::Storage::words_of_storage_is))]
+
+mod banks;
+mod delays;
+mod laws;
+
+pub use banks::{BANKS, Banks};
+pub use delays::{DelayError, Delays};
+pub use laws::{delays_are_bounded, reads_keep_their_bank_busy, words_lie_in_banks};
+
+#[cfg(test)]
+mod tests;

@@ -1,0 +1,45 @@
+-- The instruction words that were asked for last.
+use Rattle.std.specs.Prelude.{ℕ, ◌-◌, ◌==◌, Bool, if◌then◌else◌, List, [], ◌∷◌, ◌++◌, length, drop, map, find, option_and_then, Option, None, Some}
+use Rattle.std.specs.List.{list_any}
+use Rattle.std.specs.Option.{option_map}
+use Rattle.st_fetch.specs.declared.held.Held.{Held}
+
+-- the word w is among them
+abbrev pub is_held : List Held → ℕ → Bool
+is_held hold w = list_any (λ h. h.w == w) hold
+
+-- the last four of a list
+abbrev pub last_four : List Held → List Held
+last_four hold = drop (length hold - 4) hold
+
+-- after a request of w: it is the newest, without an answer, and of five the oldest is dropped
+abbrev pub requested : List Held → ℕ → List Held
+requested hold w = last_four (hold ++ record { w = w; answer = None } ∷ [])
+
+-- a word with what becomes of it where it is w, else as it was
+abbrev pub changed_at : ℕ → (Held → Held) → Held → Held
+changed_at w change h = if h.w == w then change h else h
+
+-- with an answer: its content and its tick
+abbrev pub with_answer : ℕ → ℕ → Held → Held
+with_answer word tick h = record h { answer = Some (word, tick) }
+
+-- with new content, where it is answered; the tick of the answer stays
+abbrev pub with_content : ℕ → Held → Held
+with_content word h = record h { answer = option_map (λ a. (word, a.1)) h.answer }
+
+-- after w is answered
+abbrev pub answered : List Held → ℕ → ℕ → ℕ → List Held
+answered hold w word tick = map (changed_at w (with_answer word tick)) hold
+
+-- after a store to w
+abbrev pub patched : List Held → ℕ → ℕ → List Held
+patched hold w word = map (changed_at w (with_content word)) hold
+
+-- the word w, if it is held
+abbrev pub found : List Held → ℕ → Option Held
+found hold w = find (λ h. h.w == w) hold
+
+-- the answer of w, if it is held and answered
+abbrev pub answer_of : List Held → ℕ → Option (ℕ × ℕ)
+answer_of hold w = option_and_then (λ h. h.answer) (found hold w)

@@ -1,0 +1,2 @@
+pub mod HeldWords
+pub mod Queue

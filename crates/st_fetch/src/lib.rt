@@ -1,0 +1,14 @@
+//! What the machine keeps of the words that it asks for: the four instruction words that were asked for last, and the
+//! reads that are still to be made. `docs/timetable.md` has the rules.
+#![tactic(auto)]
+
+mod held;
+mod laws;
+mod wants;
+
+pub use held::{Held, Hold};
+pub use laws::{answers_are_known, requests_hold_four, stores_change_content_alone};
+pub use wants::{WANTS, Want, Wants};
+
+#[cfg(test)]
+mod tests;

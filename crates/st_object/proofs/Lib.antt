@@ -1,0 +1,15 @@
+pub mod Parts
+pub mod Spellings
+pub mod Told
+pub mod Empties
+pub mod Grown
+pub mod Kept
+pub mod Written
+pub mod LineByLine
+pub mod Whole
+pub mod Accepted
+pub mod Again
+pub mod ReadBack
+pub mod Completed
+pub mod Refused
+pub mod Answered

@@ -1,0 +1,91 @@
+-- The object text of a program is read as that program.
+use Rattle.std.proofs.Common.{◌≡◌, ◌+◌, ◌*◌, ◌/◌, ◌%◌, ◌==◌, ℕ, Bool, true, not, List, [], ◌∷◌, ◌++◌, map, decimal, Option, Some, Ok, Err, if◌then◌else◌, refl, ap, ◌∙◌, append_assoc, arith}
+use Rattle.std.specs.Option.{option_map_or, option_and_then}
+use Rattle.std.proofs.lemmas.List.Folds.{list_all-append}
+use Rattle.st_report.specs.Line.{hex_word}
+use Rattle.st_card.specs.Pieces.{onto_first, parted, lacks}
+use Rattle.st_object.specs.Lines.{spelled, text_of}
+use Rattle.st_object.specs.Draft.{Draft, blank, lines_of, with_item, is_whole}
+use Rattle.st_object.specs.Meaning.{IsShort, IsItem}
+use Rattle.st_object.specs.Object.{Program, IsProgram, AreWords, draft_of, object_text, program_of, with_line, finished, read_from, read_text}
+use Rattle.st_object.specs.declared.items.Item.{Item}
+use Rattle.st_object.specs.declared.items.Item.TheVariants.{Object, Start, Word, Budget, Delay, Signal, Dump, Trace, Time, Chart, Snap, Back, Fin}
+use Rattle.st_object.proofs.Parts.{other_first}
+use Rattle.st_object.proofs.Spellings.{short_small, and_true, lacks-decimal, lacks-hex, spelled_again}
+use Rattle.st_object.proofs.Again.{Leads, made_again}
+
+-- no line end stands among digits
+lacks_number : (n : ℕ) → IsShort n → lacks 10 (decimal n) ≡ true
+lacks_number n short = lacks-decimal 10 n (omega arith) (short_small n short)
+
+lacks_numbers : (c a b : ℕ) → not (c == 10) ≡ true → IsShort a → IsShort b → lacks 10 (decimal a ++ c ∷ [] ++ decimal b) ≡ true
+lacks_numbers c a b other short_a short_b =
+    list_all-append (λ x. not (x == 10)) (decimal a ++ c ∷ []) (decimal b)
+    ∙ and_true _ _ (list_all-append (λ x. not (x == 10)) (decimal a) (c ∷ []) ∙ and_true _ _ (lacks_number a short_a) (and_true _ true other refl))
+    (lacks_number b short_b)
+
+lacks_word : (w x : ℕ) → IsShort w → lacks 10 (decimal w ++ 32 ∷ [] ++ hex_word x) ≡ true
+lacks_word w x short =
+    list_all-append (λ c. not (c == 10)) (decimal w ++ 32 ∷ []) (hex_word x)
+    ∙ and_true _ _ (list_all-append (λ c. not (c == 10)) (decimal w) (32 ∷ []) ∙ and_true _ _ (lacks_number w short) refl) (lacks-hex 10 16 x (omega arith))
+
+-- no line end stands in a line
+lacks-spelled : (item : Item) → IsItem item → lacks 10 (spelled item) ≡ true
+unfolding spelled
+lacks-spelled Object short = refl
+lacks-spelled (Start h) short = let bit : IsShort (32 * (h % 2)) = omega arith in lacks_numbers 46 (h / 2) (32 * (h % 2)) refl short bit
+lacks-spelled (Word w x) short = lacks_word w x short.0
+lacks-spelled (Budget n) short = lacks_number n short
+lacks-spelled (Delay n) short = lacks_number n short
+lacks-spelled (Signal c i) short = lacks_numbers 32 c i refl short.0 short.1
+lacks-spelled (Dump f t) short = lacks_numbers 32 f t refl short.0 short.1
+lacks-spelled Trace short = refl
+lacks-spelled Time short = refl
+lacks-spelled Chart short = refl
+lacks-spelled (Snap t) short = lacks_number t short
+lacks-spelled (Back k) short = lacks_number k short
+lacks-spelled Fin short = refl
+
+-- the first line of a text
+pub parted_line : (line rest : List ℕ) → lacks 10 line ≡ true → parted 10 (line ++ 10 ∷ rest) ≡ line ∷ parted 10 rest
+parted_line [] rest lacking = refl
+parted_line (c ∷ cs) rest lacking =
+    let tests = other_first (c == 10) (lacks 10 cs) lacking in
+    ap (λ (b : Bool). if b then [] ∷ parted 10 (cs ++ 10 ∷ rest) else onto_first c (parted 10 (cs ++ 10 ∷ rest))) tests.0
+    ∙ ap (λ (pieces : List (List ℕ)). onto_first c pieces) (parted_line cs rest tests.1)
+
+-- the lines of a text that lines were written to
+pub parted-text_of : (items : List Item) (d e : Draft) → Leads d items e → parted 10 (text_of items) ≡ map spelled items ++ [] ∷ []
+parted-text_of [] d e leads = refl
+parted-text_of (item ∷ more) d e leads =
+    ap (λ (s : List ℕ). parted 10 s) (append_assoc (spelled item) (10 ∷ []) (text_of more))
+    ∙ (parted_line (spelled item) (text_of more) (lacks-spelled item leads.2)
+    ∙ ap (λ (pieces : List (List ℕ)). spelled item ∷ pieces) (parted-text_of more leads.0 e leads.3))
+
+-- a line that may follow is read
+pub with_spelled : (d e : Draft) (item : Item) → with_item d item ≡ Some e → IsItem item → with_line d (spelled item) ≡ Some e
+with_spelled d e item added readable =
+    ap (λ (o : Option Item). option_and_then (λ i. with_item d i) o) (spelled_again item readable) ∙ added
+
+read_step : (d e : Draft) (n : ℕ) (line : List ℕ) (before : List (List ℕ)) → with_line d line ≡ Some e →
+    read_from d n (line ∷ before ++ [] ∷ []) ≡ read_from e (n + 1) (before ++ [] ∷ [])
+read_step d e n line [] good = ap (λ (o : Option Draft). option_map_or (λ x. read_from x (n + 1) ([] ∷ [])) o (Err n)) good
+read_step d e n line (next ∷ more) good =
+    ap (λ (o : Option Draft). option_map_or (λ x. read_from x (n + 1) (next ∷ more ++ [] ∷ [])) o (Err n)) good
+
+read_lines : (items : List Item) (d e : Draft) (n : ℕ) → Leads d items e → is_whole e ≡ true →
+    read_from d n (map spelled items ++ [] ∷ []) ≡ Ok (program_of e)
+read_lines [] d e n leads whole =
+    ap (λ (x : Draft). finished x n) leads ∙ ap (λ (b : Bool). if b then Ok (program_of e) else Err n) whole
+read_lines (item ∷ more) d e n leads whole =
+    read_step d leads.0 n (spelled item) (map spelled more) (with_spelled d leads.0 item leads.1 leads.2)
+    ∙ read_lines more leads.0 e (n + 1) leads.3 whole
+
+-- what was written reads as the same program
+pub read_back : (p : Program) → IsProgram p → AreWords p.words → read_text (object_text p) ≡ Ok p
+unfolding read_text
+read_back p is each =
+    let makes = made_again p is each in
+    ap (λ (pieces : List (List ℕ)). read_from blank 1 pieces) (parted-text_of (lines_of (draft_of p)) blank makes.last makes.steps)
+    ∙ (read_lines (lines_of (draft_of p)) blank makes.last 1 makes.steps makes.ended
+    ∙ ap (λ (q : Program). Ok q) makes.program)

@@ -1,0 +1,58 @@
+-- What is written line by line.
+use Rattle.std.proofs.Common.{◌≡◌, ◌<◌, ◌+◌, ◌==◌, ℕ, Bool, true, false, not, List, [], ◌∷◌, ◌++◌, length, map, take, get_or, Result, Ok, Err, OnOk, if◌then◌else◌, refl, ap, sym, ◌∙◌, append_assoc, arith}
+use Rattle.std.proofs.lemmas.List.{take_more, length-take-le}
+use Rattle.std.proofs.lemmas.List.Concat.{flat_map-append}
+use Rattle.st_report.specs.Line.{lf}
+use Rattle.st_object.specs.Lines.{spelled, text_of, marked, word_lines, budget_lines, back_lines, order_lines, show_lines}
+use Rattle.st_object.specs.Draft.{lines_of}
+use Rattle.st_object.specs.Object.{Program, draft_of}
+use Rattle.st_object.specs.declared.items.Item.{Item}
+use Rattle.st_object.specs.declared.items.Item.TheVariants.{Object, Start, Word, Delay, Signal, Dump, Trace, Time, Chart, Snap, Fin}
+use Rattle.st_object.proofs.Grown.{word_lines-append}
+
+pub text_of-append : (xs ys : List Item) → text_of (xs ++ ys) ≡ text_of xs ++ text_of ys
+text_of-append xs ys = flat_map-append (λ i. spelled i ++ lf) xs ys
+
+-- lines behind those that are written
+pub written_further : (old now new : List ℕ) (done next all : List Item) → now ≡ old ++ text_of done → new ≡ now ++ text_of next →
+    all ≡ done ++ next → new ≡ old ++ text_of all
+written_further old now new done next all before then_written whole =
+    then_written
+    ∙ (ap (λ (s : List ℕ). s ++ text_of next) before
+    ∙ (append_assoc old (text_of done) (text_of next)
+    ∙ ap (λ (s : List ℕ). old ++ s) (sym (text_of-append done next) ∙ sym (ap (λ (s : List Item). text_of s) whole))))
+
+-- the line of a further word, where it is not zero
+pub words_more : (old now new : List ℕ) (xs : List ℕ) (i x : ℕ) (b : Bool) → i < length xs → get_or xs i 0 ≡ x →
+    b ≡ not (x == 0) → now ≡ old ++ text_of (word_lines 0 (take i xs)) → new ≡ now ++ text_of (marked b (Word i x)) →
+    new ≡ old ++ text_of (word_lines 0 (take (i + 1) xs))
+words_more old now new xs i x b within here test before further =
+    let more : take (i + 1) xs ≡ take i xs ++ x ∷ [] = take_more xs i 0 within ∙ ap (λ (y : ℕ). take i xs ++ y ∷ []) here in
+    let size : 0 + length (take i xs) ≡ i = omega (arith, length-take-le i xs (omega arith)) in
+    let one : word_lines i (x ∷ []) ≡ marked b (Word i x) =
+    elim (x == 0) as (λ v. (if v then [] else Word i x ∷ []) ≡ marked (not v) (Word i x)) [ true ↦ refl | false ↦ refl ]
+    ∙ ap (λ (v : Bool). marked v (Word i x)) (sym test) in
+    written_further old now new (word_lines 0 (take i xs)) (marked b (Word i x)) (word_lines 0 (take (i + 1) xs)) before further
+    (ap (λ (s : List ℕ). word_lines 0 s) more
+    ∙ (word_lines-append 0 (take i xs) (x ∷ [])
+    ∙ (ap (λ k. word_lines 0 (take i xs) ++ word_lines k (x ∷ [])) size
+    ∙ ap (λ (s : List Item). word_lines 0 (take i xs) ++ s) one)))
+
+-- the last lines, where there was memory for them
+pub written_last : {E : Type 0} (r : Result (Unit {0}) E) (old now new : List ℕ) (done next all : List Item) →
+    now ≡ old ++ text_of done → OnOk r (new ≡ now ++ text_of next) → all ≡ done ++ next → OnOk r (new ≡ old ++ text_of all)
+written_last (Ok x) old now new done next all before further whole = written_further old now new done next all before further whole
+written_last (Err e) old now new done next all before further whole = tt
+
+regrouped : (w b d g m t i c n k f : List Item) → w ++ (b ++ (d ++ (g ++ (m ++ (t ++ (i ++ (c ++ (n ++ (k ++ f)))))))))
+    ≡ w ++ (b ++ d ++ g ++ m) ++ (t ++ i ++ c ++ n ++ k) ++ f
+regrouped w b d g m t i c n k f = simp append_assoc refl
+
+-- the lines of a program, part by part
+pub whole_lines : (p : Program) → lines_of (draft_of p)
+    ≡ Object ∷ Start p.start ∷ [] ++ word_lines 0 p.words ++ order_lines p.controls ++ show_lines p.controls ++ Fin ∷ []
+whole_lines p = ap (λ (s : List Item). Object ∷ Start p.start ∷ s) (regrouped (word_lines 0 p.words)
+    (budget_lines p.controls.budget) (map (λ n. Delay n) p.controls.delays)
+    (map (λ s. Signal s.count s.indicator) p.controls.signals) (map (λ q. Dump q.0 q.1) p.controls.dumps)
+    (marked p.controls.trace Trace) (marked p.controls.time Time) (marked p.controls.chart Chart)
+    (map (λ t. Snap t) p.controls.snaps) (back_lines p.controls.back) (Fin ∷ []))

@@ -1,0 +1,8 @@
+use Rattle.std.proofs.Common.{get_or, refl}
+use Rattle.st_object.proofs.Written.{words_more}
+use Rattle.st_object.proofs.writing.push_words.Goals as goal
+
+pub words-preserved : goal.words-preserved
+words-preserved c =
+    words_more c.args.text.now.items c.words.text.items c.push_mark.new.text.items c.args.words.now c.words.address
+    (get_or c.args.words.now c.words.address 0) _ c.words-test.true refl refl c.words.invariant c.in_ok-push_mark.ensures

@@ -1,0 +1,36 @@
+-- What adding a line answers, and what reading an object text does.
+use Rattle.std.specs.Prelude.{◌≡◌, ℕ, List, ◌++◌, Option, Some, None, Result, Ok, Err}
+use Rattle.st_card.specs.declared.faults.Fault.TheVariants.{BadObjectCard}
+use Rattle.st_object.specs.Draft.{Draft}
+use Rattle.st_object.specs.Object.{Program, IsBadLine}
+use Rattle.st_object.specs.declared.reading.ObjectError.{ObjectError}
+use Rattle.st_object.specs.declared.reading.ObjectError.TheVariants.{Refused as ObjectRefused, NoMemory as ObjectNoMemory}
+use Rattle.st_object.specs.declared.drafts.Outcome.{Outcome}
+use Rattle.st_object.specs.declared.drafts.Outcome.TheVariants.{Added, Refused, NoMemory}
+
+-- what an outcome says of a draft after a line: it is the one that is wanted, or none is; there may be no memory
+abbrev pub Settles : Draft → Option Draft → Outcome → Type 0
+Settles new wanted Added = wanted ≡ Some new
+Settles new wanted Refused = wanted ≡ None
+Settles new wanted NoMemory = Unit {0}
+
+-- what an outcome says of a list before and after items are appended
+abbrev pub Appends : {X : Type 0} → List X → List X → List X → Outcome → Type 0
+Appends old new items Added = new ≡ old ++ items
+Appends old new items Refused = ⊥
+Appends old new items NoMemory = Unit {0}
+
+-- why a text was not read: it is no object text, or there was no memory for what it holds
+abbrev pub Explains : Result Program ℕ → ObjectError → Type 0
+Explains read (ObjectRefused card fault) = (read ≡ Err card) × (fault ≡ BadObjectCard)
+Explains read ObjectNoMemory = Unit {0}
+
+-- what an answer says of what a text holds
+abbrev pub Gives : Result Program ℕ → Result Program ObjectError → Type 0
+Gives read (Ok program) = read ≡ Ok program
+Gives read (Err e) = Explains read e
+
+-- a refusal names the bad line of a text
+abbrev pub NamesBadLine : List ℕ → ObjectError → Type 0
+NamesBadLine text (ObjectRefused card fault) = IsBadLine text card
+NamesBadLine text ObjectNoMemory = Unit {0}

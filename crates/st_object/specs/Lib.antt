@@ -1,0 +1,5 @@
+pub mod Lines
+pub mod Draft
+pub mod Meaning
+pub mod Object
+pub mod Answers

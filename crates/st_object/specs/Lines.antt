@@ -1,0 +1,53 @@
+-- The lines of an object text, and their bytes.
+use Rattle.std.specs.Prelude.{ℕ, ◌+◌, ◌==◌, Bool, List, [], ◌∷◌, ◌++◌, map, codes, decimal, if◌then◌else◌}
+use Rattle.std.specs.List.{flat_map}
+use Rattle.st_report.specs.Line.{lf, hex_word, half_address}
+use Rattle.st_card.specs.Controls.{Asked}
+use Rattle.st_object.specs.declared.items.Item.{Item}
+use Rattle.st_object.specs.declared.items.Item.TheVariants.{Object, Start, Word, Budget, Delay, Signal, Dump, Trace, Time, Chart, Snap, Back, Fin}
+
+-- what a line says, in its one spelling
+unfoldable pub spelled : Item → List ℕ
+spelled Object = codes "OBJECT"
+spelled (Start h) = codes "START " ++ half_address h
+spelled (Word w x) = codes "W " ++ decimal w ++ codes " " ++ hex_word x
+spelled (Budget n) = codes "BUDGET " ++ decimal n
+spelled (Delay d) = codes "DELAY " ++ decimal d
+spelled (Signal c i) = codes "SIGNAL " ++ decimal c ++ codes " " ++ decimal i
+spelled (Dump f t) = codes "DUMP " ++ decimal f ++ codes " " ++ decimal t
+spelled Trace = codes "TRACE"
+spelled Time = codes "TIME"
+spelled Chart = codes "CHART"
+spelled (Snap t) = codes "SNAP " ++ decimal t
+spelled (Back k) = codes "BACK " ++ decimal k
+spelled Fin = codes "FIN"
+
+-- lines, each with its line end
+abbrev pub text_of : List Item → List ℕ
+text_of items = flat_map (λ i. spelled i ++ lf) items
+
+-- a line that stands there where it is asked for
+abbrev pub marked : Bool → Item → List Item
+marked asked item = if asked then item ∷ [] else []
+
+-- the words from word w on that are not zero, rising
+abbrev pub word_lines : ℕ → List ℕ → List Item
+word_lines w [] = []
+word_lines w (x ∷ xs) = if x == 0 then word_lines (w + 1) xs else Word w x ∷ word_lines (w + 1) xs
+
+-- the number of instructions, where one is given
+abbrev pub budget_lines : ℕ → List Item
+budget_lines n = if n == 0 then [] else Budget n ∷ []
+
+-- how far the end steps back, where it does
+abbrev pub back_lines : ℕ → List Item
+back_lines k = if k == 0 then [] else Back k ∷ []
+
+-- what is asked for up to the parts of storage, and what is to be shown
+abbrev pub order_lines : Asked → List Item
+order_lines a = budget_lines a.budget ++ map (λ n. Delay n) a.delays
+    ++ map (λ s. Signal s.count s.indicator) a.signals ++ map (λ p. Dump p.0 p.1) a.dumps
+
+abbrev pub show_lines : Asked → List Item
+show_lines a = marked a.trace Trace ++ marked a.time Time ++ marked a.chart Chart
+    ++ map (λ t. Snap t) a.snaps ++ back_lines a.back

@@ -1,0 +1,101 @@
+-- What a line of an object text means.
+use Rattle.std.specs.Prelude.{ℕ, ◌≤◌, ◌<◌, ◌+◌, ◌*◌, ◌-◌, ◌/◌, ◌%◌, ◌^◌, ◌==◌, nat_lt, List, [], ◌∷◌, codes, Option, Some, None, if◌then◌else◌}
+use Rattle.std.specs.Option.{option_map, option_and_then}
+use Rattle.st_card.specs.Number.{reading}
+use Rattle.st_card.specs.Controls.{good}
+use Rattle.st_card.specs.Tables.{is_same, row_of}
+use Rattle.st_object.specs.Lines.{spelled}
+use Rattle.st_object.specs.declared.items.Item.{Item}
+use Rattle.st_object.specs.declared.items.Item.TheVariants.{Object, Start, Word, Budget, Delay, Signal, Dump, Trace, Time, Chart, Snap, Back, Fin}
+use Rattle.st_object.specs.declared.items.Kind.{Kind}
+use Rattle.st_object.specs.declared.items.Kind.TheVariants as kinds
+
+-- what stands before the first byte `at` of a text, and what stands behind it
+abbrev pub parts_at : ℕ → List ℕ → Option (List ℕ × List ℕ)
+parts_at at [] = None
+parts_at at (c ∷ cs) = if c == at then Some ([], cs) else option_map (λ p. (c ∷ p.0, p.1)) (parts_at at cs)
+
+-- the number that a text is, of 12 digits at most
+abbrev pub number_in : List ℕ → Option ℕ
+number_in text = good (reading 999999999999 text)
+
+-- a pair of values, where there are both
+abbrev pub both : {X Y : Type 0} → Option X → Option Y → Option (X × Y)
+both (Some x) (Some y) = Some (x, y)
+both (Some x) None = None
+both None y = None
+
+-- two numbers with a byte between them
+abbrev pub numbers_in : ℕ → List ℕ → Option (ℕ × ℕ)
+numbers_in at text = option_and_then (λ p. both (number_in p.0) (number_in p.1)) (parts_at at text)
+
+-- a hexadecimal digit
+abbrev pub hex_digit_in : ℕ → ℕ
+hex_digit_in c = (if nat_lt c 65 then c - 48 else c - 55) % 16
+
+-- the number that the last sixteen hexadecimal digits are
+abbrev pub hex_after : ℕ → List ℕ → ℕ
+hex_after n [] = n
+hex_after n (c ∷ cs) = hex_after (n % 2 ^ 60 * 16 + hex_digit_in c) cs
+
+-- a word of storage: its address and what it holds
+abbrev pub word_in : List ℕ → Option Item
+word_in text = option_and_then
+    (λ p. option_map (λ w. Word w (hex_after 0 p.1)) (number_in p.0)) (parts_at 32 text)
+
+-- the lines that are one word
+abbrev pub marks : List (List ℕ × Item)
+marks =
+    (codes "OBJECT", Object) ∷ (codes "TRACE", Trace) ∷ (codes "TIME", Time) ∷ (codes "CHART", Chart)
+    ∷ (codes "FIN", Fin) ∷ []
+
+-- the first words of the other lines
+abbrev pub keywords : List (List ℕ × Kind)
+keywords =
+    (codes "START", kinds.Start) ∷ (codes "W", kinds.Word) ∷ (codes "BUDGET", kinds.Budget)
+    ∷ (codes "DELAY", kinds.Delay) ∷ (codes "SIGNAL", kinds.Signal) ∷ (codes "DUMP", kinds.Dump)
+    ∷ (codes "SNAP", kinds.Snap) ∷ (codes "BACK", kinds.Back) ∷ []
+
+-- what stands behind a first word
+abbrev pub item_behind : Kind → List ℕ → Option Item
+item_behind kinds.Start text = option_map (λ p. Start (2 * p.0 + p.1 / 32)) (numbers_in 46 text)
+item_behind kinds.Word text = word_in text
+item_behind kinds.Budget text = option_map (λ n. Budget n) (number_in text)
+item_behind kinds.Delay text = option_map (λ n. Delay n) (number_in text)
+item_behind kinds.Signal text = option_map (λ p. Signal p.0 p.1) (numbers_in 32 text)
+item_behind kinds.Dump text = option_map (λ p. Dump p.0 p.1) (numbers_in 32 text)
+item_behind kinds.Snap text = option_map (λ n. Snap n) (number_in text)
+item_behind kinds.Back text = option_map (λ n. Back n) (number_in text)
+
+-- what a line means if it is spelled so: leading zeros and other letters are not looked at here
+abbrev pub item_loosely : Option (List ℕ × List ℕ) → List ℕ → Option Item
+item_loosely None line = row_of line marks
+item_loosely (Some p) line = option_and_then (λ kind. item_behind kind p.1) (row_of p.0 keywords)
+
+-- an item, where the line is its spelling
+abbrev pub if_spelled : List ℕ → Item → Option Item
+if_spelled line item = if is_same (spelled item) line then Some item else None
+
+-- the item that a line spells
+abbrev pub item_in : List ℕ → Option Item
+item_in line = option_and_then (λ item. if_spelled line item) (item_loosely (parts_at 32 line) line)
+
+-- numbers that can be read: of 12 digits at most
+abbrev pub IsShort : ℕ → Type 0
+IsShort n = n ≤ 999999999999
+
+-- items that can be read
+abbrev pub IsItem : Item → Type 0
+IsItem Object = Unit {0}
+IsItem (Start h) = IsShort (h / 2)
+IsItem (Word w x) = IsShort w × (x < 2 ^ 64)
+IsItem (Budget n) = IsShort n
+IsItem (Delay n) = IsShort n
+IsItem (Signal c i) = IsShort c × IsShort i
+IsItem (Dump f t) = IsShort f × IsShort t
+IsItem Trace = Unit {0}
+IsItem Time = Unit {0}
+IsItem Chart = Unit {0}
+IsItem (Snap t) = IsShort t
+IsItem (Back k) = IsShort k
+IsItem Fin = Unit {0}

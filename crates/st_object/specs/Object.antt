@@ -1,0 +1,100 @@
+-- Object texts, what they hold, and the first bad line of a text that is none.
+use Rattle.std.specs.Prelude.{ℕ, ◌≡◌, ◌≤◌, ◌<◌, ◌+◌, ◌-◌, ◌^◌, true, false, List, [], ◌∷◌, ◌++◌, length, take, replicate, slice_index, Option, Some, is_some, unwrap_or, Result, Ok, Err, if◌then◌else◌}
+use Rattle.std.specs.List.{All, flat_map}
+use Rattle.std.specs.Option.{option_and_then, option_map_or}
+use Rattle.st_bits.specs.Storage.{words_of_storage}
+use Rattle.st_report.specs.Line.{lf}
+use Rattle.st_card.specs.Controls.{Asked}
+use Rattle.st_card.specs.Limits.{IsWithinLimits}
+use Rattle.st_card.specs.Pieces.{parted}
+use Rattle.st_object.specs.Lines.{text_of}
+use Rattle.st_object.specs.Draft.{Draft, blank, is_empty, lines_of, is_whole, with_item}
+use Rattle.st_object.specs.Meaning.{item_in}
+
+-- the words of storage, where the program starts, and what is asked for
+pub record Program : Type 0 where
+  pub words : List ℕ
+  pub start : ℕ
+  pub controls : Asked
+
+-- what an object text can hold
+pub record IsProgram (p : Program) : Type 0 where
+  pub whole : length p.words ≡ words_of_storage
+  pub registers : (w : ℕ) → w < 32 → slice_index p.words w ≡ 0
+  pub start : p.start < 2 ^ 19
+  pub limits : IsWithinLimits p.controls
+  pub budget : 1 ≤ p.controls.budget
+  pub delays : 1 ≤ length p.controls.delays
+  pub unlisted : p.controls.list ≡ false
+
+-- each word has 64 bits
+abbrev pub AreWords : List ℕ → Type 0
+AreWords words = All (λ x. x < 2 ^ 64) words
+
+-- the draft that is a whole program
+abbrev pub draft_of : Program → Draft
+draft_of p = record { begun = true; start = Some p.start; words = p.words; asked = p.controls; ended = true }
+
+-- the object text of a program
+abbrev pub object_text : Program → List ℕ
+object_text p = text_of (lines_of (draft_of p))
+
+-- words with zeros up to the end of storage
+abbrev pub filled_up : List ℕ → List ℕ
+filled_up words = words ++ replicate (words_of_storage - length words) 0
+
+-- the program that a draft is
+abbrev pub program_of : Draft → Program
+program_of d = record { words = filled_up d.words; start = unwrap_or d.start 0; controls = d.asked }
+
+-- the draft with a further line, where that line may follow
+abbrev pub with_line : Draft → List ℕ → Option Draft
+with_line d line = option_and_then (λ item. with_item d item) (item_in line)
+
+-- a text that ends here, where n is the number of the line behind its last
+abbrev pub finished : Draft → ℕ → Result Program ℕ
+finished d n = if is_whole d then Ok (program_of d) else Err n
+
+-- a text whose n-th line has no line end: it ends too early, where that line is not bad itself
+abbrev pub unended : Draft → ℕ → List ℕ → Result Program ℕ
+unended d n line = if is_some (with_line d line) then Err (n + 1) else Err n
+
+-- what stands behind the last line end
+abbrev pub end_of : Draft → ℕ → List ℕ → Result Program ℕ
+end_of d n rest = if is_empty rest then finished d n else unended d n rest
+
+-- the pieces of a text between its line ends, from the n-th on: the program, or the number of the bad line
+abbrev pub read_from : Draft → ℕ → List (List ℕ) → Result Program ℕ
+read_from d n [] = Err n
+read_from d n (rest ∷ []) = end_of d n rest
+read_from d n (line ∷ next ∷ more) =
+    option_map_or (λ e. read_from e (n + 1) (next ∷ more)) (with_line d line) (Err n)
+
+-- the program that a text holds, or the number of its bad line
+unfoldable pub read_text : List ℕ → Result Program ℕ
+read_text text = read_from blank 1 (parted 10 text)
+
+-- the lines of a text: what stands behind the last line end is a line too, where it is not empty
+abbrev pub lines_in : List (List ℕ) → List (List ℕ)
+lines_in [] = []
+lines_in (rest ∷ []) = if is_empty rest then [] else rest ∷ []
+lines_in (line ∷ next ∷ more) = line ∷ lines_in (next ∷ more)
+
+abbrev pub text_lines : List ℕ → List (List ℕ)
+text_lines text = lines_in (parted 10 text)
+
+-- the first n lines of a text, each with its line end
+abbrev pub first_lines : ℕ → List ℕ → List ℕ
+first_lines n text = flat_map (λ line. line ++ lf) (take n (text_lines text))
+
+-- a text that some object text begins with
+abbrev pub IsFront : List ℕ → Type 0
+IsFront front = (p : Program) × IsProgram p × AreWords p.words
+    × (rest : List ℕ) × (object_text p ≡ front ++ rest)
+
+-- the bad line of a text: the first after which the lines so far begin no object text; where the text
+-- ends too early, the line behind the last
+pub record IsBadLine (text : List ℕ) (n : ℕ) : Type 0 where
+  pub counted : (1 ≤ n) × (n ≤ length (text_lines text) + 1)
+  pub good_before : IsFront (first_lines (n - 1) text)
+  pub bad : n ≤ length (text_lines text) → IsFront (first_lines n text) → ⊥

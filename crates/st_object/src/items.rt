@@ -1,0 +1,32 @@
+//! What the lines of an object text say.
+
+// What a line says.
+#[derive(Clone, Copy)]
+pub(crate) enum Item {
+    Object,
+    Start(u64),
+    Word(u64, u64),
+    Budget(u64),
+    Delay(u64),
+    Signal(u64, u64),
+    Dump(u64, u64),
+    Trace,
+    Time,
+    Chart,
+    Snap(u64),
+    Back(u64),
+    Fin,
+}
+
+// What the first word of a line says of the numbers behind it.
+#[derive(Clone, Copy)]
+pub(crate) enum Kind {
+    Start,
+    Word,
+    Budget,
+    Delay,
+    Signal,
+    Dump,
+    Snap,
+    Back,
+}

@@ -1,0 +1,39 @@
+//! What holds of object texts themselves, and not of one call.
+
+ghost use Rattle.std.specs.Prelude.{◌≡◌, ℕ, List, [], ◌∷◌, ◌++◌, Some, Ok, Err};
+ghost use Rattle.st_object.specs.Lines.{spelled};
+ghost use Rattle.st_object.specs.Draft.{Draft, with_item, lines_of};
+ghost use Rattle.st_object.specs.Meaning.{item_in, IsItem};
+ghost use Rattle.st_object.specs.Object.{Program, IsProgram, AreWords, IsBadLine, object_text, read_text};
+ghost use Rattle.st_object.specs.declared.items.Item.{Item};
+
+/// A line is read as the item that it spells, and as no other.
+pub fn lines_are_read_back()
+    ensures again { (item : Item) → IsItem item → item_in (spelled item) ≡ Some item }
+    ensures same { (line : List ℕ) (item : Item) → item_in line ≡ Some item → spelled item ≡ line }
+{}
+
+/// A text that is read is the object text of the program that it holds, and that program is one that an object text
+/// can hold.
+pub fn accepted_texts_are_written()
+    ensures program { (text : List ℕ) (p : Program) → read_text text ≡ Ok p → IsProgram p }
+    ensures words { (text : List ℕ) (p : Program) → read_text text ≡ Ok p → AreWords p.words }
+    ensures same { (text : List ℕ) (p : Program) → read_text text ≡ Ok p → text ≡ object_text p }
+{}
+
+/// A line that may follow stands behind the lines before it.
+pub fn lines_are_kept()
+    ensures { (d e : Draft) (item : Item) → with_item d item ≡ Some e →
+        lines_of e ≡ lines_of d ++ item ∷ [] }
+{}
+
+/// The object text of a program is read as that program, so no two programs have one object text.
+pub fn written_texts_are_read_back()
+    ensures { (p : Program) → IsProgram p → AreWords p.words → read_text (object_text p) ≡ Ok p }
+{}
+
+/// A text that is refused has as its bad line the first after which its lines so far begin no object text, or where
+/// it ends too early the line behind its last.
+pub fn refused_texts_have_a_bad_line()
+    ensures { (text : List ℕ) (n : ℕ) → read_text text ≡ Err n → IsBadLine text n }
+{}

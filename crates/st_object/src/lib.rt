@@ -1,0 +1,19 @@
+//! Object texts: a program as text, and back. `docs/object-text.md` has the format.
+#![tactic(auto, using(st_bits::specs::Storage::words_of_storage_is))]
+
+mod drafts;
+mod images;
+mod items;
+mod laws;
+mod meaning;
+mod reading;
+mod spelling;
+mod writing;
+
+pub use images::Image;
+pub use laws::{
+    accepted_texts_are_written, lines_are_kept, lines_are_read_back, refused_texts_have_a_bad_line,
+    written_texts_are_read_back,
+};
+pub use reading::{ObjectError, read_object};
+pub use writing::write_object;

@@ -1,0 +1,152 @@
+//! What the lines of an object text mean.
+
+ghost use Rattle.std.specs.Prelude.{◌≡◌, ◌≤◌, ◌<◌, IfSome};
+ghost use Rattle.std.specs.Option.{option_map};
+ghost use Rattle.st_object.specs.Meaning as spec;
+ghost use Rattle.st_object.specs.declared.items.Kind.TheVariants as kinds;
+
+use crate::items::{Item, Kind};
+use crate::spelling::spelled;
+use st_card::{Reading, cut, read_number, row_of};
+
+// The lines that are one word.
+const MARKS: [(&[u8], Item); 5] = [
+    (b"OBJECT", Item::Object),
+    (b"TRACE", Item::Trace),
+    (b"TIME", Item::Time),
+    (b"CHART", Item::Chart),
+    (b"FIN", Item::Fin),
+];
+
+// The first words of the other lines.
+const KEYWORDS: [(&[u8], Kind); 8] = [
+    (b"START", Kind::Start),
+    (b"W", Kind::Word),
+    (b"BUDGET", Kind::Budget),
+    (b"DELAY", Kind::Delay),
+    (b"SIGNAL", Kind::Signal),
+    (b"DUMP", Kind::Dump),
+    (b"SNAP", Kind::Snap),
+    (b"BACK", Kind::Back),
+];
+
+// What stands before the first byte `at` of a text, and what stands behind it.
+fn parts_at(at: u8, text: &[u8]) -> Option<(&[u8], &[u8])>
+    ensures { option_map (λ p. (p.0.now, p.1.now)) result ≡ spec.parts_at at text.now }
+{
+    cut(text, at)
+}
+
+// The number that a text is, of 12 digits at most.
+fn number_in(text: &[u8]) -> Option<u64>
+    ensures value { result ≡ spec.number_in text.now }
+    ensures short { IfSome result (λ n. n ≤ 999999999999) }
+{
+    match read_number(text, 999_999_999_999) {
+        Reading::Good(number) => Some(number),
+        Reading::Large | Reading::Bad => None,
+    }
+}
+
+// Two numbers with a byte between them.
+fn numbers_in(at: u8, text: &[u8]) -> Option<(u64, u64)>
+    ensures value { result ≡ spec.numbers_in at text.now }
+    ensures short { IfSome result (λ p. p.0 ≤ 999999999999) }
+{
+    let (first, second) = parts_at(at, text)?;
+    Some((number_in(first)?, number_in(second)?))
+}
+
+// A hexadecimal digit.
+fn hex_digit_in(c: u8) -> u8
+    ensures value { result ≡ spec.hex_digit_in c }
+    ensures small { result < 16 }
+{
+    let digit = if c < b'A' {
+        c.saturating_sub(b'0')
+    } else {
+        c - 55
+    };
+    digit % 16
+}
+
+// The number that the last sixteen hexadecimal digits are.
+fn hex_in(text: &[u8]) -> u64
+    ensures { result ≡ spec.hex_after 0 text.now }
+{
+    let mut number = 0;
+    let mut rest = text;
+    'digits: while let [digit, after @ ..] = rest {
+        number = number % (1 << 60) * 16 + u64::from(hex_digit_in(*digit));
+        rest = after;
+    }
+    number
+}
+
+// A word of storage: its address and what it holds.
+fn word_in(text: &[u8]) -> Option<Item>
+    ensures { result ≡ spec.word_in text.now }
+{
+    let (address, word) = parts_at(b' ', text)?;
+    Some(Item::Word(number_in(address)?, hex_in(word)))
+}
+
+// A start as a half-word address.
+fn start_in(text: &[u8]) -> Option<Item>
+    ensures { result ≡ spec.item_behind kinds.Start text.now }
+{
+    let (word, bit) = numbers_in(b'.', text)?;
+    Some(Item::Start(2 * word + bit / 32))
+}
+
+fn signal_in(text: &[u8]) -> Option<Item>
+    ensures { result ≡ spec.item_behind kinds.Signal text.now }
+{
+    let (count, indicator) = numbers_in(b' ', text)?;
+    Some(Item::Signal(count, indicator))
+}
+
+fn dump_in(text: &[u8]) -> Option<Item>
+    ensures { result ≡ spec.item_behind kinds.Dump text.now }
+{
+    let (first, last) = numbers_in(b' ', text)?;
+    Some(Item::Dump(first, last))
+}
+
+// What stands behind a first word.
+fn item_behind(kind: Kind, text: &[u8]) -> Option<Item>
+    ensures { result ≡ spec.item_behind kind text.now }
+{
+    match kind {
+        Kind::Start => start_in(text),
+        Kind::Word => word_in(text),
+        Kind::Budget => Some(Item::Budget(number_in(text)?)),
+        Kind::Delay => Some(Item::Delay(number_in(text)?)),
+        Kind::Signal => signal_in(text),
+        Kind::Dump => dump_in(text),
+        Kind::Snap => Some(Item::Snap(number_in(text)?)),
+        Kind::Back => Some(Item::Back(number_in(text)?)),
+    }
+}
+
+// What a line means if it is spelled so.
+fn item_loosely(line: &[u8]) -> Option<Item>
+    ensures { result ≡ spec.item_loosely (spec.parts_at 32 line.now) line.now }
+{
+    match parts_at(b' ', line) {
+        None => row_of(&MARKS, line),
+        Some((word, rest)) => item_behind(row_of(&KEYWORDS, word)?, rest),
+    }
+}
+
+// The item that a line spells.
+pub(crate) fn item_in(line: &[u8]) -> Option<Item>
+    ensures { result ≡ spec.item_in line.now }
+{
+    let item = item_loosely(line)?;
+    if spelled(item).as_str().as_bytes() == line {
+        Some(item)
+    } else {
+        None
+    }
+}

@@ -1,0 +1,145 @@
+//! Reading an object text.
+
+ghost use Rattle.std.specs.Prelude.{◌≡◌, ◌+◌, ◌<◌, ◌^◌, length, IfOk, IfErr, Ok};
+ghost use Rattle.st_card.specs.declared.faults.Fault.TheVariants.{BadObjectCard};
+ghost use Rattle.st_object.specs.Draft.{IsDraft};
+ghost use Rattle.st_object.specs.Object as spec;
+ghost use Rattle.st_object.specs.Answers.{Settles, Explains, Gives, NamesBadLine};
+ghost use Rattle.st_object.specs.declared.reading.ObjectError.TheVariants as errors;
+
+use crate::drafts::{Draft, Outcome, fill_up};
+use crate::images::Image;
+use crate::meaning::item_in;
+use st_bits::WORDS;
+use st_card::{Fault, cut};
+use std::alloc::Global;
+
+/// Why a text was not read.
+#[derive(Clone, Copy, Debug, PartialEq, Eq)]
+pub enum ObjectError {
+    /// The text is no object text. `card` is the number of its bad line, counted from 1, and `fault`
+    /// says that it is a bad object card.
+    Refused { card: u32, fault: Fault },
+    /// There was no memory for what the text holds.
+    NoMemory,
+}
+
+// Adds a line, where it may follow.
+fn add_line(draft: &mut Draft, line: &[u8]) -> Outcome
+    ensures { Settles draft.new (spec.with_line draft.old line.now) result }
+{
+    match item_in(line) {
+        None => Outcome::Refused,
+        Some(item) => draft.add(item),
+    }
+}
+
+// The refusal of a line.
+fn refused(card: u32) -> ObjectError
+    ensures { result ≡ errors.Refused card BadObjectCard }
+{
+    ObjectError::Refused {
+        card,
+        fault: Fault::BadObjectCard,
+    }
+}
+
+// The program that a draft is.
+fn image_of(draft: Draft) -> Result<Image, ObjectError>
+    requires { IsDraft draft }
+    ensures { Gives (Ok (spec.program_of draft)) result }
+{
+    let Draft {
+        start,
+        mut words,
+        controls,
+        ..
+    } = draft;
+    if fill_up(&mut words, WORDS as usize).is_err() {
+        return Err(ObjectError::NoMemory);
+    }
+    Ok(Image {
+        words,
+        start: start.unwrap_or(0),
+        controls,
+    })
+}
+
+// A text that ends here, where `card` is the number of the line behind its last.
+fn finish(draft: Draft, card: u32) -> Result<Image, ObjectError>
+    requires { IsDraft draft }
+    ensures { Gives (spec.finished draft card) result }
+{
+    if !draft.is_whole() {
+        return Err(refused(card));
+    }
+    image_of(draft)
+}
+
+// A text whose last line has no line end.
+fn refuse_unended(draft: &mut Draft, card: u32, line: &[u8]) -> ObjectError
+    requires { card + 1 < 2 ^ 32 }
+    ensures { Explains (spec.unended draft.old card line.now) result }
+{
+    match add_line(draft, line) {
+        Outcome::Added => refused(card + 1),
+        Outcome::Refused => refused(card),
+        Outcome::NoMemory => ObjectError::NoMemory,
+    }
+}
+
+// What stands behind the last line end of a text.
+fn end_of(mut draft: Draft, card: u32, rest: &[u8]) -> Result<Image, ObjectError>
+    requires draft { IsDraft draft }
+    requires counted { card + 1 < 2 ^ 32 }
+    ensures { Gives (spec.end_of draft card rest.now) result }
+{
+    if rest.is_empty() {
+        return finish(draft, card);
+    }
+    Err(refuse_unended(&mut draft, card, rest))
+}
+
+// The program that a text holds.
+#[tactic(auto, unfolding(crate::specs::Object::read_text))]
+fn read(alloc: Global, text: &[u8]) -> Result<Image, ObjectError>
+    requires { length text.now < 2 ^ 32 }
+    ensures { Gives (spec.read_text text.now) result }
+{
+    let mut draft = Draft::new(alloc);
+    let mut card = 1;
+    let mut rest = text;
+    'lines: while let Some((line, after)) = cut(rest, b'\n') {
+        match add_line(&mut draft, line) {
+            Outcome::Added => {}
+            Outcome::Refused => return Err(refused(card)),
+            Outcome::NoMemory => return Err(ObjectError::NoMemory),
+        }
+        card += 1;
+        rest = after;
+    }
+    end_of(draft, card, rest)
+}
+
+/// The program that an object text holds.
+///
+/// A text that is no object text is refused, with its bad line: the first after which the lines so far begin no
+/// object text, or where the text ends too early the line behind its last. The other error is that memory ran out.
+/// `docs/object-text.md` has the format.
+pub fn read_object(alloc: Global, text: &[u8]) -> Result<Image, ObjectError>
+    requires { length text.now < 2 ^ 32 }
+    ensures ok { IfOk result (λ image. spec.read_text text.now ≡ Ok image) }
+    ensures err { IfErr result (Explains (spec.read_text text.now)) }
+
+    // What is read is within the limits, and the text is its object text.
+    ensures program { IfOk result (λ image. spec.IsProgram image) }
+    ensures same { IfOk result (λ image. text.now ≡ spec.object_text image) }
+
+    // The named line is the first bad one.
+    ensures first { IfErr result (NamesBadLine text.now) }
+{
+    read(alloc, text)
+}
+
+#[cfg(test)]
+mod tests;

@@ -1,0 +1,87 @@
+-- How many words an entry reads.
+use Rattle.std.proofs.Common.{ℕ, ◌+◌, ◌/◌, ◌%◌, ◌<◌, ◌≤◌, Bool, true, false, ◌==◌, if◌then◌else◌, List, length, Option, None, Some, arith}
+use Rattle.std.specs.Prelude.{IfSome, nat_le}
+use Rattle.st_format.specs.declared.instruction.Instr.{Instr}
+use Rattle.st_format.specs.declared.instruction.Instr.TheVariants.{Half, Branch, Floating, Vfl, Connect, Move, BitBranch, IndBranch, StoreCounter, Transfer, Invalid}
+use Rattle.st_state.specs.Machine.{Machine, IsMachine, word}
+use Rattle.st_prep.specs.declared.entries.Words.{Words}
+use Rattle.st_prep.specs.EarlyChange.{effective, side}
+use Rattle.st_prep.specs.Entry.{no_words, field_words, operand_words, words_read, reads_field, reads}
+use Rattle.st_prep.specs.Checks.{executed}
+use Rattle.st_prep.specs.Fetch.{index_words, place_of}
+use Rattle.st_prep.specs.Plan.{Sight, fault_of, needs_by, needs, suppressed, entry, prepared_by, prepared, sight, side_word, plan}
+use Rattle.st_prep.specs.Ranges.{HasFields}
+use Rattle.st_prep.specs.Reading.{words_read as instruction_words, reading, count_of}
+use Rattle.st_prep.proofs.Choices.{of_choice}
+use Rattle.st_prep.proofs.PlanLemmas.{sight-fits}
+use Rattle.st_prep.proofs.PreparedLemmas.{IsSight, executed-shape}
+use Rattle.st_prep.proofs.ReadingLemmas.{reading-few}
+
+-- so many operand words
+abbrev pub IsFew : ℕ → Words → Type 0
+IsFew n w = w.len + w.len2 ≤ n
+
+count-one : (o : Option ℕ) → count_of o ≤ 1
+count-one None = omega arith
+count-one (Some w) = omega arith
+
+few-field : (e n : ℕ) → IsFew 2 (field_words e n)
+unfolding field_words
+few-field e n =
+    of_choice (λ (m : ℕ). m + 0 ≤ 2) (nat_le (e % 64 + n) 64) 1 2 (omega arith) (omega arith)
+
+few-operand : (p e n : ℕ) → IsFew 2 (operand_words p e n)
+few-operand p e n = of_choice (IsFew 2) (p == 1) no_words (field_words e n) (omega arith) (few-field e n)
+
+few-move : (swap : Bool) (from to n : ℕ) → n ≤ 16 → IsFew 32 (words_read swap from to n)
+few-move false from to n few = omega arith
+few-move true from to n few = omega arith
+
+-- operands with the index-side word
+few-read : (x : List ℕ) (instr : Instr) (e : ℕ) → HasFields instr
+    → (reads instr e).len + (reads instr e).len2 + count_of (side x instr e) ≤ 32
+unfolding reads side
+few-read x (Half op a j i) e s = omega (arith, count-one (side x (Half op a j i) e))
+few-read x (Vfl op d u n p l b o a i) e s =
+    let few : IsFew 2 (if reads_field op then operand_words p e l else no_words) =
+    of_choice (IsFew 2) (reads_field op) (operand_words p e l) no_words (few-operand p e l) (omega arith) in
+    omega (arith, count-one (side x (Vfl op d u n p l b o a i) e))
+few-read x (Connect k t p l b o a i) e s =
+    let few : IsFew 2 (operand_words p e l) = few-operand p e l in
+    omega (arith, count-one (side x (Connect k t p l b o a i) e))
+few-read x (Move swap a i second n) e s =
+    let few : IsFew 32 (words_read swap (e / 64) (second / 2) n) = few-move swap (e / 64) (second / 2) n s.3 in
+    omega arith
+few-read x (Branch op a i) e s = omega arith
+few-read x (Floating n a i) e s = omega arith
+few-read x (BitBranch sense c a i second) e s = omega arith
+few-read x (IndBranch sense off a i second) e s = omega arith
+few-read x (StoreCounter a i second) e s = omega arith
+few-read x (Transfer w a i n) e s = omega arith
+few-read x (Invalid first second full) e s = omega arith
+
+few-by_fault : (f : Option ℕ) (s : Sight) (r : Option ℕ) → IsSight s
+    → (prepared_by f s r).reads.len + (prepared_by f s r).reads.len2 + count_of (needs_by f s).index_read ≤ 32
+unfolding entry suppressed
+few-by_fault None s r k =
+    few-read s.x (executed s.fetched) (effective s.x (executed s.fetched)) (executed-shape s.fetched k.fetched)
+few-by_fault (Some i) s r k = omega arith
+
+few-prepared : (s : Sight) (r : Option ℕ) → IsSight s
+    → (prepared s r).reads.len + (prepared s r).reads.len2 + count_of (needs s).index_read ≤ 32
+unfolding prepared needs
+few-prepared s r k = few-by_fault (fault_of s) s r k
+
+-- an entry of a state reads 36 words at most
+pub few-plan : (s : Machine) (t : Option ℕ) → IsMachine s → IfSome t (λ i. i < 64)
+    → length (instruction_words (reading (index_words s) (word s 3) s.enabled (place_of s t)) (word s))
+    + count_of (needs (sight s (place_of s t))).index_read + ((plan s t).reads.len + (plan s t).reads.len2) ≤ 36
+unfolding plan
+few-plan s t m some =
+    let p = place_of s t in
+    let v = sight s p in
+    omega (
+      arith,
+      few-prepared v (side_word t s (needs v).index_read) (sight-fits s t m some),
+      (reading-few (index_words s) (word s 3) s.enabled p (word s)).few,
+    )

@@ -1,0 +1,12 @@
+use Rattle.std.proofs.Common.{◌<◌, length, ap, sym, ◌∙◌, arith, rules}
+use Rattle.st_ring.proofs.Windows.{length-window, window-oldest}
+use Rattle.st_ring.proofs.ring.SpecRing.retire.Goals as goal
+
+pub returns-clause-level : goal.returns-clause-level
+returns-clause-level g c =
+    let q = c.self.inside in
+    let counted = length-window q.head q.slots c.self.invariant.inside (search rules) q.len (omega arith) in
+    let same = ap length c.self.view_is in
+    let some : 0 < q.len = omega (arith, counted, same) in
+    sym c.self.view_is
+    ∙ window-oldest q.head q.slots c.self.invariant.inside (search rules) q.len _ some (omega arith)

@@ -1,0 +1,12 @@
+use Rattle.std.proofs.Common.{◌≡◌, ◌+◌, ◌-◌, ap, sym, ◌∙◌, arith, rules}
+use Rattle.st_ring.specs.Slots.{window}
+use Rattle.st_ring.proofs.Windows.{window-youngest}
+use Rattle.st_ring.proofs.ring.SpecRing.take_youngest.Goals as goal
+
+pub returns-clause-level : goal.returns-clause-level
+returns-clause-level g c =
+    let q = c.self.inside in
+    let one_less : q.len ≡ q.len - 1 + 1 = omega arith in
+    sym c.self.view_is
+    ∙ (ap (λ n. window q.head n q.slots) one_less
+    ∙ window-youngest q.head q.slots c.self.invariant.inside (search rules) (q.len - 1) _ (omega arith))

@@ -1,0 +1,30 @@
+-- What levels make of the index words, and how that is undone.
+use Rattle.std.specs.Prelude.{◌≡◌, ℕ, List, [], ◌∷◌, slice_index, slice_set, Option, None, Some}
+use Rattle.st_prep.specs.EarlyChange.{words_after}
+use Rattle.st_prep.specs.declared.entries.IndexChange.{IndexChange}
+use Rattle.st_ring.specs.declared.level.Level.{Level}
+
+-- what levels, one after another, make of index words
+unfoldable pub made : List ℕ → List Level → List ℕ
+made x [] = x
+made x (level ∷ levels) = made (words_after x level.prepared.index) levels
+
+-- a change keeps the word that it replaces
+abbrev pub Keeps : List ℕ → Option IndexChange → Type 0
+Keeps x None = Unit {0}
+Keeps x (Some c) = slice_index x c.number ≡ c.kept
+
+-- each level keeps the word that it replaces of what the levels before it made
+unfoldable pub Kept : List ℕ → List Level → Type 0
+Kept x [] = Unit {0}
+Kept x (level ∷ levels) = Keeps x level.prepared.index × Kept (words_after x level.prepared.index) levels
+
+-- the word that a change replaced, put back
+abbrev pub put_back : List ℕ → Option IndexChange → List ℕ
+put_back x None = x
+put_back x (Some c) = slice_set x c.number c.kept
+
+-- the words that levels replaced, put back, that of the youngest first
+unfoldable pub unwound : List ℕ → List Level → List ℕ
+unwound x [] = x
+unwound x (level ∷ levels) = put_back (unwound x levels) level.prepared.index

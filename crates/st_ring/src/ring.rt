@@ -1,0 +1,143 @@
+ghost use Rattle.std.specs.Prelude.{◌≡◌, ℕ, ◌+◌, ◌<◌, ◌≤◌, List, [], ◌∷◌, ◌++◌, length, slice_get, slice_set, MatchOption, IfSome, Some};
+ghost use Rattle.st_ring.specs.declared.level.Level.{Level as Row};
+ghost use Rattle.st_ring.specs.Levels.{HasNumber, filled as filled_of};
+ghost use Rattle.st_ring.specs.Unwinding.{made, Kept, put_back as put_back_of, unwound};
+
+use crate::level::{Level, filled};
+use st_prep::IndexChange;
+use std::marker::Model;
+
+// How many levels there can be.
+const SLOTS: usize = 8;
+
+/// At most N levels, oldest first; N is 1 to 8.
+#[derive(Debug, Drop)]
+pub struct SpecRing<const N: usize> {
+    slots: [Level; SLOTS],
+    head: usize,
+    len: usize,
+}
+
+// Clauses see the levels, oldest first.
+impl<const N: usize> Model for SpecRing<N> {
+    ghost use Rattle.std.specs.Prelude.{List};
+    ghost use Rattle.st_ring.specs.declared.level.Level.{Level as Row};
+    ghost use Rattle.st_ring.specs.Slots.{window, IsRing};
+
+    ghost Value = { List Row };
+
+    ghost view = { λ ring. window ring.head ring.len ring.slots };
+
+    ghost invariant = { λ ring. IsRing N ring.head ring.len ring.slots };
+}
+
+impl<const N: usize> SpecRing<N> {
+    /// A ring without levels.
+    pub fn new() -> SpecRing<N>
+        requires some { 1 ≤ N }
+        requires few { N ≤ 8 }
+        ensures { result ≡ [] }
+    {
+        SpecRing {
+            slots: [Level::default(); SLOTS],
+            head: 0,
+            len: 0,
+        }
+    }
+
+    /// The number of levels.
+    pub fn len(&self) -> usize
+        ensures value { result ≡ length self.now }
+        ensures within { result ≤ N }
+    {
+        self.len
+    }
+
+    /// Appends a level, which is the youngest then. There is room, and the number of an index word that it
+    /// changes is below 16.
+    pub fn push(&mut self, level: Level)
+        requires room { length self.old < N }
+        requires number { HasNumber level }
+        ensures levels { self.new ≡ self.old ++ level ∷ [] }
+        ensures len { length self.new ≡ length self.old + 1 }
+    {
+        self.slots[(self.head + self.len) % SLOTS] = level;
+        self.len += 1;
+    }
+
+    /// Takes away the oldest level. There is one.
+    pub fn retire(&mut self) -> Level
+        requires { 0 < length self.old }
+        ensures level { self.old ≡ result ∷ self.new }
+        ensures len { length self.new + 1 ≡ length self.old }
+        ensures number { HasNumber result }
+    {
+        let oldest = self.slots[self.head];
+        self.head = (self.head + 1) % SLOTS;
+        self.len -= 1;
+        oldest
+    }
+
+    /// Level k, counted from the oldest, which is 0. There is one.
+    pub fn get(&self, k: usize) -> Level
+        requires { k < length self.now }
+        ensures level { slice_get self.now k ≡ Some result }
+        ensures number { HasNumber result }
+    {
+        self.slots[(self.head + k) % SLOTS]
+    }
+
+    /// Puts an operand word that came at a tick into a slot, 0 or 1, of level k, counted from the oldest. Its
+    /// tick r becomes this tick, unless it is later already.
+    pub fn fill(&mut self, k: usize, slot: u8, word: u64, tick: u64)
+        requires level { k < length self.old }
+        requires slot { slot < 2 }
+        ensures levels { (level : Row) → slice_get self.old k ≡ Some level
+            → self.new ≡ slice_set self.old k (filled_of level slot word tick) }
+        ensures len { length self.new ≡ length self.old }
+    {
+        let at = (self.head + k) % SLOTS;
+        self.slots[at] = filled(self.slots[at], slot, word, tick);
+    }
+
+    /// Puts the index words that the levels replaced back into `x`, that of the youngest level first; leaves no
+    /// level; and gives the number of levels that there were.
+    pub fn undo_into(&mut self, x: &mut [u64; 16]) -> u8
+        ensures words { x.new ≡ unwound x.old self.old }
+        ensures empty { self.new ≡ [] }
+        ensures count { result ≡ length self.old }
+
+        // Where each level kept the word that it replaced, the words from before all of them stand there again.
+        ensures first_words { (first : List ℕ) → Kept first self.old → x.old ≡ made first self.old
+            → x.new ≡ first }
+    {
+        let undone = self.len as u8;
+        'levels: while let Some(level) = self.take_youngest() {
+            put_back(x, level.prepared.index);
+        }
+        undone
+    }
+
+    // Takes away the youngest level, if there is one.
+    fn take_youngest(&mut self) -> Option<Level>
+        ensures level { MatchOption result ((self.old ≡ []) × (self.new ≡ []))
+            (λ level. self.old ≡ self.new ++ level ∷ []) }
+        ensures number { IfSome result HasNumber }
+    {
+        if self.len == 0 {
+            return None;
+        }
+        self.len -= 1;
+        Some(self.slots[(self.head + self.len) % SLOTS])
+    }
+}
+
+// Puts the word that a change replaced back.
+fn put_back(x: &mut [u64; 16], change: Option<IndexChange>)
+    requires { IfSome change (λ c. c.number < 16) }
+    ensures { x.new ≡ put_back_of x.old change }
+{
+    if let Some(change) = change {
+        x[change.number as usize] = change.kept;
+    }
+}

@@ -1,0 +1,60 @@
+-- What the parts of a statement keep: the widths of their places in an instruction.
+use Rattle.std.specs.Prelude.{ℕ, ◌<◌, ◌≤◌, ◌^◌, IsFalse, Option, None, Some}
+use Rattle.st_format.specs.Operations.{writes_field}
+use Rattle.st_format.specs.Validity.{misfits, misuses_p}
+use Rattle.st_format.specs.declared.operations.FullOp.TheVariants.{Variable, Connective}
+use Rattle.st_strap.specs.declared.statement.Form.{Form}
+use Rattle.st_strap.specs.declared.statement.Spot.{Spot}
+use Rattle.st_strap.specs.declared.statement.Statement.{Statement}
+use Rattle.st_strap.specs.declared.statement.Statement.TheVariants.{Half, Sum, Refill, Branch, Floating, Vfl, Connect, Move, BitBranch, IndBranch, StoreCounter, Transfer, Data, IndexWord, Synonym, SetLocation, Reserve, End}
+
+-- a field has 1 to 64 bits in bytes of 1 to 8
+pub record IsForm (form : Form) : Type 0 where
+  pub some_bits : 1 ≤ form.length
+  pub few_bits : form.length ≤ 64
+  pub some_byte : 1 ≤ form.byte
+  pub small_byte : form.byte ≤ 8
+  pub p_fits : form.p < 8
+
+-- and one of binary or decimal numbers fits its bytes
+pub record IsNumberForm (form : Form) : Type 0 where
+  pub sizes : IsForm form
+  pub fits : IsFalse (misfits form.decimal form.unsigned form.length form.byte)
+
+-- an index part is 0 where there is none, else that of an index word
+abbrev pub IsSpot : Spot → Type 0
+IsSpot at = at.index < 16
+
+abbrev pub IsSpotOrNone : Option Spot → Type 0
+IsSpotOrNone None = Unit {0}
+IsSpotOrNone (Some at) = IsSpot at
+
+-- what each statement that was read keeps
+abbrev pub IsWellFormed : Statement → Type 0
+IsWellFormed (Half op j at) = (j < 16) × IsSpot at
+IsWellFormed (Sum j listed) = j < 16
+IsWellFormed (Refill j) = j < 16
+IsWellFormed (Branch op at) = IsSpotOrNone at
+IsWellFormed (Floating number at) = (number < 16) × IsSpot at
+IsWellFormed (Vfl op negated form at offset) =
+    IsNumberForm form × IsSpot at
+    × IsFalse (misuses_p (writes_field (Variable op)) form.p form.length at.index)
+IsWellFormed (Connect kind truth form at offset) =
+    IsForm form × IsSpot at × (truth < 16)
+    × IsFalse (misuses_p (writes_field (Connective kind)) form.p form.length at.index)
+IsWellFormed (Move swap at second count) = IsSpot at
+IsWellFormed (BitBranch sense change at second) = IsSpot at × (change < 4)
+IsWellFormed (IndBranch sense off at second) = IsSpot at
+IsWellFormed (StoreCounter at second) = IsSpot at
+IsWellFormed (Transfer write at count) = IsSpot at
+IsWellFormed (Data form minus number) = IsNumberForm form
+IsWellFormed (IndexWord value count refill flags) = Unit {0}
+IsWellFormed (Synonym at) = Unit {0}
+IsWellFormed (SetLocation at) = Unit {0}
+IsWellFormed (Reserve at) = Unit {0}
+IsWellFormed (End at) = Unit {0}
+
+-- a card without a statement keeps this of itself
+abbrev pub IsWellFormedIfAny : Option Statement → Type 0
+IsWellFormedIfAny None = Unit {0}
+IsWellFormedIfAny (Some s) = IsWellFormed s
