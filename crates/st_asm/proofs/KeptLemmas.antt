@@ -27,7 +27,7 @@ use Rattle.st_strap.specs.declared.statement.Statement.{Statement}
 use Rattle.st_strap.proofs.StatementLemmas.{read-is, read-named}
 use Rattle.st_asm.specs.Pass.{Refusal, onward, pass, unless_faulty, then_for}
 use Rattle.st_asm.specs.Lines.{name_field, statement_field, name_in, silent, saying}
-use Rattle.st_asm.specs.Forming.{Found, unread, is_built, general_fault, with_line, with_statement, with_asked, with_end, is_end, form_control, form_statement, form_kind, form_card, form_pass}
+use Rattle.st_asm.specs.Forming.{Found, unread, is_built, first_fault_of, with_line, with_statement, with_asked, with_end, is_end, form_control, form_statement, form_kind, form_card, form_pass}
 use Rattle.st_asm.specs.Symbols.{table}
 use Rattle.st_asm.specs.Values.{wrapped, values_of}
 use Rattle.st_asm.specs.Checks.{value_fault}
@@ -131,7 +131,7 @@ form-numbers : (job : List ℕ) (s : Found) (card : Card) →
     IfOk (form_card job s card) (λ t. cards_in t.lines ≡ cards_in s.lines ++ card.number ∷ [])
 unfolding form_card
 form-numbers job s card =
-    ok-unless (λ t. cards_in t.lines ≡ cards_in s.lines ++ card.number ∷ []) (general_fault card.fault)
+    ok-unless (λ t. cards_in t.lines ≡ cards_in s.lines ++ card.number ∷ []) (first_fault_of card.kind card.fault)
     (form_kind card.kind s card.number card.fault (text_in job card))
     (form_kind-numbers s card.number card.fault (text_in job card) card.kind)
 
@@ -215,7 +215,7 @@ form_kind-kept s card fault text StatementCard is =
 form-kept : (job : List ℕ) (s : Found) (card : Card) → IsDeck s → IfOk (form_card job s card) IsDeck
 unfolding form_card
 form-kept job s card is =
-    ok-unless IsDeck (general_fault card.fault) (form_kind card.kind s card.number card.fault (text_in job card))
+    ok-unless IsDeck (first_fault_of card.kind card.fault) (form_kind card.kind s card.number card.fault (text_in job card))
     (form_kind-kept s card.number card.fault (text_in job card) card.kind is)
 
 unread-limits : IsWithinLimits nothing

@@ -6,3 +6,4 @@ pub mod FieldLemmas
 pub mod FaultLemmas
 pub mod KeptLemmas
 pub mod ImageLemmas
+pub mod FaultlessLemmas

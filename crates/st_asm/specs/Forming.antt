@@ -34,11 +34,17 @@ unread = record { ended = false; asked = nothing; lines = [] }
 unfoldable pub is_built : Asked → Bool
 is_built asked = not asked.time && not asked.chart && length asked.snaps == 0 && asked.back == 0
 
--- the faults that count on any card, whatever its kind: all that a card has by itself but a bad column 1
-abbrev pub general_fault : Option Fault → Option Fault
-general_fault None = None
-general_fault (Some BadName) = None
-general_fault (Some fault) = Some fault
+-- the faults of a statement card that count also behind the end: all that it has by itself but a bad column 1
+abbrev pub before_end : Option Fault → Option Fault
+before_end None = None
+before_end (Some BadName) = None
+before_end (Some fault) = Some fault
+
+-- the faults that a card has by itself and that count first
+abbrev pub first_fault_of : CardKind → Option Fault → Option Fault
+first_fault_of Comment fault = fault
+first_fault_of Control fault = fault
+first_fault_of StatementCard fault = before_end fault
 
 -- whether a statement is the end
 abbrev pub is_end : Statement → Bool
@@ -85,7 +91,7 @@ form_kind StatementCard found card fault text = form_statement found card fault 
 
 -- what a card does
 unfoldable pub form_card : List ℕ → Found → Card → Result Found Fault
-form_card job found card = unless_faulty (general_fault card.fault)
+form_card job found card = unless_faulty (first_fault_of card.kind card.fault)
     (form_kind card.kind found card.number card.fault (text_in job card))
 
 -- what is left of the form pass over so many cards: a job without an end is refused at the card

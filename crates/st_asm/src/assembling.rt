@@ -1,6 +1,6 @@
 //! A job assembled.
 
-ghost use Rattle.std.specs.Prelude.{◌≡◌, ◌<◌, ◌≤◌, ◌^◌, ℕ, All, IfOk, IfErr, OnErr, length, slice_index, [], ◌∷◌, ◌==◌, if◌then◌else◌};
+ghost use Rattle.std.specs.Prelude.{◌≡◌, ◌<◌, ◌≤◌, ◌^◌, ℕ, All, None, IfOk, IfErr, OnErr, length, slice_index, [], ◌∷◌, ◌==◌, if◌then◌else◌};
 ghost use Rattle.st_card.specs.Cards.{cards_of};
 ghost use Rattle.st_card.specs.Limits.{IsWithinLimits};
 ghost use Rattle.st_asm.specs.Answers.{Explains};
@@ -48,6 +48,9 @@ pub fn assemble(alloc: Global, job: &[u8]) -> Result<Assembled, AsmError>
 
     // A row for each card, and what the machine asks of an image, a start and controls.
     ensures sound { IfOk result (λ a. IsSound (length (cards_of job.now)) (spec.shown a)) }
+
+    // No card has a fault by itself, so each text can be printed.
+    ensures faultless { IfOk result (λ a. All (λ card. card.fault ≡ None) (cards_of job.now)) }
 {
     let Ok(cards) = split(alloc, job) else {
         return Err(AsmError::NoMemory);

@@ -81,7 +81,7 @@ fn add_card(deck: &mut Deck, job: &[u8], card: Card) -> Result<(), Stop>
         ≡ Ok (spec.found_in deck.new)) }
     ensures err { IfErr result (Stops (spec.form_card job.now (spec.found_in deck.old) card)) }
 {
-    if let Some(fault) = general_fault(card.fault) {
+    if let Some(fault) = first_fault_of(card.kind, card.fault) {
         return Err(Stop::Faulty(fault));
     }
     let text = card.text(job);
@@ -92,9 +92,20 @@ fn add_card(deck: &mut Deck, job: &[u8], card: Card) -> Result<(), Stop>
     }
 }
 
-// The fault that counts on any card, whatever its kind.
-fn general_fault(fault: Option<Fault>) -> Option<Fault>
-    ensures { result ≡ spec.general_fault fault }
+// The fault that a card has by itself and that counts first: a bad column 1 of a statement card does not, behind
+// the end.
+fn first_fault_of(kind: CardKind, fault: Option<Fault>) -> Option<Fault>
+    ensures { result ≡ spec.first_fault_of kind fault }
+{
+    match kind {
+        CardKind::Comment | CardKind::Control => fault,
+        CardKind::Statement => before_end(fault),
+    }
+}
+
+// The fault of a statement card that counts also behind the end.
+fn before_end(fault: Option<Fault>) -> Option<Fault>
+    ensures { result ≡ spec.before_end fault }
 {
     match fault {
         Some(Fault::BadName) => None,

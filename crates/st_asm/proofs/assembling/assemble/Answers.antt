@@ -12,6 +12,7 @@ use Rattle.st_asm.specs.Symbols.{table}
 use Rattle.st_asm.specs.Sound.{IsLine, IsLocation, IsSound}
 use Rattle.st_asm.specs.declared.line.Line.{Line}
 use Rattle.st_asm.proofs.KeptLemmas.{few-cards, form_pass-deck, name_pass-named, together-sound}
+use Rattle.st_asm.proofs.FaultlessLemmas.{form_pass-faultless}
 use Rattle.st_asm.proofs.assembling.assemble.Goals as goal
 
 pub form_pass-requires-clause-few : goal.form_pass-requires-clause-few
@@ -65,3 +66,9 @@ returns-clause-sound c =
     } in
     subst (λ (asked : Asked). IsSound (length (cards_of c.args.job.now)) (assembled asked))
     (sym c.in_ok-controls.ensures.defaults) sound
+
+pub returns-clause-faultless : goal.returns-clause-faultless
+returns-clause-faultless c =
+    let formed = ap (λ (cs : List Card). form_pass c.args.job.now cs) (sym (c.as_slice.ensures.value ∙ c.in-Ok.ensures.cards))
+    ∙ c.in_ok-deck.ensures.ok in
+    form_pass-faultless c.args.job.now (cards_of c.args.job.now) (found_in c.in_ok-deck.deck) formed
