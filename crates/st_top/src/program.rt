@@ -3,6 +3,7 @@ ghost use Rattle.std.specs.List.{AllPass};
 ghost use Rattle.std.specs.String.{string_bytes};
 ghost use Rattle.st_asm.specs.Assembly.{shown};
 ghost use Rattle.st_asm.specs.Sound.{IsSound, IsSymbol};
+ghost use Rattle.st_card.specs.Cards.{cards_of};
 ghost use Rattle.st_card.specs.Faults.{name_of};
 ghost use Rattle.st_card.specs.Limits.{is_part};
 ghost use Rattle.st_exec.specs.Run.{run as run_from};
@@ -135,7 +136,8 @@ fn answer_run<K: Sink>(
 /// Runs a job that is assembled from its start, and writes the listing and the report.
 fn execute<K: Sink>(alloc: Global, job: &[u8], program: &Assembled, out: &mut K) -> Answer
     requires short { length job.now < 2 ^ 32 }
-    requires sound { IsSound job.now (shown program.now) }
+    requires sound { IsSound (length (cards_of job.now)) (shown program.now) }
+    requires good { All (λ card. card.fault ≡ None) (cards_of job.now) }
     ensures writes { Writes result.status (K.output out.old) (K.output out.new)
         (output_by job.now (Ok (shown program.now))) result }
     ensures ticks { result.ticks ≡ 0 }
