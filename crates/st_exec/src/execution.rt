@@ -35,7 +35,7 @@ pub fn read_operands(words: Words, state: &State) -> [u64; 32]
     ensures { AreOperands words result state.now }
 {
     let mut operands = [0; 32];
-    for k in 0..32 {
+    for k in 0..words.len + words.len2 {
         operands[k as usize] = operand_at(words, k, state);
     }
     operands
@@ -51,6 +51,3 @@ pub fn execute(table: Option<u8>, state: &mut State)
     let operands = read_operands(p.reads, state);
     complete(&p, &operands, state);
 }
-
-#[cfg(test)]
-mod tests;

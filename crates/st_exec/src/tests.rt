@@ -2,9 +2,13 @@ ghost use Rattle.std.specs.Prelude.{◌≡◌, ℕ, length, slice_index, IfOk};
 
 use super::*;
 use st_bits::WORDS;
-use st_state::State;
+use st_state::{Order, State};
 use std::alloc::{AllocError, Global};
+use std::process::Abort;
 use std::test::Fail;
+
+mod jobs;
+mod operations;
 
 /// `LVI,$X1,100.0` in a left half, and `BEW` in a right one.
 const LOAD: u64 = 0x0019_0300_0000_0000;
@@ -28,6 +32,26 @@ fn opened(alloc: Global) -> Result<State, Fail>
         return Err(Fail::from(AllocError));
     };
     Ok(state)
+}
+
+/// A state with these words in storage, and the counter at 32.0.
+fn holding(rt: &impl Abort, alloc: Global, words: &[(u32, u64)]) -> Result<State, Fail> {
+    let mut state = opened(alloc)?;
+    for (w, word) in words {
+        assert!(rt; *w < WORDS);
+        state.store(*w, *word);
+    }
+    Ok(state)
+}
+
+/// The word that is listed for the word address `w`.
+fn listed(words: &[(u32, u64)], w: u32) -> Option<u64> {
+    for (v, word) in words {
+        if *v == w {
+            return Some(*word);
+        }
+    }
+    None
 }
 
 #[test]
@@ -86,5 +110,37 @@ fn what_is_not_executed_turns_on_one_indicator(rt: HostRuntime) -> Result<(), Fa
         assert_eq!(rt; state.word(11), indicators, "at {ic}");
         assert_eq!(rt; (state.ic, state.done), (after, 1));
     }
+    Ok(())
+}
+
+#[test]
+fn the_reader_stores_a_card_or_tells_that_it_has_none(rt: HostRuntime) -> Result<(), Fail> {
+    let mut state = opened(rt.alloc())?;
+    let order = Some(Order { word: 50, due: 0 });
+    state.reader = order;
+    read_in(&mut state, Some([1, 2, 3, 4, 5, 6, 7, 8]));
+    assert_eq!(rt; state.reader, None);
+    assert_eq!(rt; (state.word(50), state.word(57), state.word(58)), (1, 8, 0));
+    assert_eq!(rt; state.word(11), 0x0008_0000_0000_0000, "EOP");
+
+    state.reader = order;
+    read_in(&mut state, None);
+    assert_eq!(rt; state.reader, None);
+    assert_eq!(rt; (state.word(50), state.word(57)), (1, 8));
+    assert_eq!(rt; state.word(11), 0x0018_0000_0000_0000, "EOP and EE");
+    Ok(())
+}
+
+#[test]
+fn the_printer_takes_eight_words(rt: HostRuntime) -> Result<(), Fail> {
+    let mut state = opened(rt.alloc())?;
+    state.store(49, 9);
+    state.store(50, 1);
+    state.store(57, 8);
+    state.store(58, 9);
+    state.printer = Some(Order { word: 50, due: 0 });
+    assert_eq!(rt; print_out(&mut state), [1, 0, 0, 0, 0, 0, 0, 8]);
+    assert_eq!(rt; state.printer, None);
+    assert_eq!(rt; state.word(11), 0x0008_0000_0000_0000, "EOP");
     Ok(())
 }

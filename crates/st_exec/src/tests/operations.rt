@@ -1,52 +1,25 @@
-ghost use Rattle.std.specs.Prelude.{◌≡◌, ℕ, length, slice_index, IfOk};
-
-use super::*;
+//! Each group of operations, from words to words.
+use super::holding;
+use crate::{Step, one};
 use st_bits::WORDS;
-use st_state::Order;
-use std::alloc::{AllocError, Global};
+use st_state::{Order, State};
+use std::alloc::Global;
 use std::process::Abort;
 use std::test::Fail;
 
-/// A list of `n` words with no bit that is one.
-fn zeros(alloc: Global, n: usize) -> Result<Vec<u64>, AllocError>
-    ensures size { IfOk result (λ v. length v.items ≡ n) }
-    ensures zeros { IfOk result (λ v. (w : ℕ) → slice_index v.items w ≡ 0) }
-{
-    vec![in alloc; 0; n]
-}
-
-/// A state with blank storage and the counter at 32.0.
-fn opened(alloc: Global) -> Result<State, Fail> {
-    let image = zeros(alloc, WORDS as usize)?;
-    let Ok(state) = State::new(alloc, &image, 64) else {
-        return Err(Fail::from(AllocError));
-    };
-    Ok(state)
-}
-
-/// A state with these words in storage, and the counter at 32.0.
-fn holding(rt: &impl Abort, alloc: Global, words: &[(u32, u64)]) -> Result<State, Fail> {
-    let mut state = opened(alloc)?;
-    for (w, word) in words {
-        assert!(rt; *w < WORDS);
-        state.store(*w, *word);
-    }
-    Ok(state)
-}
-
-/// Executes the next entries.
-fn run(rt: &impl Abort, state: &mut State, entries: u64) {
-    for _ in 0..entries {
+/// Makes the next steps, none of them an interrupt or a wait.
+fn run(rt: &impl Abort, state: &mut State, steps: u64) {
+    for _ in 0..steps {
         assert!(rt; state.done < 1000);
-        execute(None, state);
+        assert_eq!(rt; one(state), Step::Plain);
     }
 }
 
-/// Words before, how many entries are executed, and the counter and words after.
+/// Words before, how many steps are made, and the counter and words after.
 struct Row {
     card: &'static str,
     before: &'static [(u32, u64)],
-    entries: u64,
+    steps: u64,
     ic: u32,
     after: &'static [(u32, u64)],
 }
@@ -59,7 +32,7 @@ const FIELDS: [Row; 9] = [
             (100, 1),
             (101, 0xFFFF_FFFF_FFFF_FFFE),
         ],
-        entries: 1,
+        steps: 1,
         ic: 66,
         after: &[
             (8, 0x8000_0000_0000_0000),
@@ -76,7 +49,7 @@ const FIELDS: [Row; 9] = [
             (100, 1),
             (101, 0xFFFF_FFFF_FFFF_FFFE),
         ],
-        entries: 2,
+        steps: 2,
         ic: 68,
         after: &[(8, 0), (9, 0), (11, 0x0000_0300_0000_0040)],
     },
@@ -84,7 +57,7 @@ const FIELDS: [Row; 9] = [
     Row {
         card: "M+1(BU,64),31.32, a register and a word",
         before: &[(32, 0xFFFF_FFFF_0000_0000), (33, 0x0007_E0F0_0000_04B0)],
-        entries: 2,
+        steps: 2,
         ic: 68,
         after: &[(31, 1), (32, 0), (11, 0x0001_0000_0000_0120)],
     },
@@ -95,14 +68,14 @@ const FIELDS: [Row; 9] = [
             (33, 0x000C_C0F0_0000_0540),
             (50, 7),
         ],
-        entries: 2,
+        steps: 2,
         ic: 68,
         after: &[(8, 0), (9, 7), (11, 0x0000_0080_0000_0020), (13, 0)],
     },
     Row {
         card: "/(DU,64),50.0",
         before: &[(32, 0x000C_80F0_0040_0D40), (50, 0x42)],
-        entries: 1,
+        steps: 1,
         ic: 66,
         after: &[(9, 0), (11, 0x0000_0000_0080_0020), (15, 0x42)],
     },
@@ -115,7 +88,7 @@ const FIELDS: [Row; 9] = [
             (50, 0x9999_9999_9999_9999),
             (51, 0x1000_0000_0000_0000),
         ],
-        entries: 3,
+        steps: 3,
         ic: 70,
         after: &[(8, 0), (9, 0), (11, 0x0000_0200_0000_0040)],
     },
@@ -126,7 +99,7 @@ const FIELDS: [Row; 9] = [
             (33, 0x000C_80F0_0080_1600),
             (50, 0x8000_0000_0000_0000),
         ],
-        entries: 2,
+        steps: 2,
         ic: 68,
         after: &[
             (7, 0x0000_0100_0000_0000),
@@ -137,7 +110,7 @@ const FIELDS: [Row; 9] = [
     Row {
         card: "+(BU,24)(IM),0.5",
         before: &[(32, 0x0000_05F0_2C00_0470)],
-        entries: 1,
+        steps: 1,
         ic: 66,
         after: &[(9, 5), (11, 0x0000_0000_0000_0020)],
     },
@@ -145,7 +118,7 @@ const FIELDS: [Row; 9] = [
     Row {
         card: "L(BU,64)(V+I),1.0($X1)",
         before: &[(32, 0x0000_40F1_4000_0410), (17, 0x0004_4000_0000_0000)],
-        entries: 1,
+        steps: 1,
         ic: 66,
         after: &[
             (9, 0x0004_8000_0000_0000),
@@ -159,7 +132,7 @@ const OTHERS: [Row; 13] = [
     Row {
         card: "T,50.0,51.0,2",
         before: &[(32, 0x000C_80F0_000C_C182), (50, 7)],
-        entries: 1,
+        steps: 1,
         ic: 66,
         after: &[(11, 0), (50, 7), (51, 7), (52, 7)],
     },
@@ -172,49 +145,49 @@ const OTHERS: [Row; 13] = [
             (52, 3),
             (53, 4),
         ],
-        entries: 1,
+        steps: 1,
         ic: 66,
         after: &[(50, 3), (51, 4), (52, 1), (53, 2)],
     },
     Row {
         card: "BB0V,50.0,34.0 on a zero",
         before: &[(32, 0x000C_80F0_0008_87A0)],
-        entries: 1,
+        steps: 1,
         ic: 68,
         after: &[(11, 0), (50, 0x8000_0000_0000_0000)],
     },
     Row {
         card: "BB0V,50.0,34.0 on a one",
         before: &[(32, 0x000C_80F0_0008_87A0), (50, 0xFFFF_FFFF_FFFF_FFFF)],
-        entries: 1,
+        steps: 1,
         ic: 66,
         after: &[(50, 0x7FFF_FFFF_FFFF_FFFF)],
     },
     Row {
         card: "SIC,34.0,34.0",
         before: &[(32, 0x0008_80F0_0008_81E0), (34, 0x0000_0170_0000_0000)],
-        entries: 1,
+        steps: 1,
         ic: 68,
         after: &[(34, 0x0008_4170_0000_0000)],
     },
     Row {
         card: "and then B,33.0, which it left at 34.0",
         before: &[(32, 0x0008_80F0_0008_81E0), (34, 0x0000_0170_0000_0000)],
-        entries: 2,
+        steps: 2,
         ic: 66,
         after: &[(34, 0x0008_4170_0000_0000)],
     },
     Row {
         card: "BI0Z,$EOP,33.0 with EOP off",
         before: &[(32, 0x0002_CCF0_0008_45B0)],
-        entries: 1,
+        steps: 1,
         ic: 66,
         after: &[(11, 0)],
     },
     Row {
         card: "BI0Z,$EOP,40.0 with EOP on",
         before: &[(32, 0x0002_CCF0_000A_05B0), (11, 0x0008_0000_0000_0001)],
-        entries: 1,
+        steps: 1,
         ic: 66,
         after: &[(11, 1)],
     },
@@ -225,7 +198,7 @@ const OTHERS: [Row; 13] = [
             (32, 0x000C_8250_0000_0000),
             (50, 0xFFFF_FFFF_FFFF_FFFF),
         ],
-        entries: 1,
+        steps: 1,
         ic: 65,
         after: &[(11, 0), (50, 0x0123_4567_89AB_CDEF)],
     },
@@ -236,7 +209,7 @@ const OTHERS: [Row; 13] = [
             (32, 0x000C_8260_0000_0000),
             (50, 0xFFFF_FFFF_FFFF_FFFF),
         ],
-        entries: 1,
+        steps: 1,
         ic: 65,
         after: &[(50, 0x0123_457F_FFFF_FFFF)],
     },
@@ -247,7 +220,7 @@ const OTHERS: [Row; 13] = [
             (32, 0x000C_8270_0000_0000),
             (50, 0xFFFF_FFFF_FFFF_FFFF),
         ],
-        entries: 1,
+        steps: 1,
         ic: 65,
         after: &[(50, 0xFFFF_FFF7_89AB_FFFF)],
     },
@@ -258,7 +231,7 @@ const OTHERS: [Row; 13] = [
             (32, 0x000C_8280_0000_0000),
             (50, 0xFFFF_FFFF_FFFF_FFFF),
         ],
-        entries: 1,
+        steps: 1,
         ic: 65,
         after: &[(50, 0xFFFF_FFFF_FFFF_CDEF)],
     },
@@ -269,23 +242,18 @@ const OTHERS: [Row; 13] = [
             (32, 0x000C_A290_0000_0000),
             (50, 0xFFFF_FFFF_FFFF_FFFF),
         ],
-        entries: 1,
+        steps: 1,
         ic: 65,
         after: &[(50, 0xFFFF_FFFF_0123_5FFF)],
     },
 ];
 
-/// Executes the rows, each from a state of its own.
+/// Makes the steps of the rows, each from a state of its own.
 fn check_rows(rt: &impl Abort, alloc: Global, rows: &[Row]) -> Result<(), Fail> {
     for row in rows {
         let mut state = holding(rt, alloc, row.before)?;
-        run(rt, &mut state, row.entries);
-        assert_eq!(rt;
-            (state.ic, state.done),
-            (row.ic, row.entries),
-            "{}",
-            row.card
-        );
+        run(rt, &mut state, row.steps);
+        assert_eq!(rt; (state.ic, state.done), (row.ic, row.steps), "{}", row.card);
         for (w, word) in row.after {
             assert!(rt; *w < WORDS);
             assert_eq!(rt; state.word(*w), *word, "word {w} after {}", row.card);
@@ -357,8 +325,9 @@ fn an_interrupt_is_taken_before_its_instruction(rt: HostRuntime) -> Result<(), F
     ];
     let mut state = holding(&rt, rt.alloc(), &words)?;
     state.waiting = true;
+    state.enabled = true;
     assert!(rt; state.done < 1000);
-    execute(Some(13), &mut state);
+    assert_eq!(rt; one(&mut state), Step::Interrupt { indicator: 13 });
     assert_eq!(rt; state.word(9), 0x0001_0000_0000_0000);
     assert_eq!(rt; state.word(11), 0x0001_0000_0000_0020);
     assert_eq!(rt; (state.ic, state.waiting, state.done), (64, false, 1));
