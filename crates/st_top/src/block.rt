@@ -46,11 +46,11 @@ fn write_memory<K: Sink>(out: &mut K, state: &State, w: u32) -> Result<(), Faile
     requires { w < 98304 }
     ensures { WritesLines (K.output out.old) (K.output out.new) (memory_lines state.now w) result }
 {
-    let word = state.word(w);
-    if word == 0 {
+    let content = state.word(w);
+    if content == 0 {
         return Ok(());
     }
-    put(out, &line_mem(w, word))
+    put(out, &line_mem(w, content))
 }
 
 /// Writes the lines of the words from `first` to `last` that are not zero.
