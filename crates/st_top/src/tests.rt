@@ -1,0 +1,42 @@
+//! The whole program over sources and sinks in memory, against reports that were worked out by hand or by an
+//! independent model of the machine.
+use super::*;
+use st_io::{MemSink, MemSource, SureSink, SureSource};
+use std::alloc::Global;
+use std::test::Fail;
+
+mod decks;
+mod devices;
+mod refusals;
+mod reports;
+
+/// The words of a command line.
+fn owned(alloc: Global, line: &[&str]) -> Result<Vec<String>, Fail> {
+    let mut words = Vec::new(alloc);
+    for word in line {
+        words.push(String::from_str(alloc, word)?)?;
+    }
+    Ok(words)
+}
+
+/// Runs a job over a source and a sink that do not fail: the answer, and what was written.
+fn run_surely(alloc: Global, job: Vec<u8>) -> Result<(Answer, Option<Vec<u8>>), Fail> {
+    let words = owned(alloc, &["run"])?;
+    let mut out = SureSink::new(Vec::with_capacity(alloc, 4000)?);
+    let answer = stretch(alloc, &words, &mut SureSource::new(job), &mut out);
+    Ok((answer, out.into_bytes()))
+}
+
+/// Runs a job where the read and the write with these numbers fail, from 1 on.
+fn run_failing(
+    alloc: Global,
+    job: Vec<u8>,
+    read: u32,
+    write: u32,
+) -> Result<(Answer, MemSink), Fail> {
+    let words = owned(alloc, &["run"])?;
+    let mut job = MemSource::new(job, [read].to_vec(alloc)?);
+    let mut out = MemSink::new(Vec::with_capacity(alloc, 4000)?, [write].to_vec(alloc)?);
+    let answer = stretch(alloc, &words, &mut job, &mut out);
+    Ok((answer, out))
+}

@@ -1,0 +1,177 @@
+//! Jobs that are refused, with the line that says so.
+use super::Case;
+
+/// Refused at a card, for a reason that stays.
+pub const REFUSED: [Case; 12] = [
+    Case {
+        shows: "the empty job has no END",
+        job: "",
+        report: "CARD 1 NO END
+",
+    },
+    Case {
+        shows: "a name that stands on an earlier card",
+        job: " ABCDEFGHNOP
+ ABCDEFGHNOP
+         END,32.0
+",
+        report: "CARD 2 NAME TWICE
+",
+    },
+    Case {
+        shows: "a fault of form comes before an undefined name on an earlier card",
+        job: "         NOP
+         NOP
+         B,FAR
+         NOP
+         NOP
+         NOP
+         NOP
+         NOP
+         QQ
+         END,32.0
+",
+        report: "CARD 9 UNKNOWN OPERATION
+",
+    },
+    Case {
+        shows: "a name that no card defines",
+        job: "         B,FAR
+         END,32.0
+",
+        report: "CARD 1 UNDEFINED SYMBOL
+",
+    },
+    Case {
+        shows: "a fault of names comes before a value on an earlier card",
+        job: "         L(BU,1),0.1-0.2
+         B,FAR
+         END,32.0
+",
+        report: "CARD 2 UNDEFINED SYMBOL
+",
+    },
+    Case {
+        shows: "a card of 81 characters",
+        job: "         LVI,$X1,100.0                                                           
+         BEW
+         END,32.0
+",
+        report: "CARD 1 CARD TOO LONG
+",
+    },
+    Case {
+        shows: "a job that is cut within an operation",
+        job: "         LVI,$X1,100.0
+         BE",
+        report: "CARD 2 BAD FIELD COUNT
+",
+    },
+    Case {
+        shows: "a job that is cut within its END",
+        job: "         LVI,$X1,100.0
+         BEW
+         EN",
+        report: "CARD 3 UNKNOWN OPERATION
+",
+    },
+    Case {
+        shows: "a bell character",
+        job: "         LVI,$X1,100.0
+         B\x07EW
+         END,32.0
+",
+        report: "CARD 2 NOT ASCII
+",
+    },
+    Case {
+        shows: "a signal past the highest indicator",
+        job: "         LVI,$X1,100.0
+         BEW
+         END,32.0
+/SIGNAL 5 14
+",
+        report: "CARD 4 BAD CONTROL CARD
+",
+    },
+    Case {
+        shows: "more steps back than there may be",
+        job: "         LVI,$X1,100.0
+         BEW
+         END,32.0
+/BACK 65
+",
+        report: "CARD 4 BAD CONTROL CARD
+",
+    },
+    Case {
+        shows: "a listing is not written of a job that is refused",
+        job: "         QQ
+         END,32.0
+/LIST
+",
+        report: "CARD 1 UNKNOWN OPERATION
+",
+    },
+];
+
+/// Refused as long as what they ask for is not built.
+pub const UNBUILT: [Case; 6] = [
+    Case {
+        shows: "ticks",
+        job: "         LVI,$X1,100.0
+         BEW
+         END,32.0
+/TIME
+",
+        report: "CARD 4 NOT YET BUILT
+",
+    },
+    Case {
+        shows: "a chart",
+        job: "         LVI,$X1,100.0
+         BEW
+         END,32.0
+/CHART
+",
+        report: "CARD 4 NOT YET BUILT
+",
+    },
+    Case {
+        shows: "snapshots",
+        job: "         LVI,$X1,100.0
+         BEW
+         END,32.0
+/SNAP 26
+",
+        report: "CARD 4 NOT YET BUILT
+",
+    },
+    Case {
+        shows: "stepping back",
+        job: "         LVI,$X1,100.0
+         BEW
+         END,32.0
+/BACK 1
+",
+        report: "CARD 4 NOT YET BUILT
+",
+    },
+    Case {
+        shows: "ticks, before an undefined name on an earlier card",
+        job: "         B,FAR
+         END,32.0
+/TIME
+",
+        report: "CARD 3 NOT YET BUILT
+",
+    },
+    Case {
+        shows: "ticks that are asked for before END",
+        job: "/TIME
+         END,32.0
+",
+        report: "CARD 1 BAD CONTROL CARD
+",
+    },
+];
