@@ -13,3 +13,6 @@ mod scene;
 pub use answer::{Answer, Status};
 pub use command::Command;
 pub use program::stretch;
+
+#[cfg(test)]
+mod tests;
