@@ -1,16 +1,18 @@
 -- What the answer of a run says of its output.
 use Rattle.std.proofs.Common.{◌≡◌, ℕ, List, sym, ◌∙◌, ap, subst}
 use Rattle.std.specs.Prelude.{Result, Ok, Err, OnOk, OnErr}
-use Rattle.st_io.specs.Output.{OutputState}
+use Rattle.st_io.specs.Output.{OutputState, Wrote}
 use Rattle.st_io.specs.declared.Failed.{Failed}
+use Rattle.st_lines.specs.Lines.{text}
 use Rattle.st_lines.specs.Event.{StoppedAt}
+use Rattle.st_lines.proofs.Writing.{wrote_at_moment}
 use Rattle.st_asm.specs.Assembly.{Assembly}
 use Rattle.st_state.specs.Machine.{Machine, opening}
 use Rattle.st_exch.specs.Reader.{reader_cards}
 use Rattle.st_exec.specs.Run.{Signal, Scene, run}
 use Rattle.st_top.specs.Signals.{signals_of}
 use Rattle.st_top.specs.Listing.{listing}
-use Rattle.st_top.specs.Output.{Output, output_of_run, output_by, start_of, run_of}
+use Rattle.st_top.specs.Output.{Output, lines_alone, output_of_run, ran_by, start_of, run_of}
 use Rattle.st_top.specs.Answers.{WroteAll, Writes}
 use Rattle.st_top.specs.Running.{WritesEvents}
 use Rattle.st_top.specs.declared.answer.Answer.{Answer}
@@ -27,7 +29,7 @@ writes_run s t output last m answer (Ok x) status done ticks w count none good b
     subst (λ st. Writes st s t output answer) (sym good) all
 writes_run s t output last m answer (Err x) status done ticks w count none good bad =
     let stopped : StoppedAt s t output.events answer.done answer.ticks =
-        subst (λ k. StoppedAt s t output.events answer.done k) (sym none) (subst (λ n. StoppedAt s t output.events n 0) (sym count) w.stopped) in
+    subst (λ k. StoppedAt s t output.events answer.done k) (sym none) (subst (λ n. StoppedAt s t output.events n 0) (sym count) w.stopped) in
     subst (λ st. Writes st s t output answer) (sym bad) stopped
 
 -- a scene is the start of a run where its parts are
@@ -39,9 +41,15 @@ start_is job a m signals cards p q r =
     ap with_machine p ∙ (ap with_signals q ∙ ap with_cards r)
 
 -- its output is that of the job
-pub output_is : (job : List ℕ) (a : Assembly) (c : Scene) → c ≡ start_of job a → output_of_run (listing job a) a.asked (run a.asked.budget c) ≡ output_by job (Ok a)
+pub output_is : (job : List ℕ) (a : Assembly) (c : Scene) → c ≡ start_of job a → output_of_run (listing job a) a.asked (run a.asked.budget c) ≡ ran_by job (Ok a)
 unfolding run_of
 output_is job a c e = ap (λ k. output_of_run (listing job a) a.asked (run a.asked.budget k)) e
 
 pub writes_output : (s t : OutputState) (output other : Output) (answer : Answer) → output ≡ other → Writes answer.status s t output answer → Writes answer.status s t other answer
 writes_output s t output other answer e h = subst (λ o. Writes answer.status s t o answer) e h
+
+-- lines that belong to no moment of a run are all written
+pub wrote_alone : (s t : OutputState) (ls : List (List ℕ)) (answer : Answer) → Wrote s t (text ls) → answer.status ≡ Done → answer.done ≡ 0 → answer.ticks ≡ 0 → Writes answer.status s t (lines_alone Done ls) answer
+wrote_alone s t ls answer w good done ticks =
+    let all : WroteAll s t (lines_alone Done ls) answer = record { status = good; wrote = wrote_at_moment s t 0 0 ls w; done = done; ticks = ticks } in
+    subst (λ st. Writes st s t (lines_alone Done ls) answer) (sym good) all

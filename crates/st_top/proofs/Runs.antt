@@ -140,7 +140,7 @@ run_ends s t u v asked all left b c rest x r e f h l w z =
     let scene : Scene = record { machine = m; signals = []; cards = [] } in
     end_written s u v asked all m rest r last left_over
     (stage_lines u v asked (record { scene = scene; happened = Ends m rest ∷ [] }) scene (lines_at asked (Ends m rest)) r
-        (sym (append-nil (at_moment m.done 0 (lines_at asked (Ends m rest))))) refl z)
+    (sym (append-nil (at_moment m.done 0 (lines_at asked (Ends m rest))))) refl z)
 
 -- the run goes on: the writing stops in a step
 goes_on_left : (s t u : OutputState) (asked : Asked) (all : List Event) (left : ℕ) (b c : Scene) (x : Unit {0}) → left ≢ 0 → rests c.machine ≡ false → EventsSoFar s t all (report asked (run left b).happened) → WritesReached t u asked (settled b) c (Ok x) → EventsSoFar s u all (report asked (stepping c).happened ++ report asked (run (left - 1) (stepped c)).happened)
@@ -148,7 +148,7 @@ goes_on_left s t u asked all left b c x some f h w =
     let here : (settled b).scene ≡ c = sym w.scene in
     let on : run left b ≡ goes_on (settled b) (run (left - 1) (stepped (settled b).scene)) = run-goes_on left b some (ap (λ d. rests d.machine) here ∙ f) in
     let more : (run left b).happened ≡ (settled b).happened ++ (happens c.machine ++ (run (left - 1) (stepped c)).happened) =
-        ap (λ k. k.happened) on ∙ ap (λ d. (settled b).happened ++ (happens d.machine ++ (run (left - 1) (stepped d)).happened)) here in
+    ap (λ k. k.happened) on ∙ ap (λ d. (settled b).happened ++ (happens d.machine ++ (run (left - 1) (stepped d)).happened)) here in
     subst (EventsSoFar s u all) (report-append asked (happens c.machine) (run (left - 1) (stepped c)).happened)
     (after_settle s t u asked all (run left b) b c (happens c.machine ++ (run (left - 1) (stepped c)).happened) x more h w)
 

@@ -225,7 +225,7 @@ executing c = record { scene = stepped c; happened = Executes (step c.machine) (
 pub trace_stage : (s u : OutputState) (asked : Asked) (b c : Scene) (a : ℕ) (trace : Bool) (q : Result (Unit {0}) Failed) → c ≡ stepped b → a ≡ address b.machine → trace ≡ asked.trace → WritesLines s u (trace_lines trace c.machine a) q → WritesReached s u asked (executing b) c q
 trace_stage s u asked b c a trace q same here e h =
     let lines : trace_lines trace c.machine a ≡ trace_lines asked.trace (step b.machine) (address b.machine) =
-        ap (λ t. trace_lines t c.machine a) e ∙ (ap (λ d. trace_lines asked.trace d.machine a) same ∙ ap (trace_lines asked.trace (step b.machine)) here) in
+    ap (λ t. trace_lines t c.machine a) e ∙ (ap (λ d. trace_lines asked.trace d.machine a) same ∙ ap (trace_lines asked.trace (step b.machine)) here) in
     let moment : c.machine.done ≡ (step b.machine).done = ap (λ d. d.machine.done) same in
     stage_lines s u asked (executing b) c (trace_lines trace c.machine a) q
     (ap (λ d. at_moment d 0 (trace_lines trace c.machine a)) moment

@@ -38,26 +38,28 @@ Writes JobTooLong before after output answer = ⊥
 Writes ReadFault before after output answer = ⊥
 
 -- a job was read whole, and its output written
-pub record WroteOutput (status : Status) (input input' : InputState) (before after : OutputState) (answer : Answer) : Type 0 where
+pub record WroteOutput (command : Command) (status : Status) (input input' : InputState) (before after : OutputState)
+    (answer : Answer) : Type 0 where
   pub job : List ℕ
   pub read : CameWhole input input' job_limit job
-  pub written : Writes status before after (output_of job) answer
+  pub written : Writes status before after (output_of command job) answer
 
 -- what a command that reads a job did to its source and its sink, by the status
-abbrev pub Did : Status → InputState → InputState → OutputState → OutputState → Answer → Type 0
-Did Done input input' before after answer = WroteOutput Done input input' before after answer
-Did Refused input input' before after answer = WroteOutput Refused input input' before after answer
-Did WriteFault input input' before after answer = WroteOutput WriteFault input input' before after answer
-Did JobTooLong input input' before after answer =
+abbrev pub Did : Command → Status → InputState → InputState → OutputState → OutputState → Answer → Type 0
+Did command Done input input' before after answer = WroteOutput command Done input input' before after answer
+Did command Refused input input' before after answer = WroteOutput command Refused input input' before after answer
+Did command WriteFault input input' before after answer =
+    WroteOutput command WriteFault input input' before after answer
+Did command JobTooLong input input' before after answer =
     CamePast input input' job_limit × (input'.faults ≡ input.faults) × (after ≡ before) × NothingRan answer
-Did ReadFault input input' before after answer =
+Did command ReadFault input input' before after answer =
     CameWithin input input' job_limit × HasRisen input.faults input'.faults × (after ≡ before) × NothingRan answer
-Did NoMemory input input' before after answer =
+Did command NoMemory input input' before after answer =
     CameWithin input input' job_limit × (input'.faults ≡ input.faults) × (after ≡ before) × NothingRan answer
-Did Usage input input' before after answer = ⊥
+Did command Usage input input' before after answer = ⊥
 
 -- what a call did, by the meaning of its words: words that mean nothing touch neither source nor sink
 abbrev pub IsAnswer : Option Command → InputState → InputState → OutputState → OutputState → Answer → Type 0
 IsAnswer None input input' before after answer =
     (answer.status ≡ Usage) × (input' ≡ input) × (after ≡ before) × NothingRan answer
-IsAnswer (Some command) input input' before after answer = Did answer.status input input' before after answer
+IsAnswer (Some command) input input' before after answer = Did command answer.status input input' before after answer

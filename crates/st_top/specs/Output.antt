@@ -1,4 +1,4 @@
--- What the program writes for a job.
+-- What the program writes for a command and a job.
 use Rattle.std.specs.Prelude.{ℕ, List, [], ◌∷◌, ◌++◌, Result, Ok, Err}
 use Rattle.st_card.specs.Controls.{Asked}
 use Rattle.st_card.specs.Faults.{name_of}
@@ -12,8 +12,11 @@ use Rattle.st_report.specs.Line.{fault_line}
 use Rattle.st_top.specs.Signals.{signals_of}
 use Rattle.st_top.specs.Listing.{listing}
 use Rattle.st_top.specs.Report.{report}
+use Rattle.st_top.specs.ObjectText.{program_in, object_lines}
 use Rattle.st_top.specs.declared.answer.Status.{Status}
 use Rattle.st_top.specs.declared.answer.Status.TheVariants.{Done, Refused}
+use Rattle.st_top.specs.declared.command.Command.{Command}
+use Rattle.st_top.specs.declared.command.Command.TheVariants.{Run, Assemble}
 
 -- the status, the lines, the number of instructions done and the tick of the last completion
 pub record Output : Type 0 where
@@ -22,14 +25,13 @@ pub record Output : Type 0 where
   pub done : ℕ
   pub ticks : ℕ
 
+-- lines that belong to no moment of a run
+abbrev pub lines_alone : Status → List (List ℕ) → Output
+lines_alone status lines = record { status = status; events = at_moment 0 0 lines; done = 0; ticks = 0 }
+
 -- the output of a job that is refused at a card
 abbrev pub refused : Refusal → Output
-refused r = record {
-  status = Refused;
-  events = at_moment 0 0 (fault_line r.card (name_of r.fault) ∷ []);
-  done = 0;
-  ticks = 0;
-}
+refused r = lines_alone Refused (fault_line r.card (name_of r.fault) ∷ [])
 
 -- the start of a run: the machine, the signals that are asked for, and the cards of the reader
 abbrev pub start_of : List ℕ → Assembly → Scene
@@ -52,10 +54,17 @@ output_of_run listed asked r = record {
   ticks = 0;
 }
 
-abbrev pub output_by : List ℕ → Result Assembly Refusal → Output
-output_by job (Ok a) = output_of_run (listing job a) a.asked (run_of job a)
-output_by job (Err r) = refused r
+-- the output of `run`, by what a job gives
+abbrev pub ran_by : List ℕ → Result Assembly Refusal → Output
+ran_by job (Ok a) = output_of_run (listing job a) a.asked (run_of job a)
+ran_by job (Err r) = refused r
 
--- the output of a job
-unfoldable pub output_of : List ℕ → Output
-output_of job = output_by job (assembly job)
+-- the output of `assemble`, by what a job gives: its object text, line by line
+abbrev pub assembled_by : Result Assembly Refusal → Output
+assembled_by (Ok a) = lines_alone Done (object_lines (program_in a))
+assembled_by (Err r) = refused r
+
+-- the output of a command on a job
+unfoldable pub output_of : Command → List ℕ → Output
+output_of Run job = ran_by job (assembly job)
+output_of Assemble job = assembled_by (assembly job)

@@ -7,6 +7,8 @@ ghost use Rattle.st_top.specs.Command.{command_of};
 pub enum Command {
     /// Read a job, run it and write its report.
     Run,
+    /// Read a job, assemble it and write its object text.
+    Assemble,
 }
 
 /// The command that the words are; None where they mean nothing.
@@ -15,6 +17,7 @@ pub fn read_words(words: &[String]) -> Option<Command>
 {
     match words {
         [word] if word.as_str() == "run" => Some(Command::Run),
+        [word] if word.as_str() == "assemble" => Some(Command::Assemble),
         _ => None,
     }
 }

@@ -1,17 +1,20 @@
 //! The program: the words of a command line, a job's bytes in and a report's lines out. `stretch` carries what
-//! the whole program promises. `docs/machine.md` and `docs/report.md` have the rules.
+//! the whole program promises. `docs/machine.md`, `docs/report.md` and `docs/object-text.md`
+//! have the rules.
 #![tactic(auto, using(st_bits::specs::Storage::words_of_storage_is))]
 
 mod answer;
 mod block;
 mod command;
 mod listing;
+mod objects;
 mod program;
 mod running;
 mod scene;
 
 pub use answer::{Answer, Status};
 pub use command::Command;
+pub use objects::lines_are_the_object_text;
 pub use program::stretch;
 
 #[cfg(test)]

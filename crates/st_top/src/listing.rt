@@ -20,11 +20,19 @@ fn write_row<K: Sink>(out: &mut K, job: &[u8], row: Listed, card: Card) -> Resul
     ensures { WritesLines (K.output out.old) (K.output out.new) (row_line job.now row card ∷ []) result }
 {
     let text = card.text(job);
-    put(out, &line_listed(row.card, row.location, row.bits, row.length, text))
+    put(
+        out,
+        &line_listed(row.card, row.location, row.bits, row.length, text),
+    )
 }
 
 /// Writes the lines of cards, each by its row.
-fn write_rows<K: Sink>(out: &mut K, job: &[u8], rows: &[Listed], cards: &[Card]) -> Result<(), Failed>
+fn write_rows<K: Sink>(
+    out: &mut K,
+    job: &[u8],
+    rows: &[Listed],
+    cards: &[Card],
+) -> Result<(), Failed>
     requires rows { All IsRow rows.now }
     requires texts { All (IsCardOf job.now) cards.now }
     requires good { All (λ card. card.fault ≡ None) cards.now }

@@ -11,16 +11,18 @@ ghost use Rattle.st_lines.specs.Event.{at_moment};
 ghost use Rattle.st_lines.specs.Lines.{WritesLines};
 ghost use Rattle.st_report.specs.Line.{fault_line};
 ghost use Rattle.st_top.specs.Command.{command_of};
+ghost use Rattle.st_top.specs.declared.command.Command.TheVariants.{Run, Assemble};
 ghost use Rattle.st_top.specs.Listing.{HasCards, listing};
 ghost use Rattle.st_top.specs.Report.{report};
 ghost use Rattle.st_top.specs.Running.{WritesEvents};
-ghost use Rattle.st_top.specs.Output.{refused, output_by, output_of_run, output_of};
+ghost use Rattle.st_top.specs.Output.{refused, ran_by, output_of_run, output_of};
 ghost use Rattle.st_top.specs.Answers.{Writes, Did, IsAnswer};
 
 use crate::answer::{Answer, Status};
 use crate::block::put;
 use crate::command::{Command, read_words};
 use crate::listing::write_listing;
+use crate::objects::{answer_object, image_of};
 use crate::running::run;
 use crate::scene::Scene;
 use st_asm::{AsmError, Assembled, assemble};
@@ -72,7 +74,7 @@ fn write_output<K: Sink>(
     requires parts { AllPass is_part program.now.controls.dumps }
     ensures { WritesEvents (K.output out.old) (K.output out.new)
         (at_moment 0 0 (listing job.now (shown program.now))
-            ++ report program.now.controls (run_from program.now.controls.budget scene.old).happened)
+        ++ report program.now.controls (run_from program.now.controls.budget scene.old).happened)
         (run_from program.now.controls.budget scene.old).last scene.new.machine result }
 {
     write_listing(out, job, cards, program)?;
@@ -126,7 +128,7 @@ fn answer_run<K: Sink>(
     requires parts { AllPass is_part program.now.controls.dumps }
     ensures writes { Writes result.status (K.output out.old) (K.output out.new)
         (output_of_run (listing job.now (shown program.now)) program.now.controls
-            (run_from program.now.controls.budget scene.old)) result }
+        (run_from program.now.controls.budget scene.old)) result }
     ensures ticks { result.ticks ≡ 0 }
 {
     let written = write_output(out, job, cards, program, scene);
@@ -139,7 +141,7 @@ fn execute<K: Sink>(alloc: Global, job: &[u8], program: &Assembled, out: &mut K)
     requires sound { IsSound (length (cards_of job.now)) (shown program.now) }
     requires good { All (λ card. card.fault ≡ None) (cards_of job.now) }
     ensures writes { Writes result.status (K.output out.old) (K.output out.new)
-        (output_by job.now (Ok (shown program.now))) result }
+        (ran_by job.now (Ok (shown program.now))) result }
     ensures ticks { result.ticks ≡ 0 }
 {
     let Ok(cards) = split(alloc, job) else {
@@ -157,9 +159,9 @@ fn execute<K: Sink>(alloc: Global, job: &[u8], program: &Assembled, out: &mut K)
 
 /// Assembles a job and runs it, or refuses it.
 #[tactic(auto, unfolding(crate::specs::Output::output_of))]
-fn answer_job<K: Sink>(alloc: Global, job: &[u8], out: &mut K) -> Answer
+fn run_job<K: Sink>(alloc: Global, job: &[u8], out: &mut K) -> Answer
     requires { length job.now < 2 ^ 32 }
-    ensures writes { Writes result.status (K.output out.old) (K.output out.new) (output_of job.now) result }
+    ensures writes { Writes result.status (K.output out.old) (K.output out.new) (output_of Run job.now) result }
     ensures ticks { result.ticks ≡ 0 }
 {
     match assemble(alloc, job) {
@@ -169,22 +171,49 @@ fn answer_job<K: Sink>(alloc: Global, job: &[u8], out: &mut K) -> Answer
     }
 }
 
-/// Reads a job, and answers it.
-fn run_job<S: Source, K: Sink>(alloc: Global, job: &mut S, out: &mut K) -> Answer
-    ensures did { Did result.status (S.input job.old) (S.input job.new) (K.output out.old) (K.output out.new) result }
+/// Assembles a job and writes its object text, or refuses it.
+#[tactic(auto, unfolding(crate::specs::Output::output_of))]
+fn assemble_job<K: Sink>(alloc: Global, job: &[u8], out: &mut K) -> Answer
+    requires { length job.now < 2 ^ 32 }
+    ensures writes { Writes result.status (K.output out.old) (K.output out.new) (output_of Assemble job.now) result }
+    ensures ticks { result.ticks ≡ 0 }
+{
+    match assemble(alloc, job) {
+        Ok(program) => answer_object(alloc, &image_of(program), out),
+        Err(AsmError::Refused { card, fault }) => refuse(out, card, fault),
+        Err(AsmError::NoMemory) => Answer::without_run(Status::NoMemory),
+    }
+}
+
+/// Does what a command asks for on a job that was read.
+fn answer_job<K: Sink>(alloc: Global, command: Command, job: &[u8], out: &mut K) -> Answer
+    requires { length job.now < 2 ^ 32 }
+    ensures writes { Writes result.status (K.output out.old) (K.output out.new) (output_of command job.now) result }
+    ensures ticks { result.ticks ≡ 0 }
+{
+    match command {
+        Command::Run => run_job(alloc, job, out),
+        Command::Assemble => assemble_job(alloc, job, out),
+    }
+}
+
+/// Reads a job, and does what a command asks for.
+fn answer<S: Source, K: Sink>(alloc: Global, command: Command, job: &mut S, out: &mut K) -> Answer
+    ensures did { Did command result.status
+        (S.input job.old) (S.input job.new) (K.output out.old) (K.output out.new) result }
     ensures ticks { result.ticks ≡ 0 }
 {
     match read_all(alloc, job, JOB_LIMIT) {
-        Ok(text) => answer_job(alloc, text.as_slice(), out),
+        Ok(text) => answer_job(alloc, command, text.as_slice(), out),
         Err(ReadError::TooLong) => Answer::without_run(Status::JobTooLong),
         Err(ReadError::Failed) => Answer::without_run(Status::ReadFault),
         Err(ReadError::NoMemory) => Answer::without_run(Status::NoMemory),
     }
 }
 
-/// Does what the words of the command line, after the program's name, ask for: `run` reads a job of at most
-/// 2,000,000 bytes, assembles it, runs it and writes its report, a line at a time. All memory is taken before
-/// the first line is written.
+/// Does what the words of the command line, after the program's name, ask for, on a job of at most 2,000,000
+/// bytes. `run` assembles it, runs it and writes its report; `assemble` assembles it and writes its object text.
+/// Each line is written by itself, and all memory is taken before the first one.
 pub fn stretch<S: Source, K: Sink>(
     alloc: Global,
     words: &[String],
@@ -202,7 +231,7 @@ pub fn stretch<S: Source, K: Sink>(
     ensures bound { (delay : ℕ) → 1 ≤ delay → result.ticks ≤ 64 * (delay + 4) * (result.done + 1) }
 {
     match read_words(words) {
-        Some(Command::Run) => run_job(alloc, job, out),
+        Some(command) => answer(alloc, command, job, out),
         None => Answer::without_run(Status::Usage),
     }
 }

@@ -34,7 +34,12 @@ fn write_taken<K: Sink>(out: &mut K, state: &State, i: u8) -> Result<(), Failed>
 }
 
 /// Writes the lines of the interrupt by the indicator `i`, before it goes off.
-fn write_interrupt<K: Sink>(out: &mut K, state: &State, i: u8, controls: &Controls) -> Result<(), Failed>
+fn write_interrupt<K: Sink>(
+    out: &mut K,
+    state: &State,
+    i: u8,
+    controls: &Controls,
+) -> Result<(), Failed>
     requires { AllPass is_part controls.now.dumps }
     ensures { WritesLines (K.output out.old) (K.output out.new) (lines_at controls.now (Interrupts state.now i)) result }
 {
@@ -44,7 +49,11 @@ fn write_interrupt<K: Sink>(out: &mut K, state: &State, i: u8, controls: &Contro
 
 /// Writes the lines of the interrupt that the next step takes, if it takes one.
 #[tactic(auto, using(st_lines::proofs::Progress::wrote_nothing))]
-fn write_next_interrupt<K: Sink>(out: &mut K, state: &State, controls: &Controls) -> Result<(), Failed>
+fn write_next_interrupt<K: Sink>(
+    out: &mut K,
+    state: &State,
+    controls: &Controls,
+) -> Result<(), Failed>
     requires { AllPass is_part controls.now.dumps }
     ensures { WritesLines (K.output out.old) (K.output out.new)
         (lines_by controls.now (interrupt_of state.now) state.now) result }
@@ -84,7 +93,12 @@ fn write_ended<K: Sink>(out: &mut K, rests: bool) -> Result<(), Failed>
 }
 
 /// Writes the lines of the end, at rest or with the budget used up.
-fn write_end<K: Sink>(out: &mut K, state: &State, rests: bool, controls: &Controls) -> Result<(), Failed>
+fn write_end<K: Sink>(
+    out: &mut K,
+    state: &State,
+    rests: bool,
+    controls: &Controls,
+) -> Result<(), Failed>
     requires { AllPass is_part controls.now.dumps }
     ensures { WritesLines (K.output out.old) (K.output out.new) (lines_at controls.now (Ends state.now rests)) result }
 {
@@ -120,7 +134,12 @@ fn write_interrupts<K: Sink>(out: &mut K, scene: &Scene, controls: &Controls) ->
 }
 
 /// Writes the line of the instruction that was done last, where a trace is asked for.
-fn write_executed<K: Sink>(out: &mut K, scene: &Scene, address: u32, controls: &Controls) -> Result<(), Failed>
+fn write_executed<K: Sink>(
+    out: &mut K,
+    scene: &Scene,
+    address: u32,
+    controls: &Controls,
+) -> Result<(), Failed>
     requires { address < 2 ^ 19 }
     ensures { WritesLines (K.output out.old) (K.output out.new)
         (trace_lines controls.now.trace scene.now.machine address) result }

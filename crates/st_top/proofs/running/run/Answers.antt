@@ -48,6 +48,10 @@ running-preserved g c =
           c.running.invariant.so_far (c.in_ok-settle.ensures asked) c.in_ok-step.ensures;
       last = step_last _ _ _ asked c.running.left c.running.scene _ _ _ _ c.if-left-eq0.false going
           (c.in_ok-settle.ensures asked) c.in_ok-step.ensures ∙ c.running.invariant.last;
-      counted = omega (arith, c.running.invariant.counted, c.if-left-eq0.false,
-          step_counts _ _ _ asked c.running.scene _ _ _ _ (c.in_ok-settle.ensures asked) c.in_ok-step.ensures);
+      counted = omega (
+        arith,
+        c.running.invariant.counted,
+        c.if-left-eq0.false,
+        step_counts _ _ _ asked c.running.scene _ _ _ _ (c.in_ok-settle.ensures asked) c.in_ok-step.ensures,
+      );
     }

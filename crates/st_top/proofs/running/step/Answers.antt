@@ -11,4 +11,4 @@ returns g c =
     let asked = c.args.controls.now in
     step_stages _ _ _ asked c.args.scene.now c.execute.new.scene _ _ c.in_ok-write_interrupts.ensures
     (trace_stage _ _ asked c.args.scene.now c.execute.new.scene c.address-address.result asked.trace _
-        c.execute.ensures c.address-address.ensures.value refl c.write_executed.ensures)
+    c.execute.ensures c.address-address.ensures.value refl c.write_executed.ensures)

@@ -1,0 +1,65 @@
+-- An object text line by line.
+use Rattle.std.proofs.Common.{◌≡◌, ◌≤◌, ◌+◌, ◌==◌, ℕ, List, [], ◌∷◌, ◌++◌, length, map, take, true, false, if◌then◌else◌, refl, sym, ◌∙◌, ap, subst, append_assoc, arith}
+use Rattle.std.proofs.lemmas.List.{take_at, length_push}
+use Rattle.std.specs.Prelude.{Ok}
+use Rattle.std.specs.List.{flat_map}
+use Rattle.st_io.specs.Output.{OutputState}
+use Rattle.st_lines.specs.Lines.{text}
+use Rattle.st_lines.proofs.Progress.{LinesSoFar}
+use Rattle.st_report.specs.Line.{lf}
+use Rattle.st_card.specs.Pieces.{parted, onto_first}
+use Rattle.st_object.specs.Lines.{spelled, text_of}
+use Rattle.st_object.specs.Draft.{blank, lines_of}
+use Rattle.st_object.specs.Object.{Program, IsProgram, draft_of, object_text, read_text}
+use Rattle.st_object.proofs.Again.{made_again}
+use Rattle.st_object.proofs.Accepted.{accepted}
+use Rattle.st_object.proofs.ReadBack.{parted-text_of}
+use Rattle.st_top.specs.ObjectText.{object_lines, ended_lines}
+
+-- a line with a line end comes first, and then those of what stands behind it
+ended-onto : (line : List ℕ) (c : ℕ) (pieces : List (List ℕ)) → ended_lines (line ∷ onto_first c pieces) ≡ (line ++ lf) ∷ ended_lines (onto_first c pieces)
+ended-onto line c [] = refl
+ended-onto line c (piece ∷ pieces) = refl
+
+pub ended-line : (line after : List ℕ) → ended_lines (line ∷ parted 10 after) ≡ (line ++ lf) ∷ ended_lines (parted 10 after)
+ended-line line [] = refl
+ended-line line (c ∷ cs) =
+    elim (c == 10) as (λ v. ended_lines (line ∷ (if v then [] ∷ parted 10 cs else onto_first c (parted 10 cs)))
+    ≡ (line ++ lf) ∷ ended_lines (if v then [] ∷ parted 10 cs else onto_first c (parted 10 cs))) [
+      | true ↦ refl
+      | false ↦ ended-onto line c (parted 10 cs)
+    ]
+
+-- what a text begins with, up to its first line end
+first_ended : (line after rest : List ℕ) → rest ≡ line ++ 10 ∷ after → take (length line + 1) rest ≡ line ++ lf
+first_ended line after rest e =
+    let whole : rest ≡ (line ++ lf) ++ after = e ∙ sym (append_assoc line lf after) in
+    ap (λ (s : List ℕ). take (length line + 1) s) whole ∙ take_at (line ++ lf) after (length line + 1) (length_push line 10)
+
+-- where the lines of a text are left, its first line comes next
+pub ended_next : (s t : OutputState) (all : List (List ℕ)) (rest line after whole : List ℕ) → parted 10 rest ≡ line ∷ parted 10 after → rest ≡ line ++ 10 ∷ after → whole ≡ take (length line + 1) rest → LinesSoFar s t all (ended_lines (parted 10 rest)) → LinesSoFar s t all ((whole ∷ []) ++ ended_lines (parted 10 after))
+ended_next s t all rest line after whole pieces same cut h =
+    let first : line ++ lf ≡ whole = sym (cut ∙ first_ended line after rest same) in
+    subst (LinesSoFar s t all) (ap ended_lines pieces ∙ (ended-line line after ∙ ap (λ w. w ∷ ended_lines (parted 10 after)) first)) h
+
+ended-map : {X : Type 0} (f : X → List ℕ) (items : List X) → ended_lines (map f items ++ [] ∷ []) ≡ map (λ item. f item ++ lf) items
+ended-map f [] = refl
+ended-map f (item ∷ []) = refl
+ended-map f (item ∷ next ∷ more) = ap (λ ls. (f item ++ lf) ∷ ls) (ended-map f (next ∷ more))
+
+text-map : {X : Type 0} (f : X → List ℕ) (items : List X) → text (map f items) ≡ flat_map f items
+text-map f [] = refl
+text-map f (item ∷ more) = ap (λ (s : List ℕ). f item ++ s) (text-map f more)
+
+-- the lines one after another are the text
+pub text-object_lines : (p : Program) → text (object_lines p) ≡ object_text p
+unfolding object_lines
+text-object_lines p = text-map (λ item. spelled item ++ lf) (lines_of (draft_of p))
+
+-- the lines of an object text are those of its program
+pub object_text-lines : (p : Program) (written : List ℕ) → written ≡ object_text p → IsProgram p → read_text written ≡ Ok p → ended_lines (parted 10 written) ≡ object_lines p
+unfolding object_lines
+object_text-lines p written e is read =
+    let makes = made_again p is (accepted written p read).words in
+    ap (λ (s : List ℕ). ended_lines (parted 10 s)) e
+    ∙ (ap ended_lines (parted-text_of (lines_of (draft_of p)) blank makes.last makes.steps) ∙ ended-map spelled (lines_of (draft_of p)))

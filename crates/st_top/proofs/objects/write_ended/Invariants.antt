@@ -1,0 +1,12 @@
+use Rattle.std.proofs.Common.{length}
+use Rattle.st_card.specs.Pieces.{parted}
+use Rattle.st_lines.proofs.Progress.{LinesSoFar}
+use Rattle.st_top.specs.ObjectText.{ended_lines}
+use Rattle.st_top.proofs.objects.write_ended.Given as goal
+
+abbrev pub invariant-lines : goal.invariant-lines
+invariant-lines g l =
+    LinesSoFar (g.K.Sink.output l.fn.out) (g.K.Sink.output l.out) (ended_lines (parted 10 l.text)) (ended_lines (parted 10 l.rest))
+
+abbrev pub decreases-lines : goal.decreases-lines
+decreases-lines g l = length l.rest

@@ -1,0 +1,90 @@
+//! The object text of a job, written line by line.
+ghost use Rattle.std.specs.Prelude.{◌≡◌, ◌+◌, ◌≤◌, length, take};
+ghost use Rattle.st_asm.specs.Assembly.{shown};
+ghost use Rattle.st_card.specs.Pieces.{parted};
+ghost use Rattle.st_lines.specs.Lines.{WritesLines, text};
+ghost use Rattle.st_object.specs.Object.{Program, IsProgram, object_text};
+ghost use Rattle.st_top.specs.Answers.{Writes};
+ghost use Rattle.st_top.specs.ObjectText.{program_in, object_lines, ended_lines};
+ghost use Rattle.st_top.specs.Output.{lines_alone};
+ghost use Rattle.st_top.specs.declared.answer.Status.TheVariants.{Done};
+
+use crate::answer::{Answer, Status};
+use st_asm::Assembled;
+use st_card::cut;
+use st_io::{Failed, Sink};
+use st_lines::write_line;
+use st_object::{Image, write_object};
+use std::alloc::Global;
+
+/// What an object text keeps of a job that is assembled: all but whether it is listed.
+pub fn image_of(program: Assembled) -> Image
+    ensures { result ≡ program_in (shown program) }
+{
+    let Assembled {
+        image,
+        start,
+        mut controls,
+        ..
+    } = program;
+    controls.list = false;
+    Image {
+        words: image,
+        start,
+        controls,
+    }
+}
+
+/// The line that a text begins with, with its line end.
+fn with_end<'a>(text: &'a [u8], line: &[u8]) -> &'a [u8]
+    requires { length line.now + 1 ≤ length text.now }
+    ensures { result.now ≡ take (length line.now + 1) text.now }
+{
+    text.split_at(line.len() + 1).0
+}
+
+/// Writes the lines of a text that have a line end, each with it.
+fn write_ended<K: Sink>(out: &mut K, text: &[u8]) -> Result<(), Failed>
+    ensures { WritesLines (K.output out.old) (K.output out.new) (ended_lines (parted 10 text.now)) result }
+{
+    let mut rest = text;
+    'lines: while let Some((line, after)) = cut(rest, b'\n') {
+        write_line(out, with_end(rest, line))?;
+        rest = after;
+    }
+    Ok(())
+}
+
+/// Writes a text line by line, and answers.
+fn answer_text<K: Sink>(out: &mut K, text: &[u8]) -> Answer
+    ensures writes { Writes result.status (K.output out.old) (K.output out.new)
+        (lines_alone Done (ended_lines (parted 10 text.now))) result }
+    ensures ticks { result.ticks ≡ 0 }
+{
+    match write_ended(out, text) {
+        Ok(()) => Answer::without_run(Status::Done),
+        Err(_) => Answer {
+            status: Status::WriteFault,
+            done: 0,
+            ticks: 0,
+        },
+    }
+}
+
+/// Writes the object text of a program line by line, and answers. Its memory is taken before.
+pub fn answer_object<K: Sink>(alloc: Global, program: &Image, out: &mut K) -> Answer
+    requires { IsProgram program.now }
+    ensures writes { Writes result.status (K.output out.old) (K.output out.new)
+        (lines_alone Done (object_lines program.now)) result }
+    ensures ticks { result.ticks ≡ 0 }
+{
+    match write_object(alloc, program) {
+        Ok(text) => answer_text(out, text.as_slice()),
+        Err(_) => Answer::without_run(Status::NoMemory),
+    }
+}
+
+/// The lines of the object text of a program, one after another, are that text.
+pub fn lines_are_the_object_text()
+    ensures { (p : Program) → text (object_lines p) ≡ object_text p }
+{}
