@@ -7,6 +7,7 @@ use std::test::Fail;
 
 mod decks;
 mod devices;
+mod objects;
 mod refusals;
 mod reports;
 

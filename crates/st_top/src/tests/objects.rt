@@ -1,0 +1,65 @@
+//! The object text of a job, and what is refused instead.
+use super::decks::Case;
+use super::{Answer, Status, owned, stretch};
+use st_io::{SureSink, SureSource};
+use std::alloc::Global;
+use std::test::Fail;
+
+/// The deck of one load and a wait, and its object text.
+const LOAD: &str = "         LVI,$X1,100.0\n         BEW\n         END,32.0\n";
+
+const OBJECT: &str = "OBJECT\nSTART 32.0\nW 32 0019030000000970\nBUDGET 1000\nDELAY 1\nFIN\n";
+
+const ASSEMBLED: [Case; 4] = [
+    Case {
+        shows: "one load and a wait",
+        job: LOAD,
+        report: OBJECT,
+    },
+    Case {
+        shows: "controls in their order, and no listing",
+        job: "         LVI,$X1,100.0\n         BEW\n         END,32.0\n/LIST\n/TRACE\n/DUMP 1 2\n/SIGNAL 5 13
+/DELAYS 3 4\n/BUDGET 7\n",
+        report: "OBJECT\nSTART 32.0\nW 32 0019030000000970\nBUDGET 7\nDELAY 3\nDELAY 4\nSIGNAL 5 13\nDUMP 1 2\nTRACE\nFIN\n",
+    },
+    Case {
+        shows: "a word on its own",
+        job: "         SLC,40.0\n         DD(BU,64),5\n         END,40.0\n/BUDGET 1\n/DELAYS 2\n",
+        report: "OBJECT\nSTART 40.0\nW 40 0000000000000005\nBUDGET 1\nDELAY 2\nFIN\n",
+    },
+    Case {
+        shows: "a job without an end",
+        job: "         BEW\n",
+        report: "CARD 2 NO END\n",
+    },
+];
+
+/// Answers a job by a command, over a source and a sink that do not fail.
+fn answer_to(alloc: Global, word: &str, job: &str) -> Result<(Answer, Option<Vec<u8>>), Fail> {
+    let words = owned(alloc, &[word])?;
+    let mut out = SureSink::new(Vec::with_capacity(alloc, 4000)?);
+    let mut job = SureSource::new(job.as_bytes().to_vec(alloc)?);
+    let answer = stretch(alloc, &words, &mut job, &mut out);
+    Ok((answer, out.into_bytes()))
+}
+
+#[test]
+fn a_job_is_assembled_to_its_object_text_and_does_not_run(rt: HostRuntime) -> Result<(), Fail> {
+    for case in ASSEMBLED {
+        let (answer, written) = answer_to(rt.alloc(), "assemble", case.job)?;
+        let status = if case.report.starts_with("CARD") {
+            Status::Refused
+        } else {
+            Status::Done
+        };
+        assert_eq!(rt; answer, Answer::without_run(status), "{}", case.shows);
+        let written = written.ok_or("no room")?;
+        assert_eq!(rt;
+            written.as_slice(),
+            case.report.as_bytes(),
+            "{}",
+            case.shows
+        );
+    }
+    Ok(())
+}
