@@ -12,12 +12,13 @@ use Rattle.st_card.specs.Controls.{Asked, nothing, is_among, last_passes}
 use Rattle.st_card.specs.Limits.{is_signal, is_part, is_tick}
 use Rattle.st_card.specs.declared.control_cards.Signal.{Signal as GivenSignal}
 use Rattle.st_object.specs.Lines.{marked, word_lines, budget_lines, back_lines}
-use Rattle.st_object.specs.Draft.{Draft, blank, is_empty, lines_of, is_whole, has_place, may_hold, with_asked, with_value, with_item}
+use Rattle.st_object.specs.Draft.{Draft, blank, is_empty, is_whole, has_place, may_hold, with_asked, with_value, with_item}
 use Rattle.st_object.specs.Meaning.{IsShort, IsItem}
-use Rattle.st_object.specs.Object.{Program, IsProgram, AreWords, draft_of, filled_up, program_of}
+use Rattle.st_object.specs.Object.{Program, IsProgram, AreWords, object_lines, filled_up, program_of}
 use Rattle.st_object.specs.declared.items.Item.{Item}
 use Rattle.st_object.specs.declared.items.Item.TheVariants.{Start, Word, Budget, Delay, Signal, Dump, Trace, Time, Chart, Snap, Back, Fin}
 use Rattle.st_object.proofs.Empties.{holds_both}
+use Rattle.st_object.proofs.Written.{whole_lines}
 
 -- lines that can be read and may follow one another lead from one draft to another
 abbrev pub Leads : Draft → List Item → Draft → Type 0
@@ -386,7 +387,7 @@ add_budget h ws n some small =
 -- the whole draft of a program, and the lines that lead to it
 pub record Makes (p : Program) : Type 0 where
   pub last : Draft
-  pub steps : Leads blank (lines_of (draft_of p)) last
+  pub steps : Leads blank (object_lines p) last
   pub ended : is_whole last ≡ true
   pub program : program_of last ≡ p
 
@@ -456,7 +457,7 @@ made_again p is each =
     ap (λ (b : Bool). record p.controls { list = b }) (sym is.unlisted) in
     record {
       last = e;
-      steps = (d1, refl, tt, (d2, started, short, t2));
+      steps = subst (λ (items : List Item). Leads blank items e) (whole_lines p) (d1, refl, tt, (d2, started, short, t2));
       ended = ap (λ (b : Bool). b && true) has;
       program = ap (λ (s : List ℕ). record p { words = s; controls = asked_for n ds ss us trace time chart ts k }) (filled_again ws p.words words.zeros words.whole is.whole)
           ∙ ap (λ (a : Asked). record p { controls = a }) controls;

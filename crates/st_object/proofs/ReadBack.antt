@@ -5,9 +5,9 @@ use Rattle.std.proofs.lemmas.List.Folds.{list_all-append}
 use Rattle.st_report.specs.Line.{hex_word}
 use Rattle.st_card.specs.Pieces.{onto_first, parted, lacks}
 use Rattle.st_object.specs.Lines.{spelled, text_of}
-use Rattle.st_object.specs.Draft.{Draft, blank, lines_of, with_item, is_whole}
+use Rattle.st_object.specs.Draft.{Draft, blank, with_item, is_whole}
 use Rattle.st_object.specs.Meaning.{IsShort, IsItem}
-use Rattle.st_object.specs.Object.{Program, IsProgram, AreWords, draft_of, object_text, program_of, with_line, finished, read_from, read_text}
+use Rattle.st_object.specs.Object.{Program, IsProgram, AreWords, object_lines, object_text, program_of, with_line, finished, read_from, read_text}
 use Rattle.st_object.specs.declared.items.Item.{Item}
 use Rattle.st_object.specs.declared.items.Item.TheVariants.{Object, Start, Word, Budget, Delay, Signal, Dump, Trace, Time, Chart, Snap, Back, Fin}
 use Rattle.st_object.proofs.Parts.{other_first}
@@ -86,6 +86,6 @@ pub read_back : (p : Program) → IsProgram p → AreWords p.words → read_text
 unfolding read_text
 read_back p is each =
     let makes = made_again p is each in
-    ap (λ (pieces : List (List ℕ)). read_from blank 1 pieces) (parted-text_of (lines_of (draft_of p)) blank makes.last makes.steps)
-    ∙ (read_lines (lines_of (draft_of p)) blank makes.last 1 makes.steps makes.ended
+    ap (λ (pieces : List (List ℕ)). read_from blank 1 pieces) (parted-text_of (object_lines p) blank makes.last makes.steps)
+    ∙ (read_lines (object_lines p) blank makes.last 1 makes.steps makes.ended
     ∙ ap (λ (q : Program). Ok q) makes.program)

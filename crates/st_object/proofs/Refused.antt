@@ -9,7 +9,7 @@ use Rattle.st_card.proofs.PieceLemmas.{first_piece}
 use Rattle.st_object.specs.Lines.{spelled, text_of}
 use Rattle.st_object.specs.Draft.{Draft, blank, IsDraft, is_empty, lines_of, is_whole, with_item}
 use Rattle.st_object.specs.Meaning.{item_in}
-use Rattle.st_object.specs.Object.{Program, draft_of, program_of, with_line, finished, unended, end_of, read_from, read_text, lines_in, text_lines, IsFront, IsBadLine}
+use Rattle.st_object.specs.Object.{Program, object_lines, program_of, with_line, finished, unended, end_of, read_from, read_text, lines_in, text_lines, IsFront, IsBadLine}
 use Rattle.st_object.specs.declared.items.Item.{Item}
 use Rattle.st_object.proofs.Told.{chained}
 use Rattle.st_object.proofs.LineByLine.{line_kept}
@@ -184,9 +184,9 @@ not_front lines are bad front =
     let makes = made_again p front.1 front.2 in
     let first = first_piece 10 front.3 in
     let some : parted 10 front.3 ≡ [] → ⊥ = λ none. let no : first.0 ∷ first.1.0 ≡ [] = sym first.1.1 ∙ none in cc in
-    front_good lines (lines_of (draft_of p)) (parted 10 front.3) blank makes.last makes.steps
+    front_good lines (object_lines p) (parted 10 front.3) blank makes.last makes.steps
     (sym (parted-closed lines front.3 are)
-    ∙ (ap (λ (s : List ℕ). parted 10 s) (sym front.4) ∙ parted-text_of (lines_of (draft_of p)) blank makes.last makes.steps)) some bad
+    ∙ (ap (λ (s : List ℕ). parted 10 s) (sym front.4) ∙ parted-text_of (object_lines p) blank makes.last makes.steps)) some bad
 
 -- lines that were read begin an object text
 is_front : (d : Draft) (front : List ℕ) → IsDraft d → IsOrderly d → text_of (lines_of d) ≡ front → IsFront front

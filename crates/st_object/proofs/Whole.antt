@@ -6,11 +6,12 @@ use Rattle.std.proofs.lemmas.Bool.Decides.{nat_tests}
 use Rattle.st_bits.specs.Storage.{words_of_storage}
 use Rattle.st_object.specs.Lines.{marked, word_lines}
 use Rattle.st_object.specs.Draft.{Draft, IsDraft, is_empty, start_lines, lines_of, lines_from_budget, has_start, has_budget, has_delays, is_whole}
-use Rattle.st_object.specs.Object.{IsProgram, AreWords, draft_of, filled_up, program_of}
+use Rattle.st_object.specs.Object.{IsProgram, AreWords, object_lines, filled_up, program_of}
 use Rattle.st_object.specs.declared.items.Item.{Item}
 use Rattle.st_object.specs.declared.items.Item.TheVariants.{Object}
 use Rattle.st_object.proofs.Empties.{holds_both}
 use Rattle.st_object.proofs.Grown.{word_lines-append, word_lines-zeros}
+use Rattle.st_object.proofs.Written.{whole_lines}
 
 below : (n most : ℕ) → nat_lt n most ≡ true → n < most
 below n most test = grind (arith, nat_tests)
@@ -91,12 +92,13 @@ start_given None some = cc
 start_given (Some h) some = refl
 
 -- the lines of a whole draft are those of its program
-pub whole_lines_of : (d : Draft) → is_whole d ≡ true → lines_of (draft_of (program_of d)) ≡ lines_of d
+pub whole_lines_of : (d : Draft) → is_whole d ≡ true → object_lines (program_of d) ≡ lines_of d
 whole_lines_of d whole =
     let all = has_all d whole in
     let lines = λ (b : Bool) (o : Option ℕ) (ws : List Item) (e : Bool).
     marked b Object ++ (start_lines o ++ (ws ++ lines_from_budget (record d { ended = e }))) in
-    ap (λ (b : Bool). lines b (Some (unwrap_or d.start 0)) (word_lines 0 (filled_up d.words)) true) (sym all.begun)
+    sym (whole_lines (program_of d))
+    ∙ (ap (λ (b : Bool). lines b (Some (unwrap_or d.start 0)) (word_lines 0 (filled_up d.words)) true) (sym all.begun)
     ∙ (ap (λ (o : Option ℕ). lines d.begun o (word_lines 0 (filled_up d.words)) true) (start_given d.start all.start)
     ∙ (ap (λ (ws : List Item). lines d.begun d.start ws true) (filled_lines d.words)
-    ∙ ap (λ (e : Bool). lines d.begun d.start (word_lines 0 d.words) e) (sym all.ended)))
+    ∙ ap (λ (e : Bool). lines d.begun d.start (word_lines 0 d.words) e) (sym all.ended))))

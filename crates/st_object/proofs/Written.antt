@@ -1,11 +1,11 @@
 -- What is written line by line.
-use Rattle.std.proofs.Common.{◌≡◌, ◌<◌, ◌+◌, ◌==◌, ℕ, Bool, true, false, not, List, [], ◌∷◌, ◌++◌, length, map, take, get_or, Result, Ok, Err, OnOk, if◌then◌else◌, refl, ap, sym, ◌∙◌, append_assoc, arith}
+use Rattle.std.proofs.Common.{◌≡◌, ◌<◌, ◌+◌, ◌==◌, ℕ, Bool, true, false, not, List, [], ◌∷◌, ◌++◌, length, map, take, get_or, Result, Ok, Err, OnOk, if◌then◌else◌, refl, ap, sym, ◌∙◌, append_assoc, arith, Some}
 use Rattle.std.proofs.lemmas.List.{take_more, length-take-le}
 use Rattle.std.proofs.lemmas.List.Concat.{flat_map-append}
 use Rattle.st_report.specs.Line.{lf}
-use Rattle.st_object.specs.Lines.{spelled, text_of, marked, word_lines, budget_lines, back_lines, order_lines, show_lines}
-use Rattle.st_object.specs.Draft.{lines_of}
-use Rattle.st_object.specs.Object.{Program, draft_of}
+use Rattle.st_object.specs.Lines.{spelled, text_of, marked, word_lines, budget_lines, back_lines}
+use Rattle.st_object.specs.Draft.{Draft, lines_of}
+use Rattle.st_object.specs.Object.{Program, object_lines}
 use Rattle.st_object.specs.declared.items.Item.{Item}
 use Rattle.st_object.specs.declared.items.Item.TheVariants.{Object, Start, Word, Delay, Signal, Dump, Trace, Time, Chart, Snap, Fin}
 use Rattle.st_object.proofs.Grown.{word_lines-append}
@@ -48,9 +48,12 @@ regrouped : (w b d g m t i c n k f : List Item) → w ++ (b ++ (d ++ (g ++ (m ++
     ≡ w ++ (b ++ d ++ g ++ m) ++ (t ++ i ++ c ++ n ++ k) ++ f
 regrouped w b d g m t i c n k f = simp append_assoc refl
 
--- the lines of a program, part by part
-pub whole_lines : (p : Program) → lines_of (draft_of p)
-    ≡ Object ∷ Start p.start ∷ [] ++ word_lines 0 p.words ++ order_lines p.controls ++ show_lines p.controls ++ Fin ∷ []
+-- the draft that is a whole program
+abbrev pub draft_of : Program → Draft
+draft_of p = record { begun = true; start = Some p.start; words = p.words; asked = p.controls; ended = true }
+
+-- its lines are those of the program
+pub whole_lines : (p : Program) → lines_of (draft_of p) ≡ object_lines p
 whole_lines p = ap (λ (s : List Item). Object ∷ Start p.start ∷ s) (regrouped (word_lines 0 p.words)
     (budget_lines p.controls.budget) (map (λ n. Delay n) p.controls.delays)
     (map (λ s. Signal s.count s.indicator) p.controls.signals) (map (λ q. Dump q.0 q.1) p.controls.dumps)

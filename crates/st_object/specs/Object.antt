@@ -1,5 +1,5 @@
 -- Object texts, what they hold, and the first bad line of a text that is none.
-use Rattle.std.specs.Prelude.{ℕ, ◌≡◌, ◌≤◌, ◌<◌, ◌+◌, ◌-◌, ◌^◌, true, false, List, [], ◌∷◌, ◌++◌, length, take, replicate, slice_index, Option, Some, is_some, unwrap_or, Result, Ok, Err, if◌then◌else◌}
+use Rattle.std.specs.Prelude.{ℕ, ◌≡◌, ◌≤◌, ◌<◌, ◌+◌, ◌-◌, ◌^◌, false, List, [], ◌∷◌, ◌++◌, length, take, replicate, slice_index, Option, is_some, unwrap_or, Result, Ok, Err, if◌then◌else◌}
 use Rattle.std.specs.List.{All, flat_map}
 use Rattle.std.specs.Option.{option_and_then, option_map_or}
 use Rattle.st_bits.specs.Storage.{words_of_storage}
@@ -7,9 +7,11 @@ use Rattle.st_report.specs.Line.{lf}
 use Rattle.st_card.specs.Controls.{Asked}
 use Rattle.st_card.specs.Limits.{IsWithinLimits}
 use Rattle.st_card.specs.Pieces.{parted}
-use Rattle.st_object.specs.Lines.{text_of}
-use Rattle.st_object.specs.Draft.{Draft, blank, is_empty, lines_of, is_whole, with_item}
+use Rattle.st_object.specs.Lines.{text_of, word_lines, order_lines, show_lines}
+use Rattle.st_object.specs.Draft.{Draft, blank, is_empty, is_whole, with_item}
 use Rattle.st_object.specs.Meaning.{item_in}
+use Rattle.st_object.specs.declared.items.Item.{Item}
+use Rattle.st_object.specs.declared.items.Item.TheVariants.{Object, Start, Fin}
 
 -- the words of storage, where the program starts, and what is asked for
 pub record Program : Type 0 where
@@ -31,13 +33,14 @@ pub record IsProgram (p : Program) : Type 0 where
 abbrev pub AreWords : List ℕ → Type 0
 AreWords words = All (λ x. x < 2 ^ 64) words
 
--- the draft that is a whole program
-abbrev pub draft_of : Program → Draft
-draft_of p = record { begun = true; start = Some p.start; words = p.words; asked = p.controls; ended = true }
+-- the lines of a program
+abbrev pub object_lines : Program → List Item
+object_lines p =
+    Object ∷ Start p.start ∷ [] ++ word_lines 0 p.words ++ order_lines p.controls ++ show_lines p.controls ++ Fin ∷ []
 
 -- the object text of a program
 abbrev pub object_text : Program → List ℕ
-object_text p = text_of (lines_of (draft_of p))
+object_text p = text_of (object_lines p)
 
 -- words with zeros up to the end of storage
 abbrev pub filled_up : List ℕ → List ℕ

@@ -296,8 +296,8 @@ impl Draft {
     }
 
     fn put_signal(&mut self, count: u64, indicator: u64) -> Outcome
-        ensures { Settles self.new
-            (spec.with_asked self.old (with_signal self.old.asked (count ∷ indicator ∷ []))) result }
+        ensures { let numbers = count ∷ indicator ∷ [] in Settles self.new
+            (spec.with_asked self.old (with_signal self.old.asked numbers)) result }
     {
         if self.controls.signals.len() < MOST_SIGNALS
             && count <= MOST_COUNT

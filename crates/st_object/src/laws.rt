@@ -13,8 +13,8 @@ pub fn lines_are_read_back()
     ensures same { (line : List ℕ) (item : Item) → item_in line ≡ Some item → spelled item ≡ line }
 {}
 
-/// A text that is read is the object text of the program that it holds, and that program is one that an object text
-/// can hold.
+/// A text that is read is the object text of the program that it holds, and that program is one
+/// that an object text can hold.
 pub fn accepted_texts_are_written()
     ensures program { (text : List ℕ) (p : Program) → read_text text ≡ Ok p → IsProgram p }
     ensures words { (text : List ℕ) (p : Program) → read_text text ≡ Ok p → AreWords p.words }
@@ -32,8 +32,8 @@ pub fn written_texts_are_read_back()
     ensures { (p : Program) → IsProgram p → AreWords p.words → read_text (object_text p) ≡ Ok p }
 {}
 
-/// A text that is refused has as its bad line the first after which its lines so far begin no object text, or where
-/// it ends too early the line behind its last.
+/// A text that is refused has as its bad line the first after which its lines so far begin no
+/// object text, or where it ends too early the line behind its last.
 pub fn refused_texts_have_a_bad_line()
     ensures { (text : List ℕ) (n : ℕ) → read_text text ≡ Err n → IsBadLine text n }
 {}

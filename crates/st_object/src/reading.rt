@@ -17,8 +17,8 @@ use std::alloc::Global;
 /// Why a text was not read.
 #[derive(Clone, Copy, Debug, PartialEq, Eq)]
 pub enum ObjectError {
-    /// The text is no object text. `card` is the number of its bad line, counted from 1, and `fault`
-    /// says that it is a bad object card.
+    /// The text is no object text. `card` is the number of its bad line, counted from 1, and
+    /// `fault` says that it is a bad object card.
     Refused { card: u32, fault: Fault },
     /// There was no memory for what the text holds.
     NoMemory,
@@ -123,9 +123,9 @@ fn read(alloc: Global, text: &[u8]) -> Result<Image, ObjectError>
 
 /// The program that an object text holds.
 ///
-/// A text that is no object text is refused, with its bad line: the first after which the lines so far begin no
-/// object text, or where the text ends too early the line behind its last. The other error is that memory ran out.
-/// `docs/object-text.md` has the format.
+/// A text that is no object text is refused, with its bad line: the first after which the lines so
+/// far begin no object text, or where the text ends too early the line behind its last. The other
+/// error is that memory ran out. `docs/object-text.md` has the format.
 pub fn read_object(alloc: Global, text: &[u8]) -> Result<Image, ObjectError>
     requires { length text.now < 2 ^ 32 }
     ensures ok { IfOk result (λ image. spec.read_text text.now ≡ Ok image) }

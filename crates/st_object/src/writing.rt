@@ -117,7 +117,8 @@ fn push_program(text: &mut Vec<u8>, words: &[u64], start: u32) -> Result<(), All
 
 // Appends the lines of what is asked for, up to the parts of storage.
 fn push_orders(text: &mut Vec<u8>, controls: &Controls) -> Result<(), AllocError>
-    ensures { OnOk result (text.new.items ≡ text.old.items ++ lines.text_of (lines.order_lines controls.now)) }
+    ensures { OnOk result
+        (text.new.items ≡ text.old.items ++ lines.text_of (lines.order_lines controls.now)) }
 {
     push_budget(text, controls.budget)?;
     push_delays(text, controls.delays.as_slice())?;
@@ -127,7 +128,8 @@ fn push_orders(text: &mut Vec<u8>, controls: &Controls) -> Result<(), AllocError
 
 // Appends the lines of what is to be shown.
 fn push_shows(text: &mut Vec<u8>, controls: &Controls) -> Result<(), AllocError>
-    ensures { OnOk result (text.new.items ≡ text.old.items ++ lines.text_of (lines.show_lines controls.now)) }
+    ensures { OnOk result
+        (text.new.items ≡ text.old.items ++ lines.text_of (lines.show_lines controls.now)) }
 {
     push_mark(text, controls.trace, Item::Trace)?;
     push_mark(text, controls.time, Item::Time)?;
@@ -158,11 +160,12 @@ fn know_words(words: &[u64])
     ensures { AreWords words.now }
 {}
 
-/// The object text of a program, which has 98,304 words, the first 32 zero, a start below 2^19, and asks for
-/// something within the limits of control cards: a budget, a delay at least, and no listing.
+/// The object text of a program.
 ///
-/// Each program has one object text, and `read_object` reads it as that program. The one error is that memory ran out.
-/// `docs/object-text.md` has the format.
+/// The program has 98,304 words, the first 32 zero; its start is a half-word address below 2^19.
+/// What it asks for is within the limits of control cards, with a budget, a delay at least, and no
+/// listing. Each program has one object text, and `read_object` reads it as that program. The one
+/// error is that memory ran out. `docs/object-text.md` has the format.
 pub fn write_object(alloc: Global, image: &Image) -> Result<Vec<u8>, NoMemory>
     requires { IsProgram image.now }
     ensures text { IfOk result (λ text. text.items ≡ object_text image.now) }

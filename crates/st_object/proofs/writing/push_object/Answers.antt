@@ -1,10 +1,9 @@
 use Rattle.std.proofs.Common.{◌++◌, [], ◌∷◌, List, refl}
 use Rattle.st_object.specs.Lines.{word_lines, order_lines, show_lines}
-use Rattle.st_object.specs.Draft.{lines_of}
-use Rattle.st_object.specs.Object.{Program, draft_of}
+use Rattle.st_object.specs.Object.{Program, object_lines}
 use Rattle.st_object.specs.declared.items.Item.{Item}
 use Rattle.st_object.specs.declared.items.Item.TheVariants.{Object, Start, Fin}
-use Rattle.st_object.proofs.Written.{written_further, written_last, whole_lines}
+use Rattle.st_object.proofs.Written.{written_further, written_last}
 use Rattle.st_object.proofs.writing.push_object.Goals as goal
 
 pub returns : goal.returns
@@ -19,4 +18,4 @@ returns c =
     let third = written_further old c.push_orders.new.text.items c.push_shows.new.text.items (program ++ orders) shows (program ++ orders ++ shows)
     second c.in_ok-push_shows.ensures refl in
     written_last c.push_line.result old c.push_shows.new.text.items c.push_line.new.text.items (program ++ orders ++ shows) (Fin ∷ [])
-    (lines_of (draft_of p)) third c.push_line.ensures (whole_lines p)
+    (object_lines p) third c.push_line.ensures refl
