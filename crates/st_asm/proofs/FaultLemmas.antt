@@ -1,15 +1,14 @@
 -- What holds where the value pass finds no fault.
-use Rattle.std.proofs.Common.{◌≡◌, ◌≤◌, ◌<◌, ◌+◌, ◌*◌, ◌==◌, ◌^◌, ◌||◌, ◌&&◌, ℕ, ℤ, pos, negsuc, Bool, true, false, not, List, [], ◌∷◌, Option, Some, None, nat_lt, nat_le, length, is_some, unsigned_abs, refl, arith}
-use Rattle.std.specs.Bool.{IsTrue}
+use Rattle.std.proofs.Common.{◌≡◌, ◌≤◌, ◌<◌, ◌+◌, ◌*◌, ◌==◌, ◌^◌, ◌||◌, ◌&&◌, ℕ, ℤ, pos, negsuc, Bool, true, false, not, List, [], ◌∷◌, None, nat_lt, nat_le, length, is_some, unsigned_abs, refl, arith}
 use Rattle.st_card.specs.Cards.{first_fault}
 use Rattle.st_card.specs.declared.faults.Fault.{Fault}
 use Rattle.st_card.specs.declared.faults.Fault.TheVariants.{NameTwice, UndefinedSymbol, SymbolNotEarlier, TooManyNames}
 use Rattle.st_strap.specs.declared.statement.Statement.{Statement}
-use Rattle.st_strap.specs.declared.statement.Statement.TheVariants.{Half, Sum, Refill, Branch, Floating, Vfl, Connect, Move, BitBranch, IndBranch, StoreCounter, Transfer, Data, IndexWord, Synonym, SetLocation, Reserve, End}
+use Rattle.st_strap.specs.declared.statement.Statement.TheVariants.{IndexWord}
 use Rattle.st_asm.specs.Naming.{Named, is_taken, is_known, is_earlier, name_fault}
 use Rattle.st_asm.specs.Symbols.{table}
 use Rattle.st_asm.specs.declared.line.Line.{Line}
-use Rattle.st_asm.specs.Checks.{is_address, in_range, is_index_word, fits, fits_index_word, on_boundary, in_storage, extent, value_fault}
+use Rattle.st_asm.specs.Checks.{is_address, in_range, fits, on_boundary, in_storage, extent, value_fault}
 use Rattle.st_asm.specs.Places.{role_of, length_in}
 use Rattle.st_asm.specs.declared.values.Values.{Values}
 use Rattle.st_asm.specs.declared.places.Role.{Role}

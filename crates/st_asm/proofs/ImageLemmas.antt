@@ -1,5 +1,5 @@
 -- The image after a card's bits are put into it.
-use Rattle.std.proofs.Common.{◌≡◌, ◌≤◌, ◌<◌, ◌+◌, ◌*◌, ◌^◌, ◌==◌, ℕ, Bool, false, List, length, get_or, ap, sym, ◌∙◌, arith, if◌then◌else◌}
+use Rattle.std.proofs.Common.{◌≡◌, ◌≤◌, ◌<◌, ◌+◌, ◌*◌, ◌^◌, ◌==◌, ℕ, false, List, length, get_or, ap, sym, ◌∙◌, arith, if◌then◌else◌}
 use Rattle.st_bits.specs.Bits.{bits, all_bits, put, words_of}
 use Rattle.st_bits.proofs.Windows.{words_of-all_bits}
 use Rattle.st_asm.specs.Valuing.{image_with}

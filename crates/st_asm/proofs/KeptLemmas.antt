@@ -1,6 +1,6 @@
 -- What the passes keep.
-use Rattle.std.proofs.Common.{◌≡◌, ◌≤◌, ◌<◌, ◌+◌, ◌-◌, ◌/◌, ◌*◌, ◌%◌, ◌^◌, ◌&&◌, ◌==◌, ℕ, zero, suc, ℤ, pos, negsuc, Bool, true, false, not, nat_le, List, [], ◌∷◌, ◌++◌, length, map, get_or, replicate, take, Option, Some, None, unwrap_or, Result, Ok, Err, refl, ap, sym, ◌∙◌, subst, append_assoc, append-nil, length-append, lit≤, lit<, arith, if◌then◌else◌}
-use Rattle.std.specs.List.{All, AllPass, zip, list_all}
+use Rattle.std.proofs.Common.{◌≡◌, ◌≤◌, ◌<◌, ◌+◌, ◌-◌, ◌^◌, ◌&&◌, ◌==◌, ℕ, zero, suc, ℤ, pos, negsuc, Bool, true, false, not, nat_le, List, [], ◌∷◌, ◌++◌, length, map, get_or, replicate, Option, Some, None, unwrap_or, Result, Ok, Err, refl, ap, sym, ◌∙◌, subst, append_assoc, append-nil, length-append, lit≤, lit<, arith, if◌then◌else◌}
+use Rattle.std.specs.List.{All, zip, list_all}
 use Rattle.std.specs.Str.{IsAscii}
 use Rattle.std.specs.Char.{is_ascii_uppercase}
 use Rattle.std.proofs.lemmas.Bool.Decides.{nat_tests}
@@ -27,17 +27,16 @@ use Rattle.st_strap.specs.declared.statement.Statement.{Statement}
 use Rattle.st_strap.proofs.StatementLemmas.{read-is, read-named}
 use Rattle.st_asm.specs.Pass.{Refusal, onward, pass, unless_faulty, then_for}
 use Rattle.st_asm.specs.Lines.{name_field, statement_field, name_in, silent, saying}
-use Rattle.st_asm.specs.Forming.{Found, unread, is_built, first_fault_of, with_line, with_statement, with_asked, with_end, is_end, form_control, form_statement, form_kind, form_card, form_pass}
+use Rattle.st_asm.specs.Forming.{Found, unread, is_built, first_fault_of, with_statement, with_asked, with_end, form_control, form_statement, form_kind, form_card, form_pass}
 use Rattle.st_asm.specs.Symbols.{table}
 use Rattle.st_asm.specs.Values.{wrapped, values_of}
 use Rattle.st_asm.specs.Checks.{value_fault}
-use Rattle.st_asm.specs.Places.{role_of, place_in, aligned}
-use Rattle.st_asm.specs.Naming.{Named, unnamed, name_fault, name_step, name_card, name_pass, place_of, symbol_of, behind}
-use Rattle.st_asm.specs.Valuing.{Laid, unlaid, value_statement, value_saying, value_card, value_pass, with_laid, with_silent}
-use Rattle.st_asm.specs.Assembly.{Assembly, together, with_defaults}
-use Rattle.st_asm.specs.Sound.{IsLocation, IsRow, IsImage, IsSymbol, IsLine, IsDeck, IsNamed, IsSoundLayout, IsSound, cards_in, numbers_in}
+use Rattle.st_asm.specs.Places.{role_of, place_in}
+use Rattle.st_asm.specs.Naming.{Named, unnamed, name_fault, name_step, name_card, name_pass, place_of, symbol_of}
+use Rattle.st_asm.specs.Valuing.{Laid, unlaid, value_statement, value_saying, value_card, value_pass}
+use Rattle.st_asm.specs.Assembly.{together, with_defaults}
+use Rattle.st_asm.specs.Sound.{IsLocation, IsSymbol, IsLine, IsDeck, IsNamed, IsSoundLayout, IsSound, cards_in, numbers_in}
 use Rattle.st_asm.specs.declared.line.Line.{Line}
-use Rattle.st_asm.specs.declared.naming.Symbol.{Symbol}
 use Rattle.st_asm.specs.declared.places.Role.{Role}
 use Rattle.st_asm.specs.declared.places.Role.TheVariants.{Lays, Passes, Sets, Names, Ends}
 use Rattle.st_asm.specs.declared.valuing.Listed.{Listed}

@@ -1,8 +1,8 @@
 -- How a pass goes on, and where it stops.
-use Rattle.std.proofs.Common.{◌≡◌, ◌≤◌, ◌<◌, ◌-◌, ℕ, suc, refl, List, [], ◌∷◌, length, get_or, take, drop, Result, Ok, Err, ap, sym, ◌∙◌, arith}
+use Rattle.std.proofs.Common.{◌≡◌, ◌≤◌, ◌<◌, ◌-◌, ℕ, suc, refl, List, [], ◌∷◌, length, get_or, take, drop, Result, Ok, ap, sym, ◌∙◌, arith}
 use Rattle.std.proofs.Math.Seq.{take-length}
 use Rattle.st_card.specs.declared.faults.Fault.{Fault}
-use Rattle.st_asm.specs.Pass.{Refusal, onward, pass}
+use Rattle.st_asm.specs.Pass.{onward, pass}
 use Rattle.st_asm.specs.Answers.{Stops, Explains, stopped_at}
 use Rattle.st_asm.specs.declared.stop.Stop.{Stop}
 use Rattle.st_asm.specs.declared.stop.Stop.TheVariants.{Faulty, NoMemory}

@@ -1,5 +1,5 @@
 -- A pass stops at the first faulty card.
-use Rattle.std.proofs.Common.{◌≡◌, ℕ, List, [], ◌∷◌, ◌++◌, Result, Ok, Err, refl, ap, sym, ◌∙◌}
+use Rattle.std.proofs.Common.{◌≡◌, ℕ, List, [], ◌∷◌, ◌++◌, Result, Ok, Err, refl, ap, ◌∙◌}
 use Rattle.st_card.specs.declared.faults.Fault.{Fault}
 use Rattle.st_asm.specs.Pass.{Refusal, onward, pass}
 use Rattle.st_asm.specs.Stops.{Leads, HasFirst, StopsAtFirst}

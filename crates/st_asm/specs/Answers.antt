@@ -1,5 +1,5 @@
 -- What answers say of what is wanted.
-use Rattle.std.specs.Prelude.{◌≡◌, ℕ, ⊤, Result, Ok, Err}
+use Rattle.std.specs.Prelude.{◌≡◌, ℕ, ⊤, Result, Err}
 use Rattle.st_card.specs.declared.faults.Fault.{Fault}
 use Rattle.st_asm.specs.Pass.{Refusal}
 use Rattle.st_asm.specs.declared.stop.Stop.{Stop}

@@ -1,5 +1,5 @@
 -- A job assembled: the form pass, the name pass and the value pass, one after the other.
-use Rattle.std.specs.Prelude.{ℕ, ◌==◌, List, [], ◌∷◌, length, Result, Ok, Err, if◌then◌else◌}
+use Rattle.std.specs.Prelude.{ℕ, ◌==◌, List, [], ◌∷◌, length, Result, Ok, if◌then◌else◌}
 use Rattle.st_card.specs.Cards.{cards_of}
 use Rattle.st_card.specs.Controls.{Asked}
 use Rattle.st_asm.specs.Pass.{Refusal, then_for}

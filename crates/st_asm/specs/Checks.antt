@@ -1,10 +1,10 @@
 -- The faults of the value pass.
-use Rattle.std.specs.Prelude.{ℕ, ℤ, pos, negsuc, ◌+◌, ◌*◌, ◌%◌, ◌^◌, ◌==◌, ◌&&◌, ◌||◌, Bool, true, false, not, nat_le, nat_lt, unsigned_abs, List, [], ◌∷◌, Option, Some, None, if◌then◌else◌}
+use Rattle.std.specs.Prelude.{ℕ, ℤ, pos, negsuc, ◌+◌, ◌*◌, ◌%◌, ◌^◌, ◌==◌, ◌&&◌, ◌||◌, Bool, true, false, not, nat_le, nat_lt, unsigned_abs, [], ◌∷◌, Option, if◌then◌else◌}
 use Rattle.st_card.specs.Cards.{first_fault}
 use Rattle.st_card.specs.declared.faults.Fault.{Fault}
 use Rattle.st_card.specs.declared.faults.Fault.TheVariants.{AddressOutOfRange, ValueDoesNotFit, NotOnABoundary, LocationOutOfStorage}
 use Rattle.st_strap.specs.declared.statement.Statement.{Statement}
-use Rattle.st_strap.specs.declared.statement.Statement.TheVariants.{Half, Sum, Refill, Branch, Floating, Vfl, Connect, Move, BitBranch, IndBranch, StoreCounter, Transfer, Data, IndexWord, Synonym, SetLocation, Reserve, End}
+use Rattle.st_strap.specs.declared.statement.Statement.TheVariants.{Half, Branch, Floating, Vfl, Connect, Move, BitBranch, IndBranch, StoreCounter, Transfer, Data, IndexWord, End}
 use Rattle.st_asm.specs.declared.values.Values.{Values}
 use Rattle.st_asm.specs.declared.places.Role.{Role}
 use Rattle.st_asm.specs.declared.places.Role.TheVariants.{Lays, Passes, Sets, Names, Ends}

@@ -1,5 +1,5 @@
 -- What a card is to the passes behind the first one: its number, its name and its statement.
-use Rattle.std.specs.Prelude.{ℕ, ◌==◌, List, [], ◌∷◌, length, take, drop, Option, Some, None, if◌then◌else◌}
+use Rattle.std.specs.Prelude.{ℕ, ◌==◌, List, [], ◌∷◌, take, drop, Option, Some, None, if◌then◌else◌}
 use Rattle.st_expr.specs.Name.{padded}
 use Rattle.st_strap.specs.declared.statement.Statement.{Statement}
 use Rattle.st_asm.specs.declared.line.Line.{Line}

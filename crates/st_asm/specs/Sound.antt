@@ -2,7 +2,6 @@
 use Rattle.std.specs.Prelude.{◌≡◌, ℕ, ◌+◌, ◌<◌, ◌≤◌, ◌^◌, List, length, slice_index, slice_index_or, map, All, IsAscii, IsTrue, Option, IfSome}
 use Rattle.st_bits.specs.Storage.{words_of_storage}
 use Rattle.st_card.specs.Limits.{IsWithinLimits}
-use Rattle.st_card.specs.Controls.{Asked}
 use Rattle.st_strap.specs.WellFormed.{IsWellFormedIfAny}
 use Rattle.st_asm.specs.Forming.{Found, is_built}
 use Rattle.st_asm.specs.Naming.{Named}

@@ -1,5 +1,5 @@
 -- Which names a statement speaks of, and whether they are known.
-use Rattle.std.specs.Prelude.{ℕ, Bool, true, false, List, [], ◌∷◌, map, Option, Some, None, is_some}
+use Rattle.std.specs.Prelude.{ℕ, Bool, true, List, [], ◌∷◌, map, Some, None, is_some}
 use Rattle.std.specs.List.{list_all, list_any, filter_map}
 use Rattle.arrayvec.specs.ArrayVec.{ArrayVec}
 use Rattle.st_card.specs.Tables.{is_same, row_of}

@@ -1,5 +1,5 @@
 -- What the expressions of a statement are worth.
-use Rattle.std.specs.Prelude.{ℕ, ℤ, pos, negsuc, ◌+◌, ◌-◌, ◌*◌, ◌/◌, ◌%◌, ◌^◌, List, [], ◌∷◌, Option, Some, None, unwrap_or}
+use Rattle.std.specs.Prelude.{ℕ, ℤ, pos, negsuc, ◌-◌, ◌%◌, ◌^◌, List, [], ◌∷◌, unwrap_or}
 use Rattle.arrayvec.specs.ArrayVec.{ArrayVec}
 use Rattle.st_expr.specs.Value.{sum_of}
 use Rattle.st_expr.specs.declared.terms.Term.{Term}

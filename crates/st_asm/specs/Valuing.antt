@@ -1,5 +1,5 @@
 -- The value pass: the image, the start, and the rows of the listing.
-use Rattle.std.specs.Prelude.{ℕ, ◌==◌, ◌/◌, List, [], ◌∷◌, ◌++◌, length, replicate, Option, Some, None, unwrap_or, unsigned_abs, Result, Ok, Err, if◌then◌else◌}
+use Rattle.std.specs.Prelude.{ℕ, ◌==◌, List, [], ◌∷◌, ◌++◌, length, replicate, Option, Some, None, unwrap_or, Result, Ok, if◌then◌else◌}
 use Rattle.std.specs.List.{zip}
 use Rattle.st_bits.specs.Bits.{bits, all_bits, put, words_of}
 use Rattle.st_bits.specs.Storage.{words_of_storage}

@@ -1,16 +1,15 @@
 //! A job assembled.
 
-ghost use Rattle.std.specs.Prelude.{◌≡◌, ◌<◌, ◌≤◌, ◌^◌, ℕ, All, None, IfOk, IfErr, OnErr, length, slice_index, [], ◌∷◌, ◌==◌, if◌then◌else◌};
+ghost use Rattle.std.specs.Prelude.{◌≡◌, ◌<◌, ◌^◌, All, None, IfOk, IfErr, length, ◌==◌, if◌then◌else◌};
 ghost use Rattle.st_card.specs.Cards.{cards_of};
-ghost use Rattle.st_card.specs.Limits.{IsWithinLimits};
 ghost use Rattle.st_asm.specs.Answers.{Explains};
 ghost use Rattle.st_asm.specs.Assembly as spec;
 ghost use Rattle.st_asm.specs.Sound.{IsSound};
 
-use crate::forming::{Deck, form_pass};
-use crate::naming::{Names, Symbol, name_pass};
+use crate::forming::form_pass;
+use crate::naming::{Symbol, name_pass};
 use crate::stop::AsmError;
-use crate::valuing::{Layout, Listed, value_pass};
+use crate::valuing::{Listed, value_pass};
 use st_card::{Controls, split};
 use std::alloc::Global;
 

@@ -1,8 +1,8 @@
 //! The bits that a statement lays.
 
-ghost use Rattle.std.specs.Prelude.{◌≡◌, ◌<◌, ◌≤◌, ◌^◌, ℤ, unsigned_abs, IsTrue, None};
+ghost use Rattle.std.specs.Prelude.{◌≡◌, ◌<◌, ◌^◌, unsigned_abs, IsTrue, None};
 ghost use Rattle.st_format.specs.Formats.{IsShape, second_half};
-ghost use Rattle.st_asm.specs.Checks.{fits as fitting, fits_index_word};
+ghost use Rattle.st_asm.specs.Checks.{fits as fitting};
 ghost use Rattle.st_asm.specs.Laying as spec;
 ghost use Rattle.st_asm.specs.Places.{role_of, length_in};
 ghost use Rattle.st_strap.specs.WellFormed.{IsWellFormed, IsSpotOrNone};

@@ -1,6 +1,6 @@
 //! What a card is to the passes behind the first one.
 
-ghost use Rattle.std.specs.Prelude.{◌≡◌, ◌≤◌, ◌<◌, ◌-◌, length, IfOk, IfErr, drop, take};
+ghost use Rattle.std.specs.Prelude.{◌≡◌, ◌≤◌, ◌<◌, ◌-◌, length, take};
 ghost use Rattle.st_asm.specs.Lines as spec;
 
 use st_card::columns;

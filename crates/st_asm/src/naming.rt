@@ -1,10 +1,10 @@
 //! The name pass: which names are defined, and the place of each card.
 
-ghost use Rattle.std.specs.Prelude.{◌≡◌, ◌<◌, ◌^◌, ℤ, ℕ, List, All, IfOk, IfErr, OnOk, IfSome, false, length, ◌++◌, ◌∷◌, []};
+ghost use Rattle.std.specs.Prelude.{◌≡◌, ◌<◌, ◌^◌, All, IfOk, IfErr, OnOk, false, ◌++◌, ◌∷◌, []};
 ghost use Rattle.st_asm.specs.Answers.{Stops, Explains};
 ghost use Rattle.st_asm.specs.Naming as spec;
 ghost use Rattle.st_asm.specs.Pass.{pass};
-ghost use Rattle.st_asm.specs.Symbols.{is_among, is_defined, names_of, table};
+ghost use Rattle.st_asm.specs.Symbols.{is_defined};
 ghost use Rattle.st_strap.specs.WellFormed.{IsWellFormed, IsWellFormedIfAny};
 
 use crate::line::Line;

@@ -1,6 +1,6 @@
 //! What the expressions of a statement are worth.
 
-ghost use Rattle.std.specs.Prelude.{◌≡◌, ◌<◌, ◌^◌, ◌+ℤ◌, ◌≤ℤ◌, ℤ, pos, neg_ℤ};
+ghost use Rattle.std.specs.Prelude.{◌≡◌, ◌<◌, ◌^◌, pos};
 ghost use Rattle.st_asm.specs.Values as spec;
 
 use st_expr::{Expr, Symbols, value_of};

@@ -1,10 +1,8 @@
 //! The value pass: the image, the start, and the rows of the listing.
 
-ghost use Rattle.std.specs.Prelude.{◌≡◌, ◌<◌, ◌≤◌, ◌^◌, ◌+◌, ◌*◌, ◌++◌, ◌∷◌, [], ℕ, List, All, IfOk, IfErr, OnOk, IfSome, IsTrue, None, length, unwrap_or, unsigned_abs, if◌then◌else◌};
-ghost use Rattle.std.specs.List.{zip};
+ghost use Rattle.std.specs.Prelude.{◌≡◌, ◌<◌, ◌≤◌, ◌^◌, ◌+◌, ◌*◌, ◌++◌, ◌∷◌, [], All, IfOk, IfErr, OnOk, IsTrue, None, length, unwrap_or, unsigned_abs, if◌then◌else◌};
 ghost use Rattle.st_asm.specs.Answers.{Stops, Explains};
 ghost use Rattle.st_asm.specs.Checks.{value_fault as fault_of, in_storage};
-ghost use Rattle.st_asm.specs.Pass.{pass};
 ghost use Rattle.st_asm.specs.Valuing as spec;
 ghost use Rattle.st_asm.specs.Forming.{is_end as ends};
 ghost use Rattle.st_asm.specs.Laying.{half_word as half_word_of};
@@ -112,8 +110,8 @@ fn value_line(
     requires well { IsWellFormedIfAny line.now.statement }
     requires located { IsLocation place }
     requires sound { IsSoundLayout (spec.laid_in layout.old) }
-    ensures ok { OnOk result (spec.value_card symbols.now (spec.laid_in layout.old) (line.now, place)
-        ≡ Ok (spec.laid_in layout.new)) }
+    ensures ok { OnOk result (spec.value_card symbols.now (spec.laid_in layout.old)
+        (line.now, place) ≡ Ok (spec.laid_in layout.new)) }
     ensures err { IfErr result
         (Stops (spec.value_card symbols.now (spec.laid_in layout.old) (line.now, place))) }
     ensures sound { OnOk result (IsSoundLayout (spec.laid_in layout.new)) }

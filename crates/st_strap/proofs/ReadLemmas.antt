@@ -6,7 +6,6 @@ use Rattle.std.specs.Result.{IfOk}
 use Rattle.st_card.specs.Tables.{is_same, row_of}
 use Rattle.st_card.specs.declared.faults.Fault.{Fault}
 use Rattle.st_strap.specs.Order.{both_of, mapped, judged}
-use Rattle.st_strap.specs.Reading.{unindexed}
 
 -- what is there has a property
 pub some-judged : {A B : Type 0} (Q : A → Type 0) (P : B → Type 0) (fault : Fault) (o : Option A) (next : A → Result B Fault) →

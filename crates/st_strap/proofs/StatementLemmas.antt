@@ -1,10 +1,9 @@
 -- A statement that was read has parts that fit their places.
-use Rattle.std.proofs.Common.{◌≡◌, ◌≤◌, ◌<◌, ◌+◌, ◌-◌, ◌==◌, ◌&&◌, ◌||◌, ◌^◌, ℕ, Bool, true, false, not, nat_lt, nat_le, List, [], ◌∷◌, length, take, drop, Option, Some, None, Result, Ok, Err, refl, sym, subst, lit<, lit≤, arith, if◌then◌else◌}
-use Rattle.std.specs.Bool.{IsTrue, IsFalse}
+use Rattle.std.proofs.Common.{◌≡◌, ◌≤◌, ◌<◌, ◌+◌, ◌-◌, ◌==◌, ◌&&◌, ◌||◌, ℕ, Bool, true, false, not, nat_lt, nat_le, List, [], ◌∷◌, length, take, Option, Some, None, Result, Ok, Err, refl, subst, lit<, lit≤, arith, if◌then◌else◌}
+use Rattle.std.specs.Bool.{IsFalse}
 use Rattle.std.specs.Option.{IfSome, option_map, option_map_or, option_and_then, option_zip}
 use Rattle.std.specs.Result.{IfOk}
-use Rattle.arrayvec.specs.ArrayVec.{ArrayVec}
-use Rattle.st_card.specs.Number.{reading, is_number, is_filled, value}
+use Rattle.st_card.specs.Number.{is_number, is_filled, value}
 use Rattle.st_expr.specs.Name.{is_name}
 use Rattle.st_card.specs.declared.numbers.Reading.TheVariants.{Bad, Large, Good}
 use Rattle.st_card.specs.Pieces.{parted}
@@ -12,20 +11,18 @@ use Rattle.st_card.specs.Tables.{row_of}
 use Rattle.st_card.specs.declared.faults.Fault.{Fault}
 use Rattle.st_card.specs.declared.faults.Fault.TheVariants.{BadName, UnknownOperation, BadDataDescription, BadProgressive, BadFieldCount, BadIndex}
 use Rattle.st_expr.specs.Expression.{expr_of}
-use Rattle.st_expr.specs.declared.terms.Term.{Term}
 use Rattle.st_bits.specs.declared.operations.HalfOp.TheVariants.{Ex}
-use Rattle.st_bits.specs.declared.operations.VflOp.{VflOp}
-use Rattle.st_bits.specs.declared.operations.VflOp.TheVariants.{L, Lwf, Ltrs, Lft, St, Add, AddMg, MAdd, MAddMg, MAdd1, K, Kf, Ke, Kfe, Kr, Kfr, Mul, MulAdd, Div, Lcv}
+use Rattle.st_bits.specs.declared.operations.VflOp.TheVariants.{L, St, Add, K, Mul, Div}
 use Rattle.st_format.specs.Operations.{writes_field}
 use Rattle.st_format.specs.Validity.{misfits, misuses_p}
 use Rattle.st_format.specs.declared.operations.FullOp.TheVariants.{Variable, Connective}
 use Rattle.st_strap.proofs.TableBounds.{index_below}
-use Rattle.st_strap.specs.Order.{both_of, mapped, judged}
+use Rattle.st_strap.specs.Order.{both_of, judged}
 use Rattle.st_strap.specs.Text.{clean, word_of, behind_word, behind_group, fields_of, ends_with, group}
 use Rattle.st_strap.specs.Table.{operation_of, other_operations, index_operations, index_operation, field_operations, field_operation, negated_operation, connective, kinds, truth_tables}
 use Rattle.st_strap.specs.Describing.{description_of, in_pieces, in_mode, number_to, some_number, described, may_have, floating_number, plain_form, default_form, usual_byte, modes}
-use Rattle.st_strap.specs.Forming.{description_in, behind_description, progressed, with_number, may_have_form, may_progress, may_be_immediate, writes, form_number, forms, is_end}
-use Rattle.st_strap.specs.Reading.{front, index_part, index_field, index_fields, index_of, index_parts, spot, expression, plain_number, signed_number, selected}
+use Rattle.st_strap.specs.Forming.{description_in, behind_description, progressed, with_number, may_have_form, form_number, forms, is_end}
+use Rattle.st_strap.specs.Reading.{front, index_part, index_field, index_fields, index_of, index_parts, spot, expression, plain_number, selected}
 use Rattle.st_strap.specs.Saying.{misnames, index_alone, spot_alone, expression_alone, number_alone, index_and_spot, index_and_list, operand, two_addresses, spot_and_number, address_and_number, two_addresses_and_number, index_word, without_fields, with_fields, is_misnamed, formed, said, clean_statement_of, statement_of}
 use Rattle.st_strap.specs.declared.statement.Spot.{Spot}
 use Rattle.st_strap.specs.declared.statement.Form.{Form}

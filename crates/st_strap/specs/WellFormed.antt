@@ -1,5 +1,5 @@
 -- What the parts of a statement keep: the widths of their places in an instruction.
-use Rattle.std.specs.Prelude.{ℕ, ◌<◌, ◌≤◌, ◌^◌, IsFalse, Option, None, Some}
+use Rattle.std.specs.Prelude.{◌<◌, ◌≤◌, IsFalse, Option, None, Some}
 use Rattle.st_format.specs.Operations.{writes_field}
 use Rattle.st_format.specs.Validity.{misfits, misuses_p}
 use Rattle.st_format.specs.declared.operations.FullOp.TheVariants.{Variable, Connective}

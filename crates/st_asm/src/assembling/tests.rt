@@ -1,4 +1,6 @@
 //! Jobs with what they give, and jobs that are refused.
+ghost use Rattle.std.specs.Prelude.{◌<◌, ◌^◌, length};
+
 use super::*;
 use st_bits::NoMemory;
 use st_card::Fault;

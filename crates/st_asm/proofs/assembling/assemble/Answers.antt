@@ -1,14 +1,13 @@
-use Rattle.std.proofs.Common.{◌≡◌, ◌≤◌, ◌∙◌, List, ℕ, length, All, Option, Ok, ap, sym, subst}
+use Rattle.std.proofs.Common.{◌≤◌, ◌∙◌, List, ℕ, length, Option, ap, sym, subst}
 use Rattle.std.proofs.lemmas.List.Elements.{All-weaker, All-same}
 use Rattle.st_card.specs.Cards.{cards_of}
 use Rattle.st_card.specs.Controls.{Asked}
 use Rattle.st_card.specs.declared.cards.Card.{Card}
 use Rattle.st_strap.specs.WellFormed.{IsWellFormedIfAny}
-use Rattle.st_asm.specs.Assembly.{Assembly, together}
+use Rattle.st_asm.specs.Assembly.{Assembly}
 use Rattle.st_asm.specs.Forming.{form_pass, found_in}
 use Rattle.st_asm.specs.Naming.{name_pass, named_in}
 use Rattle.st_asm.specs.Valuing.{value_pass, laid_in}
-use Rattle.st_asm.specs.Symbols.{table}
 use Rattle.st_asm.specs.Sound.{IsLine, IsLocation, IsSound}
 use Rattle.st_asm.specs.declared.line.Line.{Line}
 use Rattle.st_asm.proofs.KeptLemmas.{few-cards, form_pass-deck, name_pass-named, together-sound}

@@ -1,4 +1,4 @@
-use Rattle.std.proofs.Common.{◌≡◌, ◌++◌, ◌∷◌, [], ◌-◌, take, length, get_or, ◌∙◌, sym, ap, arith, ℕ, List}
+use Rattle.std.proofs.Common.{◌≡◌, ◌++◌, ◌∷◌, [], ◌-◌, take, length, ◌∙◌, sym, ap, arith}
 use Rattle.std.proofs.lemmas.List.{length-take}
 use Rattle.st_asm.specs.Lines.{without_end}
 use Rattle.st_asm.proofs.LineLemmas.{last_and_before, blank_end, filled_end}

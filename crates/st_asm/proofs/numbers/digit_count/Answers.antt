@@ -1,6 +1,4 @@
-use Rattle.std.proofs.Common.{◌≡◌, ◌*◌, ◌/◌, ◌%◌, true, ℕ, Bool, ap, ◌∙◌, subst, sym}
-use Rattle.std.specs.Bool.{IsFalse}
-use Rattle.st_format.specs.Validity.{misfits}
+use Rattle.std.proofs.Common.{◌*◌, ◌/◌, ap, ◌∙◌}
 use Rattle.st_asm.proofs.FieldLemmas.{digits-whole}
 use Rattle.st_asm.proofs.numbers.digit_count.Goals as goal
 

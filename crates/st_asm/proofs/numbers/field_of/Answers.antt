@@ -1,7 +1,5 @@
-use Rattle.std.proofs.Common.{◌≡◌, ◌≤◌, ◌<◌, ◌+◌, ◌-◌, ◌*◌, ◌^◌, ◌%◌, Bool, ℕ, false, ap, sym, subst, ◌∙◌, arith, if◌then◌else◌}
-use Rattle.std.specs.Bool.{IsFalse}
-use Rattle.st_format.specs.Validity.{misfits}
-use Rattle.st_asm.specs.Numbers.{field_of, magnitude_bits, magnitude, sign_byte}
+use Rattle.std.proofs.Common.{◌+◌, ◌*◌, ◌^◌, Bool, ap, sym, ◌∙◌, arith, if◌then◌else◌}
+use Rattle.st_asm.specs.Numbers.{field_of, magnitude, sign_byte}
 use Rattle.st_asm.proofs.FieldLemmas.{signed-parts}
 use Rattle.st_asm.proofs.numbers.field_of.Goals as goal
 

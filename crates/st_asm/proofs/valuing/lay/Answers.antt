@@ -1,4 +1,4 @@
-use Rattle.std.proofs.Common.{◌≡◌, ◌∙◌, ap, sym, subst}
+use Rattle.std.proofs.Common.{◌∙◌, ap, sym, subst}
 use Rattle.std.specs.Bool.{IsTrue}
 use Rattle.st_asm.specs.Checks.{in_storage}
 use Rattle.st_asm.specs.Places.{role_of, length_in}
