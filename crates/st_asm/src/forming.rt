@@ -142,9 +142,9 @@ fn add_control(deck: &mut Deck, card: u32, text: &[u8]) -> Result<(), Stop>
     }
 }
 
-// Whether all that is asked for is built.
+/// Whether all that is asked for is built: times, charts, snapshots and steps back are not.
 #[tactic(auto, unfolding(crate::specs::Forming::is_built))]
-fn is_built(controls: &Controls) -> bool
+pub fn is_built(controls: &Controls) -> bool
     ensures { result ≡ spec.is_built controls.now }
 {
     !controls.time && !controls.chart && controls.snaps.is_empty() && controls.back == 0

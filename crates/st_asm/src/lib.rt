@@ -16,6 +16,7 @@ mod values;
 mod valuing;
 
 pub use assembling::{Assembled, assemble};
+pub use forming::is_built;
 pub use laws::passes_stop_at_the_first_fault;
 pub use naming::Symbol;
 pub use stop::AsmError;

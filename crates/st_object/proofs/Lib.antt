@@ -13,3 +13,4 @@ pub mod ReadBack
 pub mod Completed
 pub mod Refused
 pub mod Answered
+pub mod Askings

@@ -221,7 +221,7 @@ impl Draft {
 
     // Puts in what a line says.
     #[tactic(auto, unfolding(crate::specs::Draft::with_value))]
-    fn put(&mut self, item: Item) -> Outcome
+    pub(crate) fn put(&mut self, item: Item) -> Outcome
         ensures { Settles self.new (spec.with_value self.old item) result }
     {
         match item {

@@ -1,5 +1,5 @@
 -- What the answer of a run says of its output.
-use Rattle.std.proofs.Common.{◌≡◌, ℕ, List, sym, ◌∙◌, ap, subst}
+use Rattle.std.proofs.Common.{◌≡◌, ℕ, List, [], sym, ◌∙◌, ap, subst}
 use Rattle.std.specs.Prelude.{Result, Ok, Err, OnOk, OnErr}
 use Rattle.st_io.specs.Output.{OutputState, Wrote}
 use Rattle.st_io.specs.declared.Failed.{Failed}
@@ -12,7 +12,8 @@ use Rattle.st_exch.specs.Reader.{reader_cards}
 use Rattle.st_exec.specs.Run.{Signal, Scene, run}
 use Rattle.st_top.specs.Signals.{signals_of}
 use Rattle.st_top.specs.Listing.{listing}
-use Rattle.st_top.specs.Output.{Output, lines_alone, output_of_run, ran_by, start_of, run_of}
+use Rattle.st_object.specs.Object.{Program}
+use Rattle.st_top.specs.Output.{Output, lines_alone, output_of_run, ran_by, start_of, run_of, loaded_by, loaded_run}
 use Rattle.st_top.specs.Answers.{WroteAll, Writes}
 use Rattle.st_top.specs.Running.{WritesEvents}
 use Rattle.st_top.specs.declared.answer.Answer.{Answer}
@@ -53,3 +54,12 @@ pub wrote_alone : (s t : OutputState) (ls : List (List ℕ)) (answer : Answer) �
 wrote_alone s t ls answer w good done ticks =
     let all : WroteAll s t (lines_alone Done ls) answer = record { status = good; wrote = wrote_at_moment s t 0 0 ls w; done = done; ticks = ticks } in
     subst (λ st. Writes st s t (lines_alone Done ls) answer) (sym good) all
+
+-- so it is with a program that is loaded
+pub loaded_is : (p : Program) (c : Scene) (m : Machine) (signals : List Signal) (cards : List (List ℕ)) → c ≡ record { machine = m; signals = signals; cards = cards } → m ≡ opening p.words p.start → signals ≡ signals_of p.controls.signals → cards ≡ [] → output_of_run [] p.controls (run p.controls.budget c) ≡ loaded_by (Ok p)
+unfolding loaded_run
+loaded_is p c m signals cards e q r s =
+    let with_machine : Machine → Scene = λ k. record { machine = k; signals = signals; cards = cards } in
+    let with_signals : List Signal → Scene = λ k. record { machine = opening p.words p.start; signals = k; cards = cards } in
+    let with_cards : List (List ℕ) → Scene = λ k. record { machine = opening p.words p.start; signals = signals_of p.controls.signals; cards = k } in
+    ap (λ k. output_of_run [] p.controls (run p.controls.budget k)) (e ∙ (ap with_machine q ∙ (ap with_signals r ∙ ap with_cards s)))

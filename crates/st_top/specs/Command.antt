@@ -2,13 +2,14 @@
 use Rattle.std.specs.Prelude.{ℕ, nat_eq, codes, if◌then◌else◌, List, [], ◌∷◌, Option, None, Some}
 use Rattle.std.specs.Cmp.Lexicographic.{pointwise}
 use Rattle.st_top.specs.declared.command.Command.{Command}
-use Rattle.st_top.specs.declared.command.Command.TheVariants.{Run, Assemble}
+use Rattle.st_top.specs.declared.command.Command.TheVariants.{Run, Assemble, Load}
 
 -- the command that a word is
 abbrev pub command_named : List ℕ → Option Command
 command_named word =
     if pointwise nat_eq word (codes "run") then Some Run
     else if pointwise nat_eq word (codes "assemble") then Some Assemble
+    else if pointwise nat_eq word (codes "load") then Some Load
     else None
 
 -- the command that the words are, or none

@@ -3,6 +3,7 @@ pub mod Signals
 pub mod Report
 pub mod Listing
 pub mod ObjectText
+pub mod Loading
 pub mod Output
 pub mod Answers
 pub mod Running

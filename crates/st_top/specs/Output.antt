@@ -13,10 +13,13 @@ use Rattle.st_top.specs.Signals.{signals_of}
 use Rattle.st_top.specs.Listing.{listing}
 use Rattle.st_top.specs.Report.{report}
 use Rattle.st_top.specs.ObjectText.{program_in, object_lines}
+use Rattle.st_top.specs.Loading.{loaded}
+use Rattle.st_object.specs.Object.{Program}
+use Rattle.st_card.specs.declared.faults.Fault.TheVariants.{BadObjectCard}
 use Rattle.st_top.specs.declared.answer.Status.{Status}
 use Rattle.st_top.specs.declared.answer.Status.TheVariants.{Done, Refused}
 use Rattle.st_top.specs.declared.command.Command.{Command}
-use Rattle.st_top.specs.declared.command.Command.TheVariants.{Run, Assemble}
+use Rattle.st_top.specs.declared.command.Command.TheVariants.{Run, Assemble, Load}
 
 -- the status, the lines, the number of instructions done and the tick of the last completion
 pub record Output : Type 0 where
@@ -64,7 +67,21 @@ abbrev pub assembled_by : Result Assembly Refusal → Output
 assembled_by (Ok a) = lines_alone Done (object_lines (program_in a))
 assembled_by (Err r) = refused r
 
+-- the whole run of a program that is loaded; the reader is empty
+unfoldable pub loaded_run : Program → Ran
+loaded_run p = run p.controls.budget (record {
+  machine = opening p.words p.start;
+  signals = signals_of p.controls.signals;
+  cards = [];
+})
+
+-- the output of `load`, by what an object text gives: the program, or the number of the line that is refused
+abbrev pub loaded_by : Result Program ℕ → Output
+loaded_by (Ok p) = output_of_run [] p.controls (loaded_run p)
+loaded_by (Err n) = refused (record { card = n; fault = BadObjectCard })
+
 -- the output of a command on a job
 unfoldable pub output_of : Command → List ℕ → Output
 output_of Run job = ran_by job (assembly job)
 output_of Assemble job = assembled_by (assembly job)
+output_of Load text = loaded_by (loaded text)

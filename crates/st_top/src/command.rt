@@ -9,6 +9,8 @@ pub enum Command {
     Run,
     /// Read a job, assemble it and write its object text.
     Assemble,
+    /// Read an object text, run it and write its report.
+    Load,
 }
 
 /// The command that the words are; None where they mean nothing.
@@ -18,6 +20,7 @@ pub fn read_words(words: &[String]) -> Option<Command>
     match words {
         [word] if word.as_str() == "run" => Some(Command::Run),
         [word] if word.as_str() == "assemble" => Some(Command::Assemble),
+        [word] if word.as_str() == "load" => Some(Command::Load),
         _ => None,
     }
 }

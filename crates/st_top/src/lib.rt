@@ -6,9 +6,12 @@
 mod answer;
 mod block;
 mod command;
+mod execution;
 mod listing;
+mod loading;
 mod objects;
 mod program;
+mod refusal;
 mod running;
 mod scene;
 

@@ -4,7 +4,7 @@ use Rattle.st_exec.specs.Run.{run}
 use Rattle.st_top.specs.Listing.{listing}
 use Rattle.st_top.specs.Output.{output_of_run}
 use Rattle.st_top.proofs.Outputs.{writes_run}
-use Rattle.st_top.proofs.program.answer_run.Goals as goal
+use Rattle.st_top.proofs.execution.answer_run.Goals as goal
 
 pub returns-clause-writes : goal.returns-clause-writes
 returns-clause-writes g c =

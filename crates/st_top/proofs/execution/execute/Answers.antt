@@ -3,7 +3,7 @@ use Rattle.st_asm.specs.Assembly.{shown}
 use Rattle.st_state.specs.Machine.{opening}
 use Rattle.st_top.specs.Signals.{signals_of}
 use Rattle.st_top.proofs.Outputs.{start_is, output_is, writes_output}
-use Rattle.st_top.proofs.program.execute.Goals as goal
+use Rattle.st_top.proofs.execution.execute.Goals as goal
 
 pub returns-clause-writes : goal.returns-clause-writes
 returns-clause-writes g c =

@@ -3,7 +3,7 @@ use Rattle.st_exec.specs.Run.{run}
 use Rattle.st_top.specs.Listing.{listing}
 use Rattle.st_top.specs.Report.{report}
 use Rattle.st_top.proofs.Runs.{lines_and_run, lines_alone}
-use Rattle.st_top.proofs.program.write_output.Goals as goal
+use Rattle.st_top.proofs.execution.write_output.Goals as goal
 
 pub returns-in_err-write_listing : goal.returns-in_err-write_listing
 returns-in_err-write_listing g c =

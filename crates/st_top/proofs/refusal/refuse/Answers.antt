@@ -2,7 +2,7 @@ use Rattle.std.proofs.Common.{[], ◌∷◌}
 use Rattle.st_card.specs.Faults.{name_of}
 use Rattle.st_lines.proofs.Writing.{stopped_at_moment}
 use Rattle.st_report.specs.Line.{fault_line}
-use Rattle.st_top.proofs.program.refuse.Goals as goal
+use Rattle.st_top.proofs.refusal.refuse.Goals as goal
 
 -- the line belongs to no event of a run
 pub returns-in-Err-clause-writes : goal.returns-in-Err-clause-writes

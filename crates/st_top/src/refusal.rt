@@ -1,0 +1,36 @@
+//! The one line of a job that is refused.
+ghost use Rattle.std.specs.Prelude.{◌≡◌, [], ◌∷◌};
+ghost use Rattle.st_card.specs.Faults.{name_of};
+ghost use Rattle.st_lines.specs.Lines.{WritesLines};
+ghost use Rattle.st_report.specs.Line.{fault_line};
+ghost use Rattle.st_top.specs.Answers.{Writes};
+ghost use Rattle.st_top.specs.Output.{refused};
+
+use crate::answer::{Answer, Status};
+use crate::block::put;
+use st_card::Fault;
+use st_io::{Failed, Sink};
+use st_report::line_fault;
+
+/// Writes the line of a refused card.
+fn write_refusal<K: Sink>(out: &mut K, card: u32, fault: Fault) -> Result<(), Failed>
+    ensures { WritesLines (K.output out.old) (K.output out.new) (fault_line card (name_of fault) ∷ []) result }
+{
+    put(out, &line_fault(card, &fault.name()))
+}
+
+/// Refuses a job at a card.
+pub fn refuse<K: Sink>(out: &mut K, card: u32, fault: Fault) -> Answer
+    ensures writes { Writes result.status (K.output out.old) (K.output out.new)
+        (refused (record { card = card; fault = fault })) result }
+    ensures ticks { result.ticks ≡ 0 }
+{
+    match write_refusal(out, card, fault) {
+        Ok(()) => Answer::without_run(Status::Refused),
+        Err(_) => Answer {
+            status: Status::WriteFault,
+            done: 0,
+            ticks: 0,
+        },
+    }
+}
