@@ -34,6 +34,65 @@ const ASSEMBLED: [Case; 4] = [
     },
 ];
 
+/// The report of that deck.
+const REPORT: &str =
+    "END WAIT\nDONE 2\nIC 33.0\nEN 1\nREG 11 0000000000009000\nREG 12 FFFFF00000000000
+REG 17 0019000000000000\n";
+
+/// Object texts that are refused, and their bad lines.
+const REFUSED: [Case; 10] = [
+    Case {
+        shows: "the empty text",
+        job: "",
+        report: "CARD 1 BAD OBJECT CARD\n",
+    },
+    Case {
+        shows: "a deck of cards",
+        job: LOAD,
+        report: "CARD 1 BAD OBJECT CARD\n",
+    },
+    Case {
+        shows: "a word in lower-case digits",
+        job: "OBJECT\nSTART 32.0\nW 32 001903000000097a\nBUDGET 1000\nDELAY 1\nFIN\n",
+        report: "CARD 3 BAD OBJECT CARD\n",
+    },
+    Case {
+        shows: "a leading zero",
+        job: "OBJECT\nSTART 032.0\nBUDGET 1000\nDELAY 1\nFIN\n",
+        report: "CARD 2 BAD OBJECT CARD\n",
+    },
+    Case {
+        shows: "words that do not rise",
+        job: "OBJECT\nSTART 32.0\nW 33 0000000000000001\nW 32 0000000000000001\nBUDGET 1\nDELAY 1\nFIN\n",
+        report: "CARD 4 BAD OBJECT CARD\n",
+    },
+    Case {
+        shows: "a last line without its end",
+        job: "OBJECT\nSTART 32.0\nBUDGET 1\nDELAY 1\nFIN",
+        report: "CARD 6 BAD OBJECT CARD\n",
+    },
+    Case {
+        shows: "a line behind the last",
+        job: "OBJECT\nSTART 32.0\nBUDGET 1\nDELAY 1\nFIN\n\n",
+        report: "CARD 6 BAD OBJECT CARD\n",
+    },
+    Case {
+        shows: "ticks, which are not built",
+        job: "OBJECT\nSTART 32.0\nBUDGET 1\nDELAY 1\nTIME\nFIN\n",
+        report: "CARD 5 BAD OBJECT CARD\n",
+    },
+    Case {
+        shows: "stepping back, which is not built, before a bad line",
+        job: "OBJECT\nSTART 32.0\nBUDGET 1\nDELAY 1\nBACK 5\nFIN\nFIN\n",
+        report: "CARD 5 BAD OBJECT CARD\n",
+    },
+    Case {
+        shows: "a bad line before what is not built",
+        job: "OBJECT\nSTART 32.0\nBUDGET 0\nDELAY 1\nCHART\nFIN\n",
+        report: "CARD 3 BAD OBJECT CARD\n",
+    },
+];
+
 /// Answers a job by a command, over a source and a sink that do not fail.
 fn answer_to(alloc: Global, word: &str, job: &str) -> Result<(Answer, Option<Vec<u8>>), Fail> {
     let words = owned(alloc, &[word])?;
@@ -53,6 +112,36 @@ fn a_job_is_assembled_to_its_object_text_and_does_not_run(rt: HostRuntime) -> Re
             Status::Done
         };
         assert_eq!(rt; answer, Answer::without_run(status), "{}", case.shows);
+        let written = written.ok_or("no room")?;
+        assert_eq!(rt;
+            written.as_slice(),
+            case.report.as_bytes(),
+            "{}",
+            case.shows
+        );
+    }
+    Ok(())
+}
+
+#[test]
+fn an_object_text_gives_the_report_of_its_job(rt: HostRuntime) -> Result<(), Fail> {
+    let (answer, written) = answer_to(rt.alloc(), "load", OBJECT)?;
+    assert_eq!(rt; (answer.status, answer.done), (Status::Done, 2));
+    let written = written.ok_or("no room")?;
+    assert_eq!(rt; written.as_slice(), REPORT.as_bytes());
+    Ok(())
+}
+
+#[test]
+fn a_bad_object_text_is_refused_at_its_first_bad_line(rt: HostRuntime) -> Result<(), Fail> {
+    for case in REFUSED {
+        let (answer, written) = answer_to(rt.alloc(), "load", case.job)?;
+        assert_eq!(rt;
+            answer,
+            Answer::without_run(Status::Refused),
+            "{}",
+            case.shows
+        );
         let written = written.ok_or("no room")?;
         assert_eq!(rt;
             written.as_slice(),
