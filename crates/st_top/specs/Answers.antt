@@ -58,8 +58,18 @@ Did command NoMemory input input' before after answer =
     CameWithin input input' job_limit × (input'.faults ≡ input.faults) × (after ≡ before) × NothingRan answer
 Did command Usage input input' before after answer = ⊥
 
+-- how a call with words that mean nothing ends: as a bad command line, or for want of memory
+abbrev pub IsRefusal : Status → Type 0
+IsRefusal Usage = Unit {0}
+IsRefusal NoMemory = Unit {0}
+IsRefusal Done = ⊥
+IsRefusal Refused = ⊥
+IsRefusal JobTooLong = ⊥
+IsRefusal ReadFault = ⊥
+IsRefusal WriteFault = ⊥
+
 -- what a call did, by the meaning of its words: words that mean nothing touch neither source nor sink
 abbrev pub IsAnswer : Option Command → InputState → InputState → OutputState → OutputState → Answer → Type 0
 IsAnswer None input input' before after answer =
-    (answer.status ≡ Usage) × (input' ≡ input) × (after ≡ before) × NothingRan answer
+    IsRefusal answer.status × (input' ≡ input) × (after ≡ before) × NothingRan answer
 IsAnswer (Some command) input input' before after answer = Did command answer.status input input' before after answer

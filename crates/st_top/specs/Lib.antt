@@ -1,4 +1,5 @@
 pub mod Command
+pub mod CommandLine
 pub mod Signals
 pub mod Report
 pub mod Listing

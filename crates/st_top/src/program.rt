@@ -1,6 +1,8 @@
-ghost use Rattle.std.specs.Prelude.{◌≡◌, ℕ, ◌+◌, ◌*◌, ◌<◌, ◌≤◌, ◌^◌, ◌↔◌, None, map, length};
+ghost use Rattle.std.specs.Prelude.{◌≡◌, ℕ, ◌+◌, ◌*◌, ◌<◌, ◌≤◌, ◌^◌, None, false, map, length};
+ghost use Rattle.std.specs.List.{list_all};
 ghost use Rattle.std.specs.String.{string_bytes};
 ghost use Rattle.st_top.specs.Command.{command_of};
+ghost use Rattle.st_top.specs.CommandLine.{is_plain};
 ghost use Rattle.st_top.specs.declared.command.Command.TheVariants.{Run, Assemble, Load};
 ghost use Rattle.st_top.specs.Output.{output_of};
 ghost use Rattle.st_top.specs.Answers.{Writes, Did, IsAnswer};
@@ -102,14 +104,18 @@ pub fn stretch<S: Source, K: Sink>(
     ensures answer { IsAnswer (command_of (map string_bytes words.now))
         (S.input job.old) (S.input job.new) (K.output out.old) (K.output out.new) result }
 
-    ensures usage { (result.status ≡ Status.Usage) ↔ (command_of (map string_bytes words.now) ≡ None) }
+    // A bad command line is one of words that mean nothing, and one with a word that is empty or begins with `-` is
+    // always called so.
+    ensures usage { result.status ≡ Status.Usage → command_of (map string_bytes words.now) ≡ None }
+    ensures plain { list_all is_plain (map string_bytes words.now) ≡ false → result.status ≡ Status.Usage }
 
     // Ticks are not modelled yet.
     ensures ticks { result.ticks ≡ 0 }
     ensures bound { (delay : ℕ) → 1 ≤ delay → result.ticks ≤ 64 * (delay + 4) * (result.done + 1) }
 {
-    match read_words(words) {
-        Some(command) => answer(alloc, command, job, out),
-        None => Answer::without_run(Status::Usage),
+    match read_words(alloc, words) {
+        Ok(Some(command)) => answer(alloc, command, job, out),
+        Ok(None) => Answer::without_run(Status::Usage),
+        Err(_) => Answer::without_run(Status::NoMemory),
     }
 }
