@@ -14,7 +14,7 @@ use std::test::Fail;
 
 #[test]
 fn words_that_mean_nothing_touch_neither_job_nor_report(rt: HostRuntime) -> Result<(), Fail> {
-    let lines: [&[&str]; 9] = [
+    let lines: [&[&str]; 13] = [
         &["run", "now"],
         &["run", "run"],
         &["run", ""],
@@ -24,6 +24,10 @@ fn words_that_mean_nothing_touch_neither_job_nor_report(rt: HostRuntime) -> Resu
         &[""],
         &["-h"],
         &["--help"],
+        &["assemble", "now"],
+        &["soak", "7030", "40"],
+        &["disassemble"],
+        &["sweep"],
     ];
     for line in lines {
         let words = owned(rt.alloc(), line)?;
