@@ -9,8 +9,8 @@ use Rattle.st_lines.proofs.Progress.{LinesSoFar}
 use Rattle.st_report.specs.Line.{lf}
 use Rattle.st_card.specs.Pieces.{parted, onto_first}
 use Rattle.st_object.specs.Lines.{spelled, text_of}
-use Rattle.st_object.specs.Draft.{blank, lines_of}
-use Rattle.st_object.specs.Object.{Program, IsProgram, draft_of, object_text, read_text}
+use Rattle.st_object.specs.Draft.{blank}
+use Rattle.st_object.specs.Object.{Program, IsProgram, object_lines as lines_of, object_text, read_text}
 use Rattle.st_object.proofs.Again.{made_again}
 use Rattle.st_object.proofs.Accepted.{accepted}
 use Rattle.st_object.proofs.ReadBack.{parted-text_of}
@@ -54,7 +54,7 @@ text-map f (item ∷ more) = ap (λ (s : List ℕ). f item ++ s) (text-map f mor
 -- the lines one after another are the text
 pub text-object_lines : (p : Program) → text (object_lines p) ≡ object_text p
 unfolding object_lines
-text-object_lines p = text-map (λ item. spelled item ++ lf) (lines_of (draft_of p))
+text-object_lines p = text-map (λ item. spelled item ++ lf) (lines_of p)
 
 -- the lines of an object text are those of its program
 pub object_text-lines : (p : Program) (written : List ℕ) → written ≡ object_text p → IsProgram p → read_text written ≡ Ok p → ended_lines (parted 10 written) ≡ object_lines p
@@ -62,4 +62,4 @@ unfolding object_lines
 object_text-lines p written e is read =
     let makes = made_again p is (accepted written p read).words in
     ap (λ (s : List ℕ). ended_lines (parted 10 s)) e
-    ∙ (ap ended_lines (parted-text_of (lines_of (draft_of p)) blank makes.last makes.steps) ∙ ended-map spelled (lines_of (draft_of p)))
+    ∙ (ap ended_lines (parted-text_of (lines_of p) blank makes.last makes.steps) ∙ ended-map spelled (lines_of p))

@@ -2,8 +2,7 @@
 use Rattle.std.specs.Prelude.{ℕ, false, List, [], ◌∷◌, ◌++◌, map}
 use Rattle.st_asm.specs.Assembly.{Assembly}
 use Rattle.st_object.specs.Lines.{spelled}
-use Rattle.st_object.specs.Draft.{lines_of}
-use Rattle.st_object.specs.Object.{Program, draft_of}
+use Rattle.st_object.specs.Object.{Program, object_lines as lines_of}
 use Rattle.st_report.specs.Line.{lf}
 
 -- what an object text keeps of a job that is assembled: all but whether it is listed
@@ -12,7 +11,7 @@ program_in a = record { words = a.image; start = a.start; controls = record a.as
 
 -- the lines of the object text of a program, each with its line end
 unfoldable pub object_lines : Program → List (List ℕ)
-object_lines p = map (λ item. spelled item ++ lf) (lines_of (draft_of p))
+object_lines p = map (λ item. spelled item ++ lf) (lines_of p)
 
 -- the pieces of a text that have a line end behind them, each with it
 abbrev pub ended_lines : List (List ℕ) → List (List ℕ)
