@@ -1,8 +1,10 @@
 -- What holds where the value pass finds no fault.
 use Rattle.std.proofs.Common.{◌≡◌, ◌≤◌, ◌<◌, ◌+◌, ◌*◌, ◌==◌, ◌^◌, ◌||◌, ◌&&◌, ℕ, ℤ, pos, negsuc, Bool, true, false, not, List, [], ◌∷◌, None, nat_lt, nat_le, length, is_some, unsigned_abs, refl, arith}
+use Rattle.std.proofs.lemmas.Bool.{and_parts as both}
 use Rattle.st_card.specs.Cards.{first_fault}
 use Rattle.st_card.specs.declared.faults.Fault.{Fault}
 use Rattle.st_card.specs.declared.faults.Fault.TheVariants.{NameTwice, UndefinedSymbol, SymbolNotEarlier, TooManyNames}
+use Rattle.st_strap.proofs.StatementLemmas.{either as either-true}
 use Rattle.st_strap.specs.declared.statement.Statement.{Statement}
 use Rattle.st_strap.specs.declared.statement.Statement.TheVariants.{IndexWord}
 use Rattle.st_asm.specs.Naming.{Named, is_taken, is_known, is_earlier, name_fault}
@@ -35,11 +37,6 @@ faultless s v place none =
 pub address-below : (a : ℤ) → is_address a ≡ true → unsigned_abs a < 2 ^ 24
 address-below (pos n) is = grind arith
 address-below (negsuc n) is = let no : ⊥ = cc in absurd no
-
-both : (a b : Bool) → (a && b) ≡ true → (a ≡ true) × (b ≡ true)
-both true true e = (refl, refl)
-both true false e = let no : ⊥ = cc in absurd no
-both false b e = let no : ⊥ = cc in absurd no
 
 -- the second value is an address
 pub second-below : (s : Statement) (v : Values) → in_range s v ≡ true → unsigned_abs v.second < 2 ^ 24
@@ -81,10 +78,6 @@ fresh-name on_cards named line none =
     ((not (is_known on_cards line.statement), UndefinedSymbol)
     ∷ (not (is_earlier symbols line.statement), SymbolNotEarlier)
     ∷ (is_some line.name && nat_le 4000 (length named.symbols), TooManyNames) ∷ []) none
-
-either-true : (a b : Bool) → (a || b) ≡ true → a ≡ false → b ≡ true
-either-true true b e f = let no : ⊥ = cc in absurd no
-either-true false b e f = e
 
 -- bits in storage, if there are any, are behind the registers and before the end
 pub storage-means : (place count : ℕ) → in_storage place count ≡ true → (count ≡ 0 → ⊥) →

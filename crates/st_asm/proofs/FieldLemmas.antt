@@ -1,5 +1,6 @@
 -- Numbers put together in fields.
 use Rattle.std.proofs.Common.{mod-eq_of_lt, ◌≡◌, ◌≤◌, ◌<◌, ◌+◌, ◌-◌, ◌*◌, ◌/◌, ◌%◌, ◌^◌, ◌&&◌, ◌||◌, ◌==◌, ℕ, zero, suc, Bool, true, false, not, nat_lt, subst, refl, ap, sym, ◌∙◌, arith, if◌then◌else◌}
+use Rattle.std.proofs.lemmas.Bool.{not-false as not_true, or_parts as either_false}
 use Rattle.std.proofs.Math.Pow.{pow_mono, pow-lt}
 use Rattle.std.proofs.Math.Nat.{mod-le, add-mod_left}
 use Rattle.std.specs.Bool.{IsTrue, IsFalse}
@@ -56,15 +57,6 @@ sign-below byte place within =
     let whole : 1 * 2 ^ place ≡ 2 ^ place = omega arith in
     let kept : 1 * 2 ^ place % 2 ^ 64 ≤ 1 * 2 ^ place = mod-le (1 * 2 ^ place) (2 ^ 64) in
     omega arith
-
-either_false : (a b : Bool) → (a || b) ≡ false → (a ≡ false) × (b ≡ false)
-either_false false false e = (refl, refl)
-either_false false true e = let no : ⊥ = cc in absurd no
-either_false true b e = let no : ⊥ = cc in absurd no
-
-not_true : (b : Bool) → not b ≡ false → b ≡ true
-not_true true e = refl
-not_true false e = let no : ⊥ = cc in absurd no
 
 -- a decimal field is made of whole bytes
 pub whole_bytes : (unsigned : Bool) (bits byte : ℕ) → IsFalse (misfits true unsigned bits byte) → bits % byte ≡ 0

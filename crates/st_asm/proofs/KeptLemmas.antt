@@ -1,5 +1,6 @@
 -- What the passes keep.
 use Rattle.std.proofs.Common.{◌≡◌, ◌≤◌, ◌<◌, ◌+◌, ◌-◌, ◌^◌, ◌&&◌, ◌==◌, ℕ, zero, suc, ℤ, pos, negsuc, Bool, true, false, not, nat_le, List, [], ◌∷◌, ◌++◌, length, map, get_or, replicate, Option, Some, None, unwrap_or, Result, Ok, Err, refl, ap, sym, ◌∙◌, subst, append_assoc, append-nil, length-append, lit≤, lit<, arith, if◌then◌else◌}
+use Rattle.std.proofs.lemmas.Bool.{and_parts as both}
 use Rattle.std.specs.List.{All, zip, list_all}
 use Rattle.std.specs.Str.{IsAscii}
 use Rattle.std.specs.Char.{is_ascii_uppercase}
@@ -143,11 +144,6 @@ upper-below c is = grind (arith, nat_tests, is)
 
 name_byte-below : (c : ℕ) → is_name_byte c ≡ true → c < 128
 name_byte-below c is = grind (arith, nat_tests, is)
-
-both : (a b : Bool) → (a && b) ≡ true → (a ≡ true) × (b ≡ true)
-both true true e = (refl, refl)
-both true false e = let no : ⊥ = cc in absurd no
-both false b e = let no : ⊥ = cc in absurd no
 
 bytes-below : (cs : List ℕ) (n i : ℕ) → list_all is_name_byte cs ≡ true → get_or (cs ++ replicate n 32) i 0 < 128
 bytes-below [] zero i all = lit< tt

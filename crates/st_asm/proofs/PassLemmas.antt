@@ -1,6 +1,6 @@
 -- How a pass goes on, and where it stops.
 use Rattle.std.proofs.Common.{◌≡◌, ◌≤◌, ◌<◌, ◌-◌, ℕ, suc, refl, List, [], ◌∷◌, length, get_or, take, drop, Result, Ok, ap, sym, ◌∙◌, arith}
-use Rattle.std.proofs.Math.Seq.{take-length}
+use Rattle.st_card.proofs.ListLemmas.{first_and_rest}
 use Rattle.st_card.specs.declared.faults.Fault.{Fault}
 use Rattle.st_asm.specs.Pass.{onward, pass}
 use Rattle.st_asm.specs.Answers.{Stops, Explains, stopped_at}
@@ -8,13 +8,10 @@ use Rattle.st_asm.specs.declared.stop.Stop.{Stop}
 use Rattle.st_asm.specs.declared.stop.Stop.TheVariants.{Faulty, NoMemory}
 
 -- a list that is not empty, as a slice pattern has it
-pub first_and_rest : {X : Type 0} (xs : List X) (first : X) → 1 ≤ length xs → first ≡ get_or xs 0 first →
+pub with_first : {X : Type 0} (xs : List X) (first : X) → 1 ≤ length xs → first ≡ get_or xs 0 first →
     xs ≡ first ∷ take (length xs - 1) (drop 1 xs)
-first_and_rest [] first some is_first = let no : ⊥ = omega arith in absurd no
-first_and_rest (x ∷ xs) first some is_first =
-    let count : length xs ≡ suc (length xs) - 1 = omega arith in
-    let tail : xs ≡ take (suc (length xs) - 1) xs = sym (take-length xs) ∙ ap (λ n. take n xs) count in
-    ap (λ y. y ∷ xs) (sym is_first) ∙ ap (λ t. first ∷ t) tail
+with_first xs first some is_first =
+    first_and_rest xs first some ∙ ap (λ y. y ∷ take (length xs - 1) (drop 1 xs)) (sym is_first)
 
 -- a card without a fault
 pub pass-next : {S X : Type 0} (next : S → X → Result S Fault) (number : X → ℕ) (state after : S) (x : X) (xs all : List X) →

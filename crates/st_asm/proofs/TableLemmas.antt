@@ -1,17 +1,12 @@
 -- Tables of names, and which names are in them.
 use Rattle.std.proofs.Common.{◌≡◌, ◌&&◌, ◌||◌, ℕ, Bool, true, false, cond, List, [], ◌∷◌, ◌++◌, Some, None, is_some, nat_eq, refl, ap, sym, ◌∙◌}
-use Rattle.std.proofs.lemmas.Bool.{eqb-true}
+use Rattle.std.proofs.lemmas.Bool.{eqb-true, and_parts as both_true}
 use Rattle.std.specs.Cmp.Lexicographic.{pointwise}
 use Rattle.std.specs.List.{cons_option}
 use Rattle.st_card.specs.Tables.{is_same, row_of}
 use Rattle.st_expr.specs.Value.{Defines}
 use Rattle.st_asm.specs.Symbols.{is_among, is_defined, names_of}
 use Rattle.st_asm.specs.declared.line.Line.{Line}
-
-both_true : (a b : Bool) → (a && b) ≡ true → (a ≡ true) × (b ≡ true)
-both_true true true e = (refl, refl)
-both_true true false e = (refl, e)
-both_true false b e = let no : ⊥ = cc in absurd no
 
 -- words that are the same are equal
 pub same_words : (a b : List ℕ) → is_same a b ≡ true → a ≡ b

@@ -9,7 +9,8 @@ use Rattle.st_bin.specs.declared.accumulator.Acc.{Acc}
 use Rattle.st_bin.specs.declared.outcome.Done.{Done}
 use Rattle.st_bin.specs.declared.fields.Field.{Field}
 use Rattle.st_bin.specs.declared.fields.Shape.{Shape}
-use Rattle.st_bin.specs.Indicators.{indicator, lost_carry, partial_field, flag_indicators, by_number, by_order, by_order_if_equal, by_range}
+use Rattle.st_bits.specs.Indicators.{indicator}
+use Rattle.st_bin.specs.Indicators.{lost_carry, partial_field, flag_indicators, by_number, by_order, by_order_if_equal, by_range}
 use Rattle.st_bin.specs.BinaryOperand.{magnitude_bits, zone_of, sign_of, flags_of, sign_byte, field_of, field_bits}
 use Rattle.st_bin.specs.Numbers.{signed, exactly_one, sign_after, exceeds}
 use Rattle.st_bin.specs.Digits.{value_of, digits_of}

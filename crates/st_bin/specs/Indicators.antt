@@ -3,10 +3,7 @@ use Rattle.std.specs.Prelude.{ℕ, ◌+◌, ◌-◌, ◌/◌, ◌%◌, ◌^◌, 
 use Rattle.std.specs.declared.cmp.Ordering.{Ordering}
 use Rattle.std.specs.declared.cmp.Ordering.TheVariants.{Less, Equal, Greater}
 use Rattle.st_bits.specs.declared.storage.Ind.{Ind}
-
--- the word with indicator n on and no other
-abbrev pub indicator : ℕ → ℕ
-indicator n = 2 ^ (63 - n)
+use Rattle.st_bits.specs.Indicators.{indicator}
 
 -- indicator n, where b holds
 abbrev pub on_if : Bool → ℕ → ℕ

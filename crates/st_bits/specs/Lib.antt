@@ -2,3 +2,4 @@ pub mod Bits
 pub mod IndexWord
 pub mod Registers
 pub mod Storage
+pub mod Indicators

@@ -1,5 +1,6 @@
 -- Adding a control card keeps the limits.
 use Rattle.std.proofs.Common.{◌≡◌, ◌≤◌, ◌<◌, ◌+◌, ◌-◌, ◌&&◌, ℕ, Bool, true, false, nat_le, nat_lt, List, [], ◌∷◌, ◌++◌, Option, Some, None, if◌then◌else◌, length, get_or, refl, ap, sym, subst, ◌∙◌, arith, length-append}
+use Rattle.std.proofs.lemmas.Bool.{and_parts as both, leb-true as at_most, ltb-false as not_below, ltb-true as below}
 use Rattle.std.specs.List.{AllPass}
 use Rattle.std.specs.Option.{option_and_then, option_map_or}
 use Rattle.std.specs.List.Sorted.{IsStrictlyIncreasing}
@@ -26,16 +27,6 @@ use Rattle.st_card.specs.declared.keywords.Keyword.TheVariants.{Budget, Delays, 
 given : (b : Bool) (x new : Asked) → (if b then Some x else None) ≡ Some new → (b ≡ true) × (x ≡ new)
 given true x new same = (refl, cc)
 given false x new same = cc
-
-both : (a b : Bool) → (a && b) ≡ true → (a ≡ true) × (b ≡ true)
-both true b holds = (refl, holds)
-both false b holds = cc
-
-at_most : (n most : ℕ) → nat_le n most ≡ true → n ≤ most
-at_most n most test = grind (arith, nat_tests)
-
-below : (n most : ℕ) → nat_lt n most ≡ true → n < most
-below n most test = grind (arith, nat_tests)
 
 only : {X : Type 0} (p : X → Bool) (x : X) → p x ≡ true → AllPass p (x ∷ [])
 only p x holds = AllPass-from_list_all p (x ∷ []) (ap (λ b. b && true) holds)
@@ -149,9 +140,6 @@ signal-kept kept new (count ∷ indicator ∷ []) same limits =
       back = limits.back;
     })
 signal-kept kept new (count ∷ indicator ∷ n ∷ ns) same limits = cc
-
-not_below : (n most : ℕ) → nat_lt n most ≡ false → most ≤ n
-not_below n most test = grind (arith, nat_tests)
 
 -- a number above the last keeps numbers rising
 rising-push : (xs : List ℕ) (x : ℕ) → IsStrictlyIncreasing xs → (0 < length xs → get_or xs (length xs - 1) 0 < x) →

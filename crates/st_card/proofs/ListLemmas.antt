@@ -4,11 +4,12 @@ use Rattle.std.proofs.Math.Seq.{take-length}
 use Rattle.std.proofs.lemmas.List.{take_more}
 
 -- a list that is not empty
-pub first_and_rest : (xs : List ℕ) → 1 ≤ length xs → xs ≡ get_or xs 0 0 ∷ take (length xs - 1) (drop 1 xs)
-first_and_rest [] h = absurd (omega arith)
-first_and_rest (x ∷ xs) h =
+pub first_and_rest : {X : Type 0} (xs : List X) (other : X) → 1 ≤ length xs →
+    xs ≡ get_or xs 0 other ∷ take (length xs - 1) (drop 1 xs)
+first_and_rest [] other h = absurd (omega arith)
+first_and_rest (x ∷ xs) other h =
     let count : length xs ≡ suc (length xs) - 1 = omega arith in
-    ap (λ (t : List ℕ). x ∷ t) (sym (take-length xs) ∙ ap (λ n. take n xs) count)
+    ap (λ t. x ∷ t) (sym (take-length xs) ∙ ap (λ n. take n xs) count)
 
 -- an item further on: what stands before it, and what is left behind it
 pub past_first : (text rest tail : List ℕ) (n x : ℕ) → rest ≡ drop n text → rest ≡ x ∷ tail → n < length text →

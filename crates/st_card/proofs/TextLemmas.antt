@@ -1,5 +1,6 @@
 -- Where the text of a card stands.
 use Rattle.std.proofs.Common.{◌≡◌, ◌≤◌, ◌+◌, ◌-◌, ◌==◌, ◌||◌, ℕ, Bool, nat_lt, List, [], ◌∷◌, ◌++◌, true, false, not, Option, Some, None, if◌then◌else◌, length, take, drop, min, refl, ap, sym, ◌∙◌, arith, append_assoc, length-append}
+use Rattle.std.proofs.lemmas.Bool.{not-false as not_false}
 use Rattle.std.proofs.lemmas.List.{take_all, take_min, take-take, drop-drop}
 use Rattle.std.proofs.lemmas.Bool.Decides.{nat_tests}
 use Rattle.std.proofs.Math.Seq.{take-append_seam, drop-append_seam}
@@ -40,10 +41,6 @@ test_passed : (b : Bool) (fault : Fault) (later : Option Fault) → (if b then S
     (b ≡ false) × (later ≡ None)
 test_passed true fault later none = cc
 test_passed false fault later none = (refl, none)
-
-not_false : (b : Bool) → not b ≡ false → b ≡ true
-not_false true same = refl
-not_false false same = cc
 
 not_longer : (n : ℕ) → nat_lt 80 n ≡ false → n ≤ 80
 not_longer n test = grind (arith, nat_tests)

@@ -8,6 +8,9 @@ ghost use Rattle.st_card.specs.Pieces.{words};
 ghost use Rattle.st_card.specs.Limits.{IsWithinLimits};
 ghost use Rattle.st_card.specs.Answers.{Settles, Appends, Marks, Explains};
 
+use crate::limits::{
+    LAST_WORD, MOST_BACK, MOST_BUDGET, MOST_COUNT, MOST_DELAY, MOST_DELAYS, MOST_INDICATOR, MOST_SIGNALS,
+};
 use crate::cards::columns;
 use crate::faults::Fault;
 use crate::keywords::{Keyword, Outcome, keyword_of, read_numbers};
@@ -15,27 +18,6 @@ use crate::words::first_word;
 use arrayvec::ArrayVec;
 use std::alloc::Global;
 use std::marker::Model;
-
-// The most instructions that `/BUDGET` gives.
-const MOST_BUDGET: u64 = 10_000_000;
-
-// The longest delay, in ticks, and how many delays there may be.
-const MOST_DELAY: u64 = 255;
-
-const MOST_DELAYS: usize = 4_096;
-
-// The latest count of a signal and its last indicator, and how many signals there may be.
-const MOST_COUNT: u64 = 10_000_000;
-
-const MOST_INDICATOR: u64 = 13;
-
-const MOST_SIGNALS: usize = 4_096;
-
-// The address of the last word of storage.
-const LAST_WORD: u64 = 98_303;
-
-// The most instructions that `/BACK` steps back.
-const MOST_BACK: u64 = 64;
 
 /// A signal from outside: after so many instructions an indicator is turned on.
 #[derive(Clone, Copy, Debug, PartialEq, Eq)]

@@ -5,6 +5,7 @@ mod cards;
 mod control_cards;
 mod faults;
 mod keywords;
+pub mod limits;
 mod numbers;
 mod pieces;
 mod tables;

@@ -1,24 +1,13 @@
 -- Printed text.
 use Rattle.std.proofs.Common.{◌≡◌, ◌≢◌, ◌≤◌, ◌<◌, ◌-◌, ◌==◌, ◌&&◌, ℕ, zero, suc, Bool, true, false, List, [], ◌∷◌, length, take, map, slice_index, refl, ◌∙◌, arith, nat_le, if◌then◌else◌}
+use Rattle.std.proofs.lemmas.Bool.{and_from as all-both}
 use Rattle.std.proofs.lemmas.Grind.{common_steps}
 use Rattle.std.proofs.lemmas.List.Sums.{suffix_len_is}
 use Rattle.std.proofs.lemmas.List.Folds.{list_all-append}
 use Rattle.std.specs.List.{flat_map, suffix_len}
 use Rattle.st_card.specs.Cards.{is_printable}
-use Rattle.st_exch.specs.Printer.{bytes_of, character, characters_of, without_end_blanks, printed}
-
--- blanks from n on, and none before n
-pub take-filled : (text : List ℕ) (n : ℕ) → n ≤ length text
-    → ((k : ℕ) → n ≤ k → k < length text → slice_index text k ≡ 32)
-    → (0 < n → slice_index text (n - 1) ≢ 32)
-    → take n text ≡ without_end_blanks text
-take-filled text n within after before =
-    let last : suffix_len (λ c. c == 32) text ≡ length text - n =
-    suffix_len_is (λ c. c == 32) text n 0 within
-    (λ k low high. grind (arith, common_steps, after k low high))
-    (λ some. grind (arith, common_steps, before some)) in
-    let front : length text - (length text - n) ≡ n = omega arith in
-    rw (last, front)
+use Rattle.st_text.specs.Blanks.{without_end_blanks}
+use Rattle.st_exch.specs.Printer.{bytes_of, character, characters_of, printed}
 
 is_character : ℕ → Bool
 is_character c = nat_le 32 c && nat_le c 126
@@ -29,10 +18,6 @@ character-printable b =
     let P : Bool → Type 0 = λ v. (nat_le 32 b && nat_le b 126) ≡ v →
     (let c = if v then b else 32 in nat_le 32 c && nat_le c 126) ≡ true in
     (elim (nat_le 32 b && nat_le b 126) as P [ true ↦ λ is. is | false ↦ λ is. refl ]) refl
-
-all-both : (a b : Bool) → a ≡ true → b ≡ true → (a && b) ≡ true
-all-both true b first second = second
-all-both false b first second = first
 
 map-printable : (bytes : List ℕ) → is_printable (map character bytes) ≡ true
 map-printable [] = refl

@@ -1,7 +1,8 @@
 -- What the printer prints of eight words.
-use Rattle.std.specs.Prelude.{ℕ, ◌-◌, ◌==◌, ◌&&◌, nat_le, if◌then◌else◌, List, [], ◌∷◌, length, map, take}
-use Rattle.std.specs.List.{flat_map, suffix_len}
+use Rattle.std.specs.Prelude.{ℕ, ◌&&◌, nat_le, if◌then◌else◌, List, [], ◌∷◌, map}
+use Rattle.std.specs.List.{flat_map}
 use Rattle.st_bits.specs.Bits.{part}
+use Rattle.st_text.specs.Blanks.{without_end_blanks}
 
 -- the bytes of a word, the leftmost first
 abbrev pub bytes_of : ℕ → List ℕ
@@ -15,10 +16,6 @@ character b = if nat_le 32 b && nat_le b 126 then b else 32
 -- the characters of a word
 unfoldable pub characters_of : ℕ → List ℕ
 characters_of x = map character (bytes_of x)
-
--- a text without the blanks at its end
-abbrev pub without_end_blanks : List ℕ → List ℕ
-without_end_blanks text = take (length text - suffix_len (λ c. c == 32) text) text
 
 -- the words as text, without blanks at the end
 unfoldable pub printed : List ℕ → List ℕ

@@ -1,11 +1,13 @@
 //! The text that the printer prints.
 
-ghost use Rattle.std.specs.Prelude.{◌≡◌, ◌+◌, ◌<◌, ◌≤◌, ◌++◌, length, take, slice_index, IsTrue};
+ghost use Rattle.std.specs.Prelude.{◌≡◌, ◌+◌, ◌<◌, ◌≤◌, ◌++◌, IsTrue};
 ghost use Rattle.arrayvec.specs.ArrayString.{array_string_len};
 ghost use Rattle.st_card.specs.Cards.{is_printable};
+ghost use Rattle.st_text.specs.Blanks.{without_end_blanks};
 ghost use Rattle.st_exch.specs.Printer as spec;
 
 use arrayvec::ArrayString;
+use st_text::filled_len;
 
 /// The text that the printer prints of eight words: their 64 bytes, the leftmost first, with a blank
 /// in place of each byte outside 32 to 126, and without the blanks at the end. It may be empty.
@@ -45,21 +47,10 @@ fn character(byte: u8) -> u8
 
 // Drops the blanks at the end of a text.
 fn drop_end_blanks(text: &mut ArrayString<64>)
-    ensures { text.new.bytes ≡ spec.without_end_blanks text.old.bytes }
+    ensures { text.new.bytes ≡ without_end_blanks text.old.bytes }
 {
     let filled = filled_len(text.as_str().as_bytes());
     text.truncate(filled);
-}
-
-// How many bytes stand before the blanks at the end.
-fn filled_len(text: &[u8]) -> usize
-    ensures within { result ≤ length text.now }
-    ensures value { take result text.now ≡ spec.without_end_blanks text.now }
-    ensures blank_next { result < length text.now → slice_index text.now result ≡ 32 }
-{
-    text.iter()
-        .rposition(|byte| *byte != b' ')
-        .map_or(0, |last| last + 1)
 }
 
 #[cfg(test)]

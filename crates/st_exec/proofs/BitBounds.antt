@@ -6,6 +6,7 @@ use Rattle.std.proofs.lemmas.Nat.Bits.{bit_at-lt}
 use Rattle.std.proofs.lemmas.List.{get_or-drop, length-take}
 use Rattle.std.proofs.Math.Nat.{pow-succ', pow-le-pow_right}
 use Rattle.st_bits.specs.Bits.{bits, num, all_bits, field, put}
+use Rattle.st_state.proofs.Turned.{one_more as one_digit}
 use Rattle.st_conn.specs.Connective.{by_weight}
 
 -- each item is zero or one
@@ -51,9 +52,6 @@ bits-put : (s v : List ℕ) (a : ℕ) → AreBits s → AreBits v → AreBits (p
 unfolding put
 bits-put s v a h k =
     bits-append (take a s ++ v) (drop (a + length v) s) (bits-append (take a s) v (bits-take a s h) k) (bits-drop (a + length v) s h)
-
-one_digit : (b p t r : ℕ) → b < 2 → t < p → r ≡ 2 * p → b * p + t < r
-one_digit b p t r small below e = omega (arith, mul-le b p 1 p (omega arith) (omega arith))
 
 num-below : (xs : List ℕ) → AreBits xs → num xs < 2 ^ length xs
 unfolding num

@@ -1,7 +1,7 @@
 -- What operations on fields leave fits the registers.
 use Rattle.std.proofs.Common.{◌≡◌, ◌≢◌, ℕ, ◌-◌, ◌*◌, ◌/◌, ◌%◌, ◌^◌, ◌<◌, ◌≤◌, Bool, true, false, not, ◌&&◌, ◌||◌, ◌==◌, if◌then◌else◌, Option, None, length, refl, sym, subst, arith}
 use Rattle.std.specs.Prelude.{IfSome, nat_lt}
-use Rattle.std.proofs.lemmas.Bool.{ltb-false, eqb-true, eqb-false}
+use Rattle.std.proofs.lemmas.Bool.{ltb-false, eqb-true, eqb-false, not-false as not-not}
 use Rattle.std.proofs.lemmas.Nat.{mul-lt}
 use Rattle.std.proofs.lemmas.Nat.Bits.{bit_at-lt}
 use Rattle.std.proofs.Math.Nat.{div-le_self, mod-lt, pow-le-pow_right}
@@ -9,6 +9,7 @@ use Rattle.st_bits.specs.declared.operations.ConnKind.{ConnKind}
 use Rattle.st_bits.specs.declared.operations.ConnKind.TheVariants.{C, Cm, Ct}
 use Rattle.st_bits.specs.declared.operations.VflOp.{VflOp}
 use Rattle.st_bits.specs.declared.operations.VflOp.TheVariants.{L, Lwf, Ltrs, Lft, St, Add, AddMg, MAdd, MAddMg, MAdd1, K, Kf, Ke, Kfe, Kr, Kfr, Mul, MulAdd, Div, Lcv}
+use Rattle.st_format.proofs.Spelled.{of_choice as of_test, or-left, or-right}
 use Rattle.st_format.specs.Formats.{FitsField}
 use Rattle.st_format.specs.Validity.{misfits}
 use Rattle.st_bin.specs.declared.accumulator.Acc.{Acc}
@@ -29,7 +30,7 @@ use Rattle.st_dec.proofs.PartLemmas.{length-codes, joined-placed}
 use Rattle.st_dec.proofs.RecodeLemmas.{decimal_fits}
 use Rattle.st_dec.proofs.ShapeLemmas.{count-few}
 use Rattle.st_conn.specs.Connective.{is_covered, placed_at, placed as placed_bits}
-use Rattle.st_prep.proofs.Choices.{of_choice, or-left, or-right}
+use Rattle.st_prep.proofs.Choices.{of_choice}
 use Rattle.st_exec.specs.Outcome.{result_by, put_by, shape_of}
 use Rattle.st_exec.proofs.BitBounds.{num-by_weight}
 
@@ -61,10 +62,6 @@ and-second : (a b : Bool) → (a && b) ≡ false → a ≡ true → b ≡ false
 and-second true b h e = h
 and-second false b h e = absurd (cc)
 
-not-not : (b : Bool) → not b ≡ false → b ≡ true
-not-not true h = refl
-not-not false h = cc
-
 is_shape : (d u n : Bool) (p l b o : ℕ) → FitsField p l b o → misfits d u l b ≡ false → IsShape (shape_of u n l b o)
 is_shape d u n p l b o f h = record {
   some = f.some_bits;
@@ -84,10 +81,6 @@ is_decimal_shape d u n p l b o f h e =
       code = ltb-false b 4 (or-left (nat_lt b 4) (not (l % b == 0)) whole);
       whole = eqb-true (l % b) 0 (not-not (l % b == 0) (or-right (nat_lt b 4) (not (l % b == 0)) whole));
     }
-
-of_test : {A : Type 0} (P : A → Type 0) (b : Bool) (x y : A) → (b ≡ true → P x) → (b ≡ false → P y) → P (if b then x else y)
-of_test P true x y here there = here refl
-of_test P false x y here there = there refl
 
 -- ---- binary operations
 

@@ -9,7 +9,8 @@ use Rattle.st_bits.specs.declared.operations.BranchOp.TheVariants.{Be, Bd, Bew}
 use Rattle.st_format.specs.declared.instruction.Instr.{Instr}
 use Rattle.st_format.specs.declared.instruction.Instr.TheVariants.{Half, Branch, Floating, Vfl, Connect, Move, BitBranch, IndBranch, StoreCounter, Transfer, Invalid}
 use Rattle.st_state.specs.Machine.{Machine, HasArea, word, stored, placed}
-use Rattle.st_state.specs.Interrupts.{indicator, applied, signalled}
+use Rattle.st_bits.specs.Indicators.{indicator}
+use Rattle.st_state.specs.Interrupts.{applied, signalled}
 use Rattle.st_state.specs.declared.devices.Order.{Order}
 use Rattle.st_prep.specs.declared.entries.Prepared.{Prepared}
 use Rattle.st_exec.specs.Operand.{field_at}

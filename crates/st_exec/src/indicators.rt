@@ -1,5 +1,5 @@
 ghost use Rattle.std.specs.Prelude.{◌≡◌, ◌<◌, ◌^◌};
-ghost use Rattle.st_state.specs.Interrupts.{indicator as indicator_of};
+ghost use Rattle.st_bits.specs.Indicators.{indicator as indicator_of};
 
 /// The word with indicator `n` on and no other.
 pub fn indicator(n: u8) -> u64

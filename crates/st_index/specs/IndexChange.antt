@@ -6,6 +6,7 @@ use Rattle.std.specs.Ordering.{int_cmp}
 use Rattle.st_bits.specs.Bits.{part}
 use Rattle.st_bits.specs.IndexWord.{value_of, count_of, with_value, with_count}
 use Rattle.st_bits.specs.declared.Ind.{Ind}
+use Rattle.st_bits.specs.Indicators.{indicator}
 use Rattle.st_index.specs.declared.change.Changed.{Changed}
 
 -- a whole number modulo n, from 0 up
@@ -39,10 +40,6 @@ unfoldable pub selected_sum : List ℕ → List ℕ → ℤ
 selected_sum [] xs = pos 0
 selected_sum (b ∷ bs) [] = pos 0
 selected_sum (b ∷ bs) (x ∷ xs) = selected_value b x +ℤ selected_sum bs xs
-
--- the word with indicator n on and no other
-abbrev pub indicator : ℕ → ℕ
-indicator n = 2 ^ (63 - n)
 
 -- the indicator of a comparison: XL below, XE equal, XH above
 abbrev pub order_indicator : Ordering → ℕ

@@ -1,5 +1,6 @@
 ghost use Rattle.std.specs.Prelude.{◌≡◌, ◌<◌, ◌^◌};
-ghost use Rattle.st_index.specs.IndexChange.{comparison, index_result as result_of, indicator as indicator_of};
+ghost use Rattle.st_bits.specs.Indicators.{indicator as indicator_of};
+ghost use Rattle.st_index.specs.IndexChange.{comparison, index_result as result_of};
 
 use st_bits::{Ind, count_of, part, value_of};
 use std::cmp::Ordering;

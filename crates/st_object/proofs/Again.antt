@@ -1,5 +1,6 @@
 -- The lines of a program, added one by one, make that program.
 use Rattle.std.proofs.Common.{◌≡◌, ◌≤◌, ◌<◌, ◌+◌, ◌-◌, ◌/◌, ◌^◌, ◌==◌, ◌&&◌, ℕ, Bool, true, false, not, nat_le, nat_lt, List, [], ◌∷◌, ◌++◌, length, get_or, map, replicate, Option, Some, None, if◌then◌else◌, refl, ap, sym, subst, ◌∙◌, append_assoc, append-nil, length-append, arith}
+use Rattle.std.proofs.lemmas.Bool.{and_from as both_true, and_parts as holds_both, le-leb as at_most, leb-true as is_at_most, lt-ltb as below, ltb-false as is_not_below, ltb-true as is_below, not-true as not_false}
 use Rattle.std.specs.List.{All, list_all}
 use Rattle.std.specs.Option.{option_map_or}
 use Rattle.std.specs.List.Sorted.{IsNonDecreasingBy, IsStrictlyIncreasing}
@@ -17,7 +18,7 @@ use Rattle.st_object.specs.Meaning.{IsShort, IsItem}
 use Rattle.st_object.specs.Object.{Program, IsProgram, AreWords, object_lines, filled_up, program_of}
 use Rattle.st_object.specs.declared.items.Item.{Item}
 use Rattle.st_object.specs.declared.items.Item.TheVariants.{Start, Word, Budget, Delay, Signal, Dump, Trace, Time, Chart, Snap, Back, Fin}
-use Rattle.st_object.proofs.Empties.{holds_both}
+
 use Rattle.st_object.proofs.Written.{whole_lines}
 
 -- lines that can be read and may follow one another lead from one draft to another
@@ -49,22 +50,6 @@ asked_for n ds ss us trace time chart ts k = record {
   chart = chart;
   back = k;
 }
-
-both_true : (a b : Bool) → a ≡ true → b ≡ true → (a && b) ≡ true
-both_true true b first second = second
-both_true false b first second = cc
-
-at_most : (n most : ℕ) → n ≤ most → nat_le n most ≡ true
-at_most n most small = grind (arith, nat_tests)
-
-below : (n most : ℕ) → n < most → nat_lt n most ≡ true
-below n most small = grind (arith, nat_tests)
-
-is_below : (n most : ℕ) → nat_lt n most ≡ true → n < most
-is_below n most test = grind (arith, nat_tests)
-
-is_at_most : (n most : ℕ) → nat_le n most ≡ true → n ≤ most
-is_at_most n most test = grind (arith, nat_tests)
 
 not_zero : (n : ℕ) → 1 ≤ n → not (n == 0) ≡ true
 not_zero n some = grind (arith, nat_tests)
@@ -279,9 +264,6 @@ zero_is x test = grind (arith, nat_tests)
 zero_not : (x : ℕ) → (x == 0) ≡ false → x ≡ 0 → ⊥
 zero_not x test same = grind (arith, nat_tests)
 
-is_not_below : (n most : ℕ) → nat_lt n most ≡ false → most ≤ n
-is_not_below n most test = grind (arith, nat_tests)
-
 -- a word that is not zero stands above the registers
 above : (front rest : List ℕ) (x : ℕ) → ((w : ℕ) → w < 32 → get_or (front ++ x ∷ rest) w 0 ≡ 0) → (x == 0) ≡ false → 32 ≤ length front
 above front rest x registers some =
@@ -393,10 +375,6 @@ pub record Makes (p : Program) : Type 0 where
 
 from_none : (n most : ℕ) → n ≤ most → 0 + n ≤ most
 from_none n most small = omega arith
-
-not_false : (b : Bool) → not b ≡ true → b ≡ false
-not_false true e = cc
-not_false false e = refl
 
 pub made_again : (p : Program) → IsProgram p → AreWords p.words → Makes p
 unfolding has_place with_value

@@ -1,12 +1,13 @@
 -- Lines that were read can be followed by others up to a whole program.
 use Rattle.std.proofs.Common.{◌≡◌, ◌+◌, ◌-◌, ◌^◌, ◌==◌, ◌&&◌, ℕ, Bool, true, false, not, nat_le, nat_lt, List, [], ◌∷◌, ◌++◌, length, replicate, Option, Some, None, is_some, is_none, if◌then◌else◌, refl, ap, sym, subst, ◌∙◌, append_assoc, append-nil, arith}
+use Rattle.std.proofs.lemmas.Bool.{and_from as both_true, and_parts as holds_both}
 use Rattle.std.proofs.lemmas.Bool.Decides.{nat_tests}
 use Rattle.st_card.specs.Controls.{Asked, is_among}
 use Rattle.st_object.specs.Draft.{Draft, blank, IsDraft, is_empty, lines_of, lacks_fin, lacks_signals, lacks_delays, lacks_budget, lacks_words, lacks_start, lacks_object, has_start, has_budget, has_delays, is_whole, has_place, may_hold, with_start, with_word, with_asked, with_value, with_item}
 use Rattle.st_object.specs.declared.items.Item.{Item}
 use Rattle.st_object.specs.declared.items.Item.TheVariants.{Object, Start, Word, Budget, Delay, Signal, Dump, Trace, Time, Chart, Snap, Back, Fin}
 use Rattle.st_object.proofs.Told.{given, the_one}
-use Rattle.st_object.proofs.Empties.{holds_both}
+
 use Rattle.st_object.proofs.Grown.{grown, asked_step, mark_step}
 use Rattle.st_object.proofs.Kept.{kept}
 
@@ -59,10 +60,6 @@ past_start d has lacking =
 filled_more : {X : Type 0} (xs : List X) (x : X) → not (is_empty (xs ++ x ∷ [])) ≡ true
 filled_more [] x = refl
 filled_more (y ∷ ys) x = grind (arith, nat_tests)
-
-both_true : (a b : Bool) → a ≡ true → b ≡ true → (a && b) ≡ true
-both_true true b first second = second
-both_true false b first second = cc
 
 -- each line that is added keeps the order
 pub ordered : (d e : Draft) (item : Item) → with_item d item ≡ Some e → IsOrderly e

@@ -1,14 +1,11 @@
 -- Where no line was read from a kind on, there are none.
 use Rattle.std.proofs.Common.{◌≡◌, ◌==◌, ◌&&◌, ℕ, Bool, true, false, not, List, [], ◌∷◌, ◌++◌, map, Option, Some, None, is_none, if◌then◌else◌, refl, ap, ◌∙◌, arith}
+use Rattle.std.proofs.lemmas.Bool.{and_parts as holds_both}
 use Rattle.std.proofs.lemmas.Bool.Decides.{nat_tests}
 use Rattle.st_object.specs.Lines.{marked, word_lines, budget_lines, back_lines}
 use Rattle.st_object.specs.Draft.{Draft, is_empty, start_lines, lines_from_fin, lines_from_back, lines_from_snaps, lines_from_chart, lines_from_time, lines_from_trace, lines_from_dumps, lines_from_signals, lines_from_delays, lines_from_budget, lines_from_words, lines_from_start, lines_of, lacks_fin, lacks_back, lacks_snaps, lacks_chart, lacks_time, lacks_trace, lacks_dumps, lacks_signals, lacks_delays, lacks_budget, lacks_words, lacks_start, lacks_object}
 use Rattle.st_object.specs.declared.items.Item.{Item}
 use Rattle.st_object.specs.declared.items.Item.TheVariants.{Object, Budget, Delay, Signal, Dump, Trace, Time, Chart, Snap, Back, Fin}
-
-pub holds_both : (a b : Bool) → (a && b) ≡ true → (a ≡ true) × (b ≡ true)
-holds_both true b holds = (refl, holds)
-holds_both false b holds = cc
 
 -- an empty part before nothing
 empty_part : (a more : Bool) (part rest : List Item) → (a && more) ≡ true → (a ≡ true → part ≡ []) → (more ≡ true → rest ≡ []) →

@@ -1,5 +1,6 @@
 -- A further line stands behind those that were read.
 use Rattle.std.proofs.Common.{◌≡◌, ◌≤◌, ◌+◌, ◌-◌, ◌^◌, ◌==◌, ◌&&◌, ℕ, suc, zero, Bool, true, false, not, nat_le, nat_lt, List, [], ◌∷◌, ◌++◌, length, map, replicate, Option, Some, None, is_none, if◌then◌else◌, refl, ap, sym, subst, ◌∙◌, append_assoc, append-nil, length-append, arith}
+use Rattle.std.proofs.lemmas.Bool.{and_parts as holds_both, leb-true as at_most, not-true as is_not}
 use Rattle.std.proofs.lemmas.List.{map-append, length-replicate}
 use Rattle.std.proofs.lemmas.Bool.Decides.{nat_tests}
 use Rattle.st_card.specs.Controls.{Asked, is_among}
@@ -9,7 +10,7 @@ use Rattle.st_object.specs.Draft.{Draft, start_lines, lines_from_fin, lines_from
 use Rattle.st_object.specs.declared.items.Item.{Item}
 use Rattle.st_object.specs.declared.items.Item.TheVariants.{Object, Start, Word, Budget, Delay, Signal, Dump, Trace, Time, Chart, Snap, Back, Fin}
 use Rattle.st_object.proofs.Told.{given, the_one}
-use Rattle.st_object.proofs.Empties.{holds_both, none_from_fin, none_from_back, none_from_snaps, none_from_chart, none_from_time, none_from_trace, none_from_dumps, none_from_signals, none_from_delays, none_from_budget, none_from_words, none_from_start}
+use Rattle.st_object.proofs.Empties.{none_from_fin, none_from_back, none_from_snaps, none_from_chart, none_from_time, none_from_trace, none_from_dumps, none_from_signals, none_from_delays, none_from_budget, none_from_words, none_from_start}
 
 -- lines behind the parts of others
 abbrev onto : List (List Item) → List Item → List Item
@@ -76,13 +77,6 @@ word_lines-append w (x ∷ xs) ys =
 pub word_lines-zeros : (w n : ℕ) → word_lines w (replicate n 0) ≡ []
 word_lines-zeros w zero = refl
 word_lines-zeros w (suc n) = word_lines-zeros (w + 1) n
-
-is_not : (b : Bool) → not b ≡ true → b ≡ false
-is_not true e = cc
-is_not false e = refl
-
-at_most : (n most : ℕ) → nat_le n most ≡ true → n ≤ most
-at_most n most test = grind (arith, nat_tests)
 
 -- a word behind zeros
 word_more : (xs : List ℕ) (w x : ℕ) → length xs ≤ w → (x == 0) ≡ false →

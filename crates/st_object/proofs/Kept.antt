@@ -1,5 +1,6 @@
 -- What holds of a draft holds of it with a further line.
 use Rattle.std.proofs.Common.{◌≡◌, ◌≤◌, ◌<◌, ◌-◌, ◌^◌, ◌==◌, ◌&&◌, ℕ, Bool, true, false, not, nat_le, nat_lt, List, [], ◌∷◌, ◌++◌, length, get_or, replicate, Option, Some, None, if◌then◌else◌, refl, ap, sym, subst, ◌∙◌, length-append, arith, lit<}
+use Rattle.std.proofs.lemmas.Bool.{and_parts as holds_both, leb-true as at_most, ltb-false as not_below, ltb-true as below}
 use Rattle.std.specs.List.{All, AllPass}
 use Rattle.std.proofs.lemmas.List.{length-replicate, get_or_append_left, get_or-append_right, get_or-replicate}
 use Rattle.std.proofs.lemmas.List.Elements.{All-append, All-replicate}
@@ -13,16 +14,7 @@ use Rattle.st_object.specs.Draft.{Draft, IsDraft, lacks_object, lacks_fin, has_d
 use Rattle.st_object.specs.declared.items.Item.{Item}
 use Rattle.st_object.specs.declared.items.Item.TheVariants.{Object, Start, Word, Budget, Delay, Signal, Dump, Trace, Time, Chart, Snap, Back, Fin}
 use Rattle.st_object.proofs.Told.{given, mapped, the_one, IsNarrow}
-use Rattle.st_object.proofs.Empties.{holds_both}
 
-below : (n most : ℕ) → nat_lt n most ≡ true → n < most
-below n most test = grind (arith, nat_tests)
-
-at_most : (n most : ℕ) → nat_le n most ≡ true → n ≤ most
-at_most n most test = grind (arith, nat_tests)
-
-not_below : (n most : ℕ) → nat_lt n most ≡ false → most ≤ n
-not_below n most test = grind (arith, nat_tests)
 
 -- a word above the registers leaves them zero
 registers_kept : (xs : List ℕ) (w x : ℕ) → length xs ≤ w → 32 ≤ w → ((k : ℕ) → k < 32 → get_or xs k 0 ≡ 0) →

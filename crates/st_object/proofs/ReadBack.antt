@@ -1,5 +1,6 @@
 -- The object text of a program is read as that program.
 use Rattle.std.proofs.Common.{◌≡◌, ◌+◌, ◌*◌, ◌/◌, ◌%◌, ◌==◌, ℕ, Bool, true, not, List, [], ◌∷◌, ◌++◌, map, decimal, Option, Some, Ok, Err, if◌then◌else◌, refl, ap, ◌∙◌, append_assoc, arith}
+use Rattle.std.proofs.lemmas.Bool.{and_from as and_true}
 use Rattle.std.specs.Option.{option_map_or, option_and_then}
 use Rattle.std.proofs.lemmas.List.Folds.{list_all-append}
 use Rattle.st_report.specs.Line.{hex_word}
@@ -11,7 +12,7 @@ use Rattle.st_object.specs.Object.{Program, IsProgram, AreWords, object_lines, o
 use Rattle.st_object.specs.declared.items.Item.{Item}
 use Rattle.st_object.specs.declared.items.Item.TheVariants.{Object, Start, Word, Budget, Delay, Signal, Dump, Trace, Time, Chart, Snap, Back, Fin}
 use Rattle.st_object.proofs.Parts.{other_first}
-use Rattle.st_object.proofs.Spellings.{short_small, and_true, lacks-decimal, lacks-hex, spelled_again}
+use Rattle.st_object.proofs.Spellings.{short_small, lacks-decimal, lacks-hex, spelled_again}
 use Rattle.st_object.proofs.Again.{Leads, made_again}
 
 -- no line end stands among digits

@@ -1,5 +1,6 @@
 -- What is spelled is read as the same item, and what is read is spelled so.
 use Rattle.std.proofs.Common.{◌≡◌, ◌≢◌, ◌≤◌, ◌<◌, ◌+◌, ◌-◌, ◌*◌, ◌/◌, ◌%◌, ◌^◌, ◌==◌, ◌&&◌, ℕ, suc, zero, Bool, true, false, not, nat_le, nat_lt, List, [], ◌∷◌, ◌++◌, Option, Some, None, if◌then◌else◌, length, decimal, refl, ap, sym, ◌∙◌, arith, rules, append_assoc}
+use Rattle.std.proofs.lemmas.Bool.{and_from as and_true, le-leb as within}
 use Rattle.std.specs.Char.{is_ascii_digit}
 use Rattle.std.specs.List.{list_all}
 use Rattle.std.specs.Option.{option_map, option_and_then}
@@ -30,9 +31,6 @@ short_small n short = omega arith
 
 filled : (n : ℕ) → 0 < n → not (n == 0) ≡ true
 filled n some = grind (arith, nat_tests)
-
-within : (n most : ℕ) → n ≤ most → nat_le n most ≡ true
-within n most small = grind (arith, nat_tests)
 
 read_good : (a b : Bool) (v : ℕ) → a ≡ true → b ≡ true → good (if a then (if b then Good v else Large) else Bad) ≡ Some v
 read_good true true v first second = refl
@@ -70,10 +68,6 @@ lacks-decimal at n low small =
 
 hex_not : (at d : ℕ) → at < 48 → not (hex_digit d == at) ≡ true
 hex_not at d low = grind (arith, nat_tests)
-
-pub and_true : (a b : Bool) → a ≡ true → b ≡ true → (a && b) ≡ true
-and_true true b first second = second
-and_true false b first second = cc
 
 pub lacks-hex : (at k x : ℕ) → at < 48 → lacks at (hex_text k x) ≡ true
 unfolding hex_text

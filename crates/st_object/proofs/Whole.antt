@@ -1,5 +1,6 @@
 -- A draft that is whole is a program, and its lines are the program's object text.
 use Rattle.std.proofs.Common.{◌≡◌, ◌≤◌, ◌<◌, ◌+◌, ◌-◌, ◌^◌, ◌==◌, ℕ, Bool, true, false, not, nat_lt, List, ◌++◌, length, get_or, replicate, Option, Some, None, is_some, IfSome, unwrap_or, refl, ap, sym, ◌∙◌, length-append, append-nil, arith, lit<}
+use Rattle.std.proofs.lemmas.Bool.{and_parts as holds_both, ltb-false as not_below, ltb-true as below}
 use Rattle.std.proofs.lemmas.List.{length-replicate, get_or_append_left, get_or-append_right, get_or-replicate, get_or_past}
 use Rattle.std.proofs.lemmas.List.Elements.{All-append, All-replicate}
 use Rattle.std.proofs.lemmas.Bool.Decides.{nat_tests}
@@ -9,15 +10,9 @@ use Rattle.st_object.specs.Draft.{Draft, IsDraft, is_empty, start_lines, lines_o
 use Rattle.st_object.specs.Object.{IsProgram, AreWords, object_lines, filled_up, program_of}
 use Rattle.st_object.specs.declared.items.Item.{Item}
 use Rattle.st_object.specs.declared.items.Item.TheVariants.{Object}
-use Rattle.st_object.proofs.Empties.{holds_both}
+
 use Rattle.st_object.proofs.Grown.{word_lines-append, word_lines-zeros}
 use Rattle.st_object.proofs.Written.{whole_lines}
-
-below : (n most : ℕ) → nat_lt n most ≡ true → n < most
-below n most test = grind (arith, nat_tests)
-
-not_below : (n most : ℕ) → nat_lt n most ≡ false → most ≤ n
-not_below n most test = grind (arith, nat_tests)
 
 -- what a whole draft has
 pub record HasAll (d : Draft) : Type 0 where

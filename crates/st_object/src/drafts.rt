@@ -7,6 +7,9 @@ ghost use Rattle.st_object.specs.Answers.{Settles, Appends};
 
 use crate::items::Item;
 use st_bits::WORDS;
+use st_card::limits::{
+    MOST_BACK, MOST_BUDGET, MOST_COUNT, MOST_DELAY, MOST_DELAYS, MOST_INDICATOR, MOST_SIGNALS,
+};
 use st_card::{Controls, Signal};
 use std::alloc::{AllocError, Global};
 use std::marker::Model;
@@ -16,24 +19,6 @@ const STARTS: u64 = 1 << 19;
 
 // The first word above the registers.
 const FIRST_WORD: u64 = 32;
-
-// The most instructions that may be done.
-const MOST_BUDGET: u64 = 10_000_000;
-
-// The longest delay, in ticks, and how many delays there may be.
-const MOST_DELAY: u64 = 255;
-
-const MOST_DELAYS: usize = 4_096;
-
-// The latest count of a signal and its last indicator, and how many signals there may be.
-const MOST_COUNT: u64 = 10_000_000;
-
-const MOST_INDICATOR: u64 = 13;
-
-const MOST_SIGNALS: usize = 4_096;
-
-// The most instructions that are stepped back.
-const MOST_BACK: u64 = 64;
 
 // What comes of a line.
 #[derive(Clone, Copy)]

@@ -1,62 +1,12 @@
 //! How the lines of an object text are spelled.
 
-ghost use Rattle.std.specs.Prelude.{◌≡◌, ◌+◌, ◌<◌, ◌≤◌, ◌++◌, length, codes, decimal};
-ghost use Rattle.arrayvec.specs.ArrayString.{array_string_len};
-ghost use Rattle.st_report.specs.Line.{hex_digit, hex_text, hex_word};
+ghost use Rattle.std.specs.Prelude.{◌≡◌, ◌≤◌, ◌++◌, length, codes, decimal};
+ghost use Rattle.st_report.specs.Line.{hex_word};
 ghost use Rattle.st_object.specs.Lines as spec;
 
 use crate::items::Item;
-use arrayvec::ArrayString;
-use itoa::Buffer;
-
-// One line without its line end.
-pub(crate) type Line = ArrayString<64>;
-
-// A line that begins with this word.
-fn begun(word: &str) -> Line
-    requires { length word.now ≤ 64 }
-    ensures { result.bytes ≡ word.now }
-{
-    let mut line = Line::new();
-    line.push_str(word);
-    line
-}
-
-// Appends a number in decimal digits.
-fn push_decimal(line: &mut Line, n: u64)
-    requires { array_string_len line.old + 20 ≤ 64 }
-    ensures bytes { line.new.bytes ≡ line.old.bytes ++ decimal n }
-    ensures room { array_string_len line.new ≤ array_string_len line.old + 20 }
-{
-    line.push_str(Buffer::new().format(n));
-}
-
-// The hexadecimal digit of a number below 16.
-fn hex_char(digit: u8) -> char
-    requires { digit < 16 }
-    ensures value { result ≡ hex_digit digit }
-    ensures ascii { result < 128 }
-{
-    let code = if digit < 10 {
-        b'0' + digit
-    } else {
-        b'A' + (digit - 10)
-    };
-    char::from(code)
-}
-
-// Appends the last digits of a number in hexadecimal.
-fn push_hex(line: &mut Line, digits: u8, n: u64)
-    requires { array_string_len line.old + digits ≤ 64 }
-    ensures bytes { line.new.bytes ≡ line.old.bytes ++ hex_text digits n }
-    ensures room { array_string_len line.new ≡ array_string_len line.old + digits }
-{
-    if digits == 0 {
-        return;
-    }
-    push_hex(line, digits - 1, n / 16);
-    line.push(hex_char((n % 16) as u8));
-}
+use st_report::Line;
+use st_report::pieces::{begun, push_decimal, push_hex};
 
 // A word and a number.
 fn with_number(word: &str, n: u64) -> Line

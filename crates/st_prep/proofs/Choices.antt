@@ -1,20 +1,11 @@
 -- Choices, and chains of which nothing comes.
-use Rattle.std.proofs.Common.{◌≡◌, Bool, true, false, ◌||◌, if◌then◌else◌, Option, None, Some, refl}
+use Rattle.std.proofs.Common.{◌≡◌, Bool, true, false, if◌then◌else◌, Option, None, Some, refl}
 use Rattle.std.specs.Option.{option_or}
 
 -- what holds of both ends of a choice holds of it
 pub of_choice : {A : Type 0} (P : A → Type 0) (b : Bool) (x y : A) → P x → P y → P (if b then x else y)
 of_choice P true x y here there = here
 of_choice P false x y here there = there
-
--- neither of two tests
-pub or-left : (a b : Bool) → (a || b) ≡ false → a ≡ false
-or-left true b h = h
-or-left false b h = refl
-
-pub or-right : (a b : Bool) → (a || b) ≡ false → b ≡ false
-or-right true b h = cc
-or-right false b h = h
 
 -- neither of two answers
 pub none-left : {A : Type 0} (a b : Option A) → option_or a b ≡ None → a ≡ None

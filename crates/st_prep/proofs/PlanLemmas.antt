@@ -7,7 +7,8 @@ use Rattle.std.specs.Int.Bits.{or_zero_r}
 use Rattle.st_bits.specs.Storage.{words_of_storage_is}
 use Rattle.st_bits.specs.Registers.{fixed}
 use Rattle.st_state.specs.Machine.{Machine, IsMachine, word}
-use Rattle.st_state.specs.Interrupts.{indicator, turned}
+use Rattle.st_bits.specs.Indicators.{indicator}
+use Rattle.st_state.specs.Interrupts.{turned}
 use Rattle.st_state.proofs.Kept.{is_machine-with_word}
 use Rattle.st_state.proofs.Turned.{turned_below, turned-masks}
 use Rattle.st_prep.specs.declared.entries.Place.{Place}

@@ -15,7 +15,8 @@ use Rattle.st_prep.specs.Fetch.{is_execute}
 use Rattle.st_prep.specs.Checks.{executed, forbidden_side, forbidden_words, forbidden_area, operation_fault, operation_invalid, fault}
 use Rattle.st_prep.specs.Plan.{Sight, is_alone, is_serial, fault_of, needs_by, needs, suppressed, entry, prepared_by, prepared}
 use Rattle.st_prep.specs.Ranges.{HasFields, IsPlace, IsFetched, IsPrepared, IsNeeds}
-use Rattle.st_prep.proofs.Choices.{or-left, or-right, none-left, none-right, test-none}
+use Rattle.st_format.proofs.Spelled.{or-left, or-right}
+use Rattle.st_prep.proofs.Choices.{none-left, none-right, test-none}
 use Rattle.st_prep.proofs.AddressBounds.{effective-below}
 use Rattle.st_prep.proofs.RunLemmas.{is_runs-none, is_runs-reads, is_runs-writes, allowed-inside, words-inside, none-inside, area-inside, words-above, none-above}
 use Rattle.st_prep.proofs.ChangeLemmas.{change-fits}

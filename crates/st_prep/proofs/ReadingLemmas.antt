@@ -15,7 +15,8 @@ use Rattle.st_prep.specs.EarlyChange.{effective}
 use Rattle.st_prep.specs.Checks.{forbidden_by}
 use Rattle.st_prep.specs.Fetch.{index_words, half_at, found_whole, found_after, found, is_execute, with_target, alone, fetched}
 use Rattle.st_prep.specs.Reading.{Reading, Finds, Reads, outcome, words_read, half_of, Use, with_second, with_first, read_after, instruction_at, own_use, reading}
-use Rattle.st_prep.proofs.Choices.{of_choice, or-right, test-none}
+use Rattle.st_format.proofs.Spelled.{or-right}
+use Rattle.st_prep.proofs.Choices.{of_choice, test-none}
 use Rattle.st_prep.proofs.RunLemmas.{allowed-inside}
 
 -- ---- what is found

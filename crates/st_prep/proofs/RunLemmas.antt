@@ -15,7 +15,8 @@ use Rattle.st_prep.specs.declared.entries.Words.{Words}
 use Rattle.st_prep.specs.Entry.{no_words, one_run, two_runs, field_words, operand_words, words_read, words_written, is_index_store, reads_field, reads, writes, has_register}
 use Rattle.st_prep.specs.Checks.{forbidden_by, forbidden_run, forbidden_words, area_access, forbidden_area}
 use Rattle.st_prep.specs.Ranges.{HasFields, IsRuns, AreInside, AreAbove, HasRoom}
-use Rattle.st_prep.proofs.Choices.{of_choice, or-left, or-right, none-left, none-right, test-none, none-else}
+use Rattle.st_format.proofs.Spelled.{or-left, or-right}
+use Rattle.st_prep.proofs.Choices.{of_choice, none-left, none-right, test-none, none-else}
 
 -- ---- runs
 

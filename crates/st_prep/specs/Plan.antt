@@ -1,7 +1,8 @@
 -- An entry as it is prepared, from what is seen of a state, and from the state.
 use Rattle.std.specs.Prelude.{ℕ, ◌≡◌, Bool, true, false, ◌||◌, List, Option, None, Some, is_some, option_map}
 use Rattle.st_state.specs.Machine.{Machine, word}
-use Rattle.st_state.specs.Interrupts.{indicator, applied}
+use Rattle.st_bits.specs.Indicators.{indicator}
+use Rattle.st_state.specs.Interrupts.{applied}
 use Rattle.st_prep.specs.declared.entries.Place.{Place}
 use Rattle.st_prep.specs.declared.entries.Fetched.{Fetched}
 use Rattle.st_prep.specs.declared.entries.Needs.{Needs}

@@ -1,7 +1,8 @@
 ghost use Rattle.std.specs.Prelude.{◌≡◌, ◌<◌, ◌^◌, IfSome, is_some};
 ghost use Rattle.st_bits.specs.Storage.{words_of_storage};
 ghost use Rattle.st_state.specs.Machine.{Machine, word};
-ghost use Rattle.st_state.specs.Interrupts.{indicator, turned};
+ghost use Rattle.st_bits.specs.Indicators.{indicator};
+ghost use Rattle.st_state.specs.Interrupts.{turned};
 ghost use Rattle.st_prep.specs.EarlyChange.{words_after};
 ghost use Rattle.st_prep.specs.Plan.{seen, is_alone as is_alone_of, is_serial as is_serial_of, needs as needs_of, asks, suppressed as suppressed_of, entry as entry_of, prepared as prepared_of, plan as plan_of, opened, side_word as side_word_of, side_of, IsSeen, sight};
 ghost use Rattle.st_prep.specs.Fetch.{place_of as place_by};

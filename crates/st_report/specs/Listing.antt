@@ -16,10 +16,6 @@ right_in n text = blanks (n - length text) ++ text
 abbrev pub left_in : ℕ → List ℕ → List ℕ
 left_in n text = text ++ blanks (n - length text)
 
--- the text without the blanks at its end
-abbrev pub without_end_blanks : List ℕ → List ℕ
-without_end_blanks text = take (length text - suffix_len (λ c. c == 32) text) text
-
 -- n bits in hexadecimal, with zeros on the right to whole digits
 abbrev pub laid_text : ℕ → ℕ → List ℕ
 laid_text bits n = let digits = div_ceil n 4 in hex_text digits (bits * 2 ^ (4 * digits - n))

@@ -1,11 +1,13 @@
 //! The lines of the listing.
 ghost use Rattle.std.specs.Prelude.{◌≡◌, ◌+◌, ◌^◌, ◌<◌, ◌≤◌, ◌++◌, length, take, slice_index, IsAscii, max};
 ghost use Rattle.arrayvec.specs.ArrayString.{array_string_len};
-ghost use Rattle.st_report.specs.Listing.{blanks, right_in, left_in, without_end_blanks, laid_text, location_text, IsCardText, listed_line, symbol_line};
+ghost use Rattle.st_text.specs.Blanks.{without_end_blanks};
+ghost use Rattle.st_report.specs.Listing.{blanks, right_in, left_in, laid_text, location_text, IsCardText, listed_line, symbol_line};
 
 use crate::Line;
 use crate::pieces::{begun, ended, push_bit_address, push_hex, push_short_decimal};
 use itoa::Buffer;
+use st_text::filled_len;
 use std::str;
 
 // Appends bytes as they stand.
@@ -47,17 +49,6 @@ fn push_left(line: &mut Line, width: usize, text: &str)
 {
     line.push_str(text);
     push_blanks(line, width.saturating_sub(text.len()));
-}
-
-// How many bytes stand before the blanks at the end.
-fn filled_len(text: &[u8]) -> usize
-    ensures within { result ≤ length text.now }
-    ensures value { take result text.now ≡ without_end_blanks text.now }
-    ensures blank_next { result < length text.now → slice_index text.now result ≡ 32 }
-{
-    text.iter()
-        .rposition(|byte| *byte != b' ')
-        .map_or(0, |last| last + 1)
 }
 
 // Drops the blanks at the line's end.

@@ -4,7 +4,7 @@
 mod cards;
 mod job;
 mod levels;
-mod pieces;
+pub mod pieces;
 mod run;
 mod state_block;
 

@@ -6,8 +6,8 @@ ghost use Rattle.st_report.specs.Line.{lf, hex_digit, hex_text, two_digits, plac
 use crate::Line;
 use itoa::Buffer;
 
-// A line that begins with this word.
-pub(crate) fn begun(word: &str) -> Line
+/// A line that begins with this word, of at most 128 bytes.
+pub fn begun(word: &str) -> Line
     requires { length word.now ≤ 128 }
     ensures { result.bytes ≡ word.now }
 {
@@ -16,8 +16,8 @@ pub(crate) fn begun(word: &str) -> Line
     line
 }
 
-// Appends a number in decimal digits.
-pub(crate) fn push_decimal(line: &mut Line, n: u64)
+/// Appends a number in decimal digits, of which there are at most 20.
+pub fn push_decimal(line: &mut Line, n: u64)
     requires { array_string_len line.old + 20 ≤ 128 }
     ensures bytes { line.new.bytes ≡ line.old.bytes ++ decimal n }
     ensures room { array_string_len line.new ≤ array_string_len line.old + 20 }
@@ -58,8 +58,8 @@ fn hex_char(digit: u8) -> char
     char::from(code)
 }
 
-// Appends the last digits of a number in hexadecimal.
-pub(crate) fn push_hex(line: &mut Line, digits: u8, n: u64)
+/// Appends the last `digits` digits of a number in hexadecimal, in capitals.
+pub fn push_hex(line: &mut Line, digits: u8, n: u64)
     requires { array_string_len line.old + digits ≤ 128 }
     ensures bytes { line.new.bytes ≡ line.old.bytes ++ hex_text digits n }
     ensures room { array_string_len line.new ≡ array_string_len line.old + digits }

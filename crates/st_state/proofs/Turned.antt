@@ -10,7 +10,7 @@ use Rattle.st_state.specs.Interrupts.{turned, turned_bit}
 pub turned_bit_below : (on off was : ℕ) → was < 2 → turned_bit on off was < 2
 turned_bit_below on off was h = grind (arith, nat_tests)
 
-one_more : (b p t r : ℕ) → b < 2 → t < p → r ≡ 2 * p → b * p + t < r
+pub one_more : (b p t r : ℕ) → b < 2 → t < p → r ≡ 2 * p → b * p + t < r
 one_more b p t r small below e = omega (arith, mul-le b p 1 p (omega arith) (omega arith))
 
 pub turned_below : (n on off x : ℕ) → turned n on off x < 2 ^ n

@@ -3,15 +3,12 @@ use Rattle.std.specs.Prelude.{ℕ, zero, suc, ◌+◌, ◌-◌, ◌*◌, ◌^◌
 use Rattle.std.specs.Int.{bit_at}
 use Rattle.st_bits.specs.Bits.{part}
 use Rattle.st_bits.specs.declared.Ind.{Ind}
+use Rattle.st_bits.specs.Indicators.{indicator}
 use Rattle.st_state.specs.Machine.{Machine, word, with_word}
 
 -- indicator n is on in the word x
 abbrev pub is_on : ℕ → ℕ → Bool
 is_on x n = part x n 1 == 1
-
--- the word with indicator n on and no other
-abbrev pub indicator : ℕ → ℕ
-indicator n = 2 ^ (63 - n)
 
 -- an indicator after its turn: on where it is to be on, else off where it is to be off, else as it was
 abbrev pub turned_bit : ℕ → ℕ → ℕ → ℕ

@@ -1,5 +1,6 @@
 -- What holds of what was read, through the steps of a reading.
 use Rattle.std.proofs.Common.{◌≡◌, Bool, true, false, cond, List, [], ◌∷◌, ◌&&◌, Option, Some, None, Result, Ok, Err, refl, ℕ}
+use Rattle.std.proofs.lemmas.Bool.{and_parts as both-true}
 use Rattle.std.specs.List.{list_all}
 use Rattle.std.specs.Option.{IfSome, option_map, option_and_then, option_or, ok_or}
 use Rattle.std.specs.Result.{IfOk}
@@ -51,11 +52,6 @@ some-or P None p x y = y
 pub some-ok : {A : Type 0} (P : A → Type 0) (o : Option A) (fault : Fault) → IfSome o P → IfOk (ok_or o fault) P
 some-ok P (Some a) fault p = p
 some-ok P None fault p = tt
-
-pub both-true : (a b : Bool) → (a && b) ≡ true → (a ≡ true) × (b ≡ true)
-both-true true true e = (refl, refl)
-both-true true false e = let no : ⊥ = cc in absurd no
-both-true false b e = let no : ⊥ = cc in absurd no
 
 -- a test that all rows of a table pass is passed by the row that is found
 pub row-passes : {T : Type 0} (test : T → Bool) (word : List ℕ) (rows : List (List ℕ × T)) →

@@ -1,5 +1,6 @@
 -- A statement that was read has parts that fit their places.
 use Rattle.std.proofs.Common.{◌≡◌, ◌≤◌, ◌<◌, ◌+◌, ◌-◌, ◌==◌, ◌&&◌, ◌||◌, ℕ, Bool, true, false, not, nat_lt, nat_le, List, [], ◌∷◌, length, take, Option, Some, None, Result, Ok, Err, refl, subst, lit<, lit≤, arith, if◌then◌else◌}
+use Rattle.std.proofs.lemmas.Bool.{and_parts as both-true, not-true as not_false}
 use Rattle.std.specs.Bool.{IsFalse}
 use Rattle.std.specs.Option.{IfSome, option_map, option_map_or, option_and_then, option_zip}
 use Rattle.std.specs.Result.{IfOk}
@@ -16,6 +17,7 @@ use Rattle.st_bits.specs.declared.operations.VflOp.TheVariants.{L, St, Add, K, M
 use Rattle.st_format.specs.Operations.{writes_field}
 use Rattle.st_format.specs.Validity.{misfits, misuses_p}
 use Rattle.st_format.specs.declared.operations.FullOp.TheVariants.{Variable, Connective}
+use Rattle.st_format.proofs.Spelled.{or-left as either_false}
 use Rattle.st_strap.proofs.TableBounds.{index_below}
 use Rattle.st_strap.specs.Order.{both_of, judged}
 use Rattle.st_strap.specs.Text.{clean, word_of, behind_word, behind_group, fields_of, ends_with, group}
@@ -35,7 +37,7 @@ use Rattle.st_strap.specs.declared.descriptions.Description.TheVariants.{Absent,
 use Rattle.st_strap.specs.declared.operations.Operation.{Operation}
 use Rattle.st_strap.specs.declared.operations.Operation.TheVariants.{Half as HalfOperation, Sum as SumOperation, Refill as RefillOperation, Execute as ExecuteOperation, Branch as BranchOperation, Bare as BareOperation, Floating as FloatingOperation, Vfl as VflOperation, Connect as ConnectOperation, Move as MoveOperation, BitBranch as BitBranchOperation, IndBranch as IndBranchOperation, StoreCounter as StoreCounterOperation, Transfer as TransferOperation, Data as DataOperation, IndexWord as IndexWordOperation, Synonym as SynonymOperation, SetLocation as SetLocationOperation, Reserve as ReserveOperation, End as EndOperation}
 use Rattle.st_strap.specs.WellFormed.{IsForm, IsNumberForm, IsSpot, IsWellFormed}
-use Rattle.st_strap.proofs.ReadLemmas.{some-judged, ok-mapped, ok-both, ok-any, some-any, some-map, some-then, some-or, some-ok, both-true, row-passes}
+use Rattle.st_strap.proofs.ReadLemmas.{some-judged, ok-mapped, ok-both, ok-any, some-any, some-map, some-then, some-or, some-ok, row-passes}
 
 -- ---- operations
 
@@ -187,10 +189,6 @@ suits-default (BitBranchOperation sense change) fits = grind (arith, fits)
 suits-default DataOperation fits = default-is
 suits-default _ fits = tt
 
-not_false : (b : Bool) → not b ≡ true → b ≡ false
-not_false true e = let no : ⊥ = cc in absurd no
-not_false false e = refl
-
 suits-form : (op : Operation) (form : Form) → fits_word op ≡ true → IsForm form → may_have op form ≡ true → Suits op form
 unfolding may_have
 suits-form (VflOperation op negated) form fits sizes may =
@@ -267,7 +265,7 @@ with-p form n is below = record {
   p_fits = below;
 }
 
-either : (a b : Bool) → (a || b) ≡ true → a ≡ false → b ≡ true
+pub either : (a b : Bool) → (a || b) ≡ true → a ≡ false → b ≡ true
 either true b e f = let no : ⊥ = cc in absurd no
 either false b e f = e
 
@@ -531,10 +529,6 @@ statement-is name text =
 -- a statement that was read is well formed
 pub read-is : (name text : List ℕ) (s : Statement) → statement_of name text ≡ Ok s → IsWellFormed s
 read-is name text s read = subst (λ r. IfOk r IsWellFormed) read (statement-is name text)
-
-either_false : (a b : Bool) → (a || b) ≡ false → a ≡ false
-either_false false b e = refl
-either_false true b e = let no : ⊥ = cc in absurd no
 
 no_bad : (filled named : Bool) → filled ≡ true → (filled && not named) ≡ false → named ≡ true
 no_bad true true e f = refl

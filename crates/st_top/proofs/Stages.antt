@@ -27,13 +27,6 @@ use Rattle.st_top.specs.Running.{WritesReached, stepping}
 
 -- ---- signals
 
--- a list that is not empty, as the patterns of slices have it
-pub first_and_rest : {A : Type 0} (xs : List A) (d : A) → 1 ≤ length xs → xs ≡ get_or xs 0 d ∷ take (length xs - 1) (drop 1 xs)
-first_and_rest [] d h = absurd (omega arith)
-first_and_rest (x ∷ xs) d h =
-    let count : length xs ≡ length (x ∷ xs) - 1 = omega arith in
-    ap (λ t. x ∷ t) (sym (take-length xs) ∙ ap (λ n. take n xs) count)
-
 -- the scene in which these signals are still to come
 abbrev pub left_with : Machine → List SignalCard → List (List ℕ) → Scene
 left_with m rest cards = record { machine = m; signals = signals_of rest; cards = cards }

@@ -7,4 +7,5 @@ pub mod ObjectText
 pub mod Loading
 pub mod Output
 pub mod Answers
+pub mod Layers
 pub mod Running

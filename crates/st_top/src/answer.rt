@@ -3,7 +3,7 @@ ghost use Rattle.std.specs.Prelude.{◌≡◌};
 /// How a call of `stretch` ended. The number is the program's exit status.
 #[derive(Clone, Copy, Debug, PartialEq, Eq)]
 pub enum Status {
-    /// The job ran, and its whole report was written.
+    /// The whole output was written: the report of a run, or an object text.
     Done = 0,
     /// The job was refused, and the line that says so was written.
     Refused = 1,

@@ -7,6 +7,7 @@ mod answer;
 mod block;
 mod command;
 mod execution;
+mod layer_error;
 mod listing;
 mod loading;
 mod objects;

@@ -6,68 +6,61 @@ ghost use Rattle.st_top.specs.CommandLine.{is_plain};
 ghost use Rattle.st_top.specs.declared.command.Command.TheVariants.{Run, Assemble, Load};
 ghost use Rattle.st_top.specs.Output.{output_of};
 ghost use Rattle.st_top.specs.Answers.{Writes, Did, IsAnswer};
+ghost use Rattle.st_top.specs.Layers.{Ends, Tries};
 
 use crate::answer::{Answer, Status};
 use crate::command::{Command, read_words};
 use crate::execution::{execute, execute_loaded};
+use crate::layer_error::LayerError;
 use crate::loading::load;
 use crate::objects::{answer_object, image_of};
 use crate::refusal::refuse;
-use st_asm::{AsmError, assemble};
-use st_io::{ReadError, Sink, Source, read_all};
-use st_object::ObjectError;
+use st_asm::assemble;
+use st_io::{Sink, Source, read_all};
 use std::alloc::Global;
 
 /// The longest job, in bytes.
 const JOB_LIMIT: u32 = 2_000_000;
 
-/// Assembles a job and runs it, or refuses it.
+/// Assembles a job and runs it.
 #[tactic(auto, unfolding(crate::specs::Output::output_of))]
-fn run_job<K: Sink>(alloc: Global, job: &[u8], out: &mut K) -> Answer
+fn run_job<K: Sink>(alloc: Global, job: &[u8], out: &mut K) -> Result<Answer, LayerError>
     requires { length job.now < 2 ^ 32 }
-    ensures writes { Writes result.status (K.output out.old) (K.output out.new) (output_of Run job.now) result }
-    ensures ticks { result.ticks ≡ 0 }
+    ensures { Ends (K.output out.old) (K.output out.new) (output_of Run job.now) result }
 {
-    match assemble(alloc, job) {
-        Ok(program) => execute(alloc, job, &program, out),
-        Err(AsmError::Refused { card, fault }) => refuse(out, card, fault),
-        Err(AsmError::NoMemory) => Answer::without_run(Status::NoMemory),
-    }
+    let program = assemble(alloc, job)?;
+    Ok(execute(alloc, job, &program, out))
 }
 
-/// Assembles a job and writes its object text, or refuses it.
+/// Assembles a job and writes its object text.
 #[tactic(auto, unfolding(crate::specs::Output::output_of))]
-fn assemble_job<K: Sink>(alloc: Global, job: &[u8], out: &mut K) -> Answer
+fn assemble_job<K: Sink>(alloc: Global, job: &[u8], out: &mut K) -> Result<Answer, LayerError>
     requires { length job.now < 2 ^ 32 }
-    ensures writes { Writes result.status (K.output out.old) (K.output out.new) (output_of Assemble job.now) result }
-    ensures ticks { result.ticks ≡ 0 }
+    ensures { Ends (K.output out.old) (K.output out.new) (output_of Assemble job.now) result }
 {
-    match assemble(alloc, job) {
-        Ok(program) => answer_object(alloc, &image_of(program), out),
-        Err(AsmError::Refused { card, fault }) => refuse(out, card, fault),
-        Err(AsmError::NoMemory) => Answer::without_run(Status::NoMemory),
-    }
+    let program = assemble(alloc, job)?;
+    Ok(answer_object(alloc, &image_of(program), out))
 }
 
-/// Loads an object text and runs it, or refuses it.
+/// Loads an object text and runs it.
 #[tactic(auto, unfolding(crate::specs::Output::output_of))]
-fn load_job<K: Sink>(alloc: Global, text: &[u8], out: &mut K) -> Answer
+fn load_job<K: Sink>(alloc: Global, text: &[u8], out: &mut K) -> Result<Answer, LayerError>
     requires { length text.now ≤ 2000000 }
-    ensures writes { Writes result.status (K.output out.old) (K.output out.new) (output_of Load text.now) result }
-    ensures ticks { result.ticks ≡ 0 }
+    ensures { Ends (K.output out.old) (K.output out.new) (output_of Load text.now) result }
 {
-    match load(alloc, text) {
-        Ok(program) => execute_loaded(alloc, &program, out),
-        Err(ObjectError::Refused { card, fault }) => refuse(out, card, fault),
-        Err(ObjectError::NoMemory) => Answer::without_run(Status::NoMemory),
-    }
+    let program = load(alloc, text)?;
+    Ok(execute_loaded(alloc, &program, out))
 }
 
-/// Does what a command asks for on a job that was read.
-fn answer_job<K: Sink>(alloc: Global, command: Command, job: &[u8], out: &mut K) -> Answer
+/// Does what a command asks for on a job that was read, as far as no layer refuses it.
+fn try_job<K: Sink>(
+    alloc: Global,
+    command: Command,
+    job: &[u8],
+    out: &mut K,
+) -> Result<Answer, LayerError>
     requires { length job.now ≤ 2000000 }
-    ensures writes { Writes result.status (K.output out.old) (K.output out.new) (output_of command job.now) result }
-    ensures ticks { result.ticks ≡ 0 }
+    ensures { Ends (K.output out.old) (K.output out.new) (output_of command job.now) result }
 {
     match command {
         Command::Run => run_job(alloc, job, out),
@@ -76,17 +69,31 @@ fn answer_job<K: Sink>(alloc: Global, command: Command, job: &[u8], out: &mut K)
     }
 }
 
-/// Reads a job, and does what a command asks for.
+/// Reads a job, and does what a command asks for, as far as no layer stops it.
+fn try_command<S: Source, K: Sink>(
+    alloc: Global,
+    command: Command,
+    job: &mut S,
+    out: &mut K,
+) -> Result<Answer, LayerError>
+    ensures { Tries command (S.input job.old) (S.input job.new) (K.output out.old) (K.output out.new) result }
+{
+    let text = read_all(alloc, job, JOB_LIMIT)?;
+    try_job(alloc, command, text.as_slice(), out)
+}
+
+/// Reads a job, and does what a command asks for, or says why it does not.
 fn answer<S: Source, K: Sink>(alloc: Global, command: Command, job: &mut S, out: &mut K) -> Answer
     ensures did { Did command result.status
         (S.input job.old) (S.input job.new) (K.output out.old) (K.output out.new) result }
     ensures ticks { result.ticks ≡ 0 }
 {
-    match read_all(alloc, job, JOB_LIMIT) {
-        Ok(text) => answer_job(alloc, command, text.as_slice(), out),
-        Err(ReadError::TooLong) => Answer::without_run(Status::JobTooLong),
-        Err(ReadError::Failed) => Answer::without_run(Status::ReadFault),
-        Err(ReadError::NoMemory) => Answer::without_run(Status::NoMemory),
+    match try_command(alloc, command, job, out) {
+        Ok(answer) => answer,
+        Err(LayerError::Refused { card, fault }) => refuse(out, card, fault),
+        Err(LayerError::TooLong) => Answer::without_run(Status::JobTooLong),
+        Err(LayerError::Unread) => Answer::without_run(Status::ReadFault),
+        Err(LayerError::NoMemory) => Answer::without_run(Status::NoMemory),
     }
 }
 

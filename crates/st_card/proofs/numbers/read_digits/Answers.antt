@@ -5,7 +5,7 @@ use Rattle.st_card.proofs.numbers.read_digits.Goals as goal
 
 pub digits-preserved : goal.digits-preserved
 digits-preserved c =
-    let parts = first_and_rest c.digits.rest.now c.in-len1-up.len_at_least in
+    let parts = first_and_rest c.digits.rest.now 0 c.in-len1-up.len_at_least in
     record {
       capped = omega arith;
       same_test = digits_step _ _ _ parts (sym c.is_ascii_digit.ensures.value ∙ c.if-not-is_ascii_digit.false) ∙ c.digits.invariant.same_test;

@@ -13,7 +13,7 @@ bytes-init c = record {
 
 pub bytes-preserved : goal.bytes-preserved
 bytes-preserved c =
-    let parts = first_and_rest c.bytes.rest.now c.in-len1-up.len_at_least in
+    let parts = first_and_rest c.bytes.rest.now 0 c.in-len1-up.len_at_least in
     let within : c.bytes.front < length c.args.text.now = omega arith in
     let further = past_first c.args.text.now _ _ _ _ c.bytes.invariant.rest_of_text parts within in
     record {
@@ -26,6 +26,6 @@ bytes-preserved c =
 
 pub returns-then-byte-at-clause-pieces : goal.returns-then-byte-at-clause-pieces
 returns-then-byte-at-clause-pieces c =
-    let parts = first_and_rest c.bytes.rest.now c.in-len1-up.len_at_least in
+    let parts = first_and_rest c.bytes.rest.now 0 c.in-len1-up.len_at_least in
     sym c.bytes.invariant.same_pieces
     ∙ parted_here _ _ _ _ _ _ parts c.if-byte-at.true c.split_at.ensures.front

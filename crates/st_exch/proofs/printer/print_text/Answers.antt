@@ -2,7 +2,8 @@ use Rattle.std.proofs.Common.{List, ℕ, ap, ◌∙◌, arith}
 use Rattle.std.specs.List.{flat_map}
 use Rattle.std.proofs.lemmas.List.{take_all}
 use Rattle.st_card.specs.Cards.{is_printable}
-use Rattle.st_exch.specs.Printer.{characters_of, without_end_blanks, printed}
+use Rattle.st_text.specs.Blanks.{without_end_blanks}
+use Rattle.st_exch.specs.Printer.{characters_of, printed}
 use Rattle.st_exch.proofs.PrinterLemmas.{printed-printable}
 use Rattle.st_exch.proofs.printer.print_text.Goals as goal
 

@@ -12,19 +12,19 @@ bytes-init c = record {
 
 pub returns-then-byte-eq43-clause-parts : goal.returns-then-byte-eq43-clause-parts
 returns-then-byte-eq43-clause-parts c =
-    let parts = first_and_rest c.bytes.rest.now c.in-len1-up.len_at_least in
+    let parts = first_and_rest c.bytes.rest.now 0 c.in-len1-up.len_at_least in
     λ m. sym (c.bytes.invariant.same_parts m)
     ∙ plus_here m _ _ _ _ _ parts c.if-byte-eq43.true c.split_at.ensures.front
 
 pub returns-then-byte-eq45-clause-parts : goal.returns-then-byte-eq45-clause-parts
 returns-then-byte-eq45-clause-parts c =
-    let parts = first_and_rest c.bytes.rest.now c.in-len1-up.len_at_least in
+    let parts = first_and_rest c.bytes.rest.now 0 c.in-len1-up.len_at_least in
     λ m. sym (c.bytes.invariant.same_parts m)
     ∙ minus_here m _ _ _ _ _ parts c.if-byte-eq45.true c.split_at-then-byte-eq45.ensures.front
 
 pub bytes-preserved : goal.bytes-preserved
 bytes-preserved c =
-    let parts = first_and_rest c.bytes.rest.now c.in-len1-up.len_at_least in
+    let parts = first_and_rest c.bytes.rest.now 0 c.in-len1-up.len_at_least in
     let within : c.bytes.front < length c.args.text.now = omega arith in
     let further = past_first c.args.text.now _ _ _ _ c.bytes.invariant.rest_of_text parts within in
     record {

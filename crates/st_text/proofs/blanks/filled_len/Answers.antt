@@ -1,7 +1,7 @@
 -- The place that is found has blanks behind it and none before it.
 use Rattle.std.proofs.Common.{rules}
-use Rattle.st_report.proofs.Blanks.{take-filled}
-use Rattle.st_report.proofs.cards.filled_len.Goals as goal
+use Rattle.st_text.proofs.Filled.{take-filled}
+use Rattle.st_text.proofs.blanks.filled_len.Goals as goal
 
 pub returns-clause-value : goal.returns-clause-value
 returns-clause-value c =

@@ -3,7 +3,7 @@ use Rattle.std.proofs.Common.{◌≡◌, ◌≢◌, ◌≤◌, ◌<◌, ◌-◌,
 use Rattle.std.proofs.lemmas.Grind.{common_steps}
 use Rattle.std.proofs.lemmas.List.Sums.{suffix_len_is}
 use Rattle.std.specs.List.{suffix_len}
-use Rattle.st_report.specs.Listing.{without_end_blanks}
+use Rattle.st_text.specs.Blanks.{without_end_blanks}
 
 -- blanks from n on, and none before n
 pub take-filled : (text : List ℕ) (n : ℕ) → n ≤ length text

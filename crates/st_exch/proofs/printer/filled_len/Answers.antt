@@ -1,8 +1,0 @@
--- The place that is found has blanks behind it and none before it.
-use Rattle.std.proofs.Common.{rules}
-use Rattle.st_exch.proofs.PrinterLemmas.{take-filled}
-use Rattle.st_exch.proofs.printer.filled_len.Goals as goal
-
-pub returns-clause-value : goal.returns-clause-value
-returns-clause-value c =
-    take-filled c.args.text.now c.map_or.result (search rules) (λ k low high. search rules) (λ some. search rules)

@@ -1,0 +1,6 @@
+//! Texts: where the blanks at a text's end begin.
+#![tactic(auto)]
+
+mod blanks;
+
+pub use blanks::filled_len;

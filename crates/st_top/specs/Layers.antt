@@ -1,0 +1,64 @@
+-- What the errors of the layers below say of a command that reads a job.
+use Rattle.std.specs.Prelude.{◌≡◌, ℕ, List, Result, Ok, Err}
+use Rattle.st_asm.specs.declared.stop.AsmError.{AsmError}
+use Rattle.st_asm.specs.declared.stop.AsmError.TheVariants.{Refused as AsmRefused, NoMemory as AsmNoMemory}
+use Rattle.st_object.specs.declared.reading.ObjectError.{ObjectError}
+use Rattle.st_object.specs.declared.reading.ObjectError.TheVariants.{Refused as ObjectRefused, NoMemory as ObjectNoMemory}
+use Rattle.st_io.specs.Count.{HasRisen}
+use Rattle.st_io.specs.Input.{InputState, CameWhole, CameWithin, CamePast}
+use Rattle.st_io.specs.Output.{OutputState}
+use Rattle.st_io.specs.declared.source.ReadError.{ReadError}
+use Rattle.st_io.specs.declared.source.ReadError.TheVariants.{TooLong as ReadTooLong, Failed, NoMemory as ReadNoMemory}
+use Rattle.st_top.specs.Answers.{Writes, job_limit}
+use Rattle.st_top.specs.Output.{Output, output_of, refused}
+use Rattle.st_top.specs.declared.answer.Answer.{Answer}
+use Rattle.st_top.specs.declared.command.Command.{Command}
+use Rattle.st_top.specs.declared.layer_error.LayerError.{LayerError}
+use Rattle.st_top.specs.declared.layer_error.LayerError.TheVariants.{Refused, TooLong, Unread, NoMemory}
+
+-- the error of reading a job
+abbrev pub of_reading : ReadError → LayerError
+of_reading ReadTooLong = TooLong
+of_reading Failed = Unread
+of_reading ReadNoMemory = NoMemory
+
+-- the assembler's error
+abbrev pub of_assembly : AsmError → LayerError
+of_assembly (AsmRefused card fault) = Refused card fault
+of_assembly AsmNoMemory = NoMemory
+
+-- the error of reading an object text
+abbrev pub of_object : ObjectError → LayerError
+of_object (ObjectRefused card fault) = Refused card fault
+of_object ObjectNoMemory = NoMemory
+
+-- what an error says of the output that is wanted: it is that of the refused card, or memory ran out
+abbrev pub Halts : Output → LayerError → Type 0
+Halts output (Refused card fault) = output ≡ refused (record { card = card; fault = fault })
+Halts output NoMemory = Unit {0}
+Halts output TooLong = ⊥
+Halts output Unread = ⊥
+
+-- how a command ends on a job that was read: with an answer, or with an error and nothing written
+abbrev pub Ends : OutputState → OutputState → Output → Result Answer LayerError → Type 0
+Ends before after output (Ok answer) = Writes answer.status before after output answer × (answer.ticks ≡ 0)
+Ends before after output (Err e) = (after ≡ before) × Halts output e
+
+-- a job was read whole, and the command ended so on it
+pub record EndsOnJob (command : Command) (input input' : InputState) (before after : OutputState)
+    (result : Result Answer LayerError) : Type 0 where
+  pub job : List ℕ
+  pub read : CameWhole input input' job_limit job
+  pub ends : Ends before after (output_of command job) result
+
+-- how a command ends that reads a job
+abbrev pub Tries : Command → InputState → InputState → OutputState → OutputState → Result Answer LayerError → Type 0
+Tries command input input' before after (Ok answer) = EndsOnJob command input input' before after (Ok answer)
+Tries command input input' before after (Err (Refused card fault)) =
+    EndsOnJob command input input' before after (Err (Refused card fault))
+Tries command input input' before after (Err TooLong) =
+    CamePast input input' job_limit × (input'.faults ≡ input.faults) × (after ≡ before)
+Tries command input input' before after (Err Unread) =
+    CameWithin input input' job_limit × HasRisen input.faults input'.faults × (after ≡ before)
+Tries command input input' before after (Err NoMemory) =
+    CameWithin input input' job_limit × (input'.faults ≡ input.faults) × (after ≡ before)

@@ -1,0 +1,60 @@
+//! Why a command stops before its first line: the errors of the layers below as one type.
+ghost use Rattle.std.specs.Prelude.{◌≡◌};
+ghost use Rattle.st_top.specs.Layers.{of_reading, of_assembly, of_object};
+
+use st_asm::AsmError;
+use st_card::Fault;
+use st_io::ReadError;
+use st_object::ObjectError;
+use thiserror::Error;
+
+/// Why a command stops before it writes anything.
+#[derive(Debug, Drop, Error)]
+pub enum LayerError {
+    /// A card of the job, or a line of the object text, is refused. Both are counted from 1.
+    #[error("card {card} is refused")]
+    Refused { card: u32, fault: Fault },
+    /// The job has more than 2,000,000 bytes.
+    #[error("the job is too long")]
+    TooLong,
+    /// A read of the job failed.
+    #[error("the job could not be read")]
+    Unread,
+    /// Memory ran out.
+    #[error("out of memory")]
+    NoMemory,
+}
+
+impl From<ReadError> for LayerError {
+    ghost from_gives = { λ e made. made ≡ of_reading e };
+
+    fn from(error: ReadError) -> LayerError {
+        match error {
+            ReadError::TooLong => LayerError::TooLong,
+            ReadError::Failed => LayerError::Unread,
+            ReadError::NoMemory => LayerError::NoMemory,
+        }
+    }
+}
+
+impl From<AsmError> for LayerError {
+    ghost from_gives = { λ e made. made ≡ of_assembly e };
+
+    fn from(error: AsmError) -> LayerError {
+        match error {
+            AsmError::Refused { card, fault } => LayerError::Refused { card, fault },
+            AsmError::NoMemory => LayerError::NoMemory,
+        }
+    }
+}
+
+impl From<ObjectError> for LayerError {
+    ghost from_gives = { λ e made. made ≡ of_object e };
+
+    fn from(error: ObjectError) -> LayerError {
+        match error {
+            ObjectError::Refused { card, fault } => LayerError::Refused { card, fault },
+            ObjectError::NoMemory => LayerError::NoMemory,
+        }
+    }
+}
