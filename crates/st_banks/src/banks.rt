@@ -58,7 +58,7 @@ impl Banks {
         self.answers[bank_of(w)]
     }
 
-    /// Reads the word `w`, which is none of the registers, at `tick`. The result is the tick at which the bank answers;
+    /// Reads the word `w`, a word address from 32 to 98,303, at `tick`, which is below 2^63. The result is the tick at which the bank answers;
     /// it is None, and nothing changes, exactly where the last answer of the bank is later than `tick`.
     pub fn accept(&mut self, w: u32, tick: u64) -> Option<u64>
         requires above_registers { 32 ≤ w }

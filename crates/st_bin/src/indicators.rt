@@ -16,19 +16,19 @@ pub const ZERO_DIVISOR: u64 = 1 << 39;
 pub const BINARY_TRANSIT: u64 = 1 << 24;
 /// MOP: the operation wrote its field.
 const TO_MEMORY: u64 = 1 << 8;
-/// RLZ, RZ and RGZ: the result number is below, equal to and above zero. RN: its sign is minus.
+/// RLZ: the result number is below zero.
 const RESULT_BELOW: u64 = 1 << 7;
-
+/// RZ: the result number is zero.
 const RESULT_ZERO: u64 = 1 << 6;
-
+/// RGZ: the result number is above zero.
 const RESULT_ABOVE: u64 = 1 << 5;
-
+/// RN: the sign of the result number is minus.
 const RESULT_MINUS: u64 = 1 << 4;
-/// AL, AE and AH: the accumulator's side of a comparison is below, equal to and above the operand.
+/// AL: the accumulator's side of a comparison is below the operand.
 const LOW: u64 = 1 << 3;
-
+/// AE: both sides of a comparison are equal.
 const EQUAL: u64 = 1 << 2;
-
+/// AH: the accumulator's side of a comparison is above the operand.
 const HIGH: u64 = 1 << 1;
 
 /// LC, where a carry is lost.

@@ -4,7 +4,8 @@ ghost use Rattle.st_bits.specs.Bits.{all_bits, bits as bits_of, field, num, put}
 
 use crate::parts::{part, with_part};
 
-/// The number of the `n` bits, 1 to 64, from the bit address `a` on, the first bit highest.
+/// The number of the `n` bits, 1 to 64, from the bit address `a` on, the first bit highest. All
+/// of them lie in `words`.
 pub fn get_field(words: &[u64], a: u32, n: u8) -> u64
     requires some { 1 ≤ n }
     requires few { n ≤ 64 }
@@ -28,7 +29,8 @@ pub fn get_field(words: &[u64], a: u32, n: u8) -> u64
     }
 }
 
-/// Puts the number `bits`, below 2^n, into the `n` bits, 1 to 64, from the bit address `a` on.
+/// Puts the number `bits`, below 2^n, into the `n` bits, 1 to 64, from the bit address `a` on. All
+/// of them lie in `words`, and no other bit changes.
 pub fn put_field(words: &mut [u64], a: u32, n: u8, bits: u64)
     requires some { 1 ≤ n }
     requires few { n ≤ 64 }

@@ -1,4 +1,4 @@
-ghost use Rattle.std.specs.Prelude.{◌≡◌, ◌<◌, ◌≤◌, ◌^◌, ◌≤ℤ◌, pos, neg_ℤ, unsigned_abs};
+ghost use Rattle.std.specs.Prelude.{◌≡◌, ◌<◌, ◌≤◌, ◌^◌, unsigned_abs};
 ghost use Rattle.st_bits.specs.IndexWord.{value_of as value, count_of as count, refill_of as refill, with_value as value_put, with_count as count_put, with_refill as refill_put};
 
 use crate::parts::{part, with_part};

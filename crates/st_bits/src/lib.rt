@@ -1,4 +1,4 @@
-//! Words, fields, register words and index words.
+//! Words, fields, register words and index words. `docs/machine.md` and `docs/index-words.md` have the rules.
 #![tactic(auto)]
 
 mod fields;
@@ -13,7 +13,7 @@ pub use index_words::{count_of, refill_of, value_of, with_count, with_refill, wi
 pub use operations::{BranchOp, ConnKind, HalfOp, VflOp};
 pub use parts::{part, with_part};
 pub use register::fix_register;
-pub use storage::{Ind, NoMemory, WORDS};
+pub use storage::{Ind, NoMemory, WORDS, indicator, words_are_those_of_storage};
 
 #[cfg(test)]
 mod tests;

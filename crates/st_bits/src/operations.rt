@@ -82,7 +82,7 @@ pub enum BranchOp {
 pub enum VflOp {
     /// Load: the accumulator becomes the field.
     L,
-    /// Load with flag: as `L`, with the field's flags.
+    /// Load with flag: as `L`, with the zone and the flags of the field's sign byte.
     Lwf,
     /// Load transit and set: the transit register becomes the field.
     Ltrs,
@@ -96,21 +96,21 @@ pub enum VflOp {
     AddMg,
     /// Add to memory: the accumulator is added to the field.
     MAdd,
-    /// Add magnitude to memory.
+    /// Add to memory, magnitude: the accumulator with its sign is added to the magnitude of the field, whose sign stays.
     MAddMg,
     /// Add one to memory.
     MAdd1,
     /// Compare the accumulator with the field.
     K,
-    /// Compare field: the like part of the accumulator with the field.
+    /// Compare field: as much of the accumulator as the field has magnitude bits, or digits, with the field.
     Kf,
-    /// Compare if equal.
+    /// Compare if equal: as `K`, only where AE is on.
     Ke,
-    /// Compare field if equal.
+    /// Compare field if equal: as `Kf`, only where AE is on.
     Kfe,
-    /// Compare for range.
+    /// Compare for range: the field is the upper end of a range; only where AL is off.
     Kr,
-    /// Compare field for range.
+    /// Compare field for range: as `Kr`, by as much as the field has; only where AL is off.
     Kfr,
     /// Multiply.
     Mul,

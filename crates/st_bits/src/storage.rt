@@ -1,15 +1,35 @@
+//! Storage as a whole, and the indicators as bits of a word. `docs/machine.md` has the rules.
+ghost use Rattle.std.specs.Prelude.{◌≡◌, ◌<◌, ◌^◌};
+ghost use Rattle.st_bits.specs.Indicators.{indicator as indicator_of};
+ghost use Rattle.st_bits.specs.Storage.{words_of_storage};
+
 /// The number of words of storage.
 pub const WORDS: u32 = 98_304;
+
+/// The number of words in the code is that of the definitions.
+pub fn words_are_those_of_storage()
+    ensures { WORDS ≡ words_of_storage }
+{}
 
 /// Memory ran out.
 #[derive(Clone, Copy, Debug, PartialEq, Eq)]
 pub struct NoMemory;
 
-/// Indicators to turn on and to turn off. Indicator n, 0 to 63, is the bit of value 2^(63 - n).
+/// Indicators to turn on and to turn off. Indicator n, 0 to 63, is the bit of value 2^(63 - n). One that stands in both
+/// words is turned on.
 #[derive(Clone, Copy, Debug, PartialEq, Eq)]
 pub struct Ind {
     /// The indicators to turn on.
     pub on: u64,
     /// The indicators to turn off.
     pub off: u64,
+}
+
+/// The word with indicator `n`, 0 to 63, on and no other.
+pub fn indicator(n: u8) -> u64
+    requires { n < 64 }
+    ensures value { result ≡ indicator_of n }
+    ensures bound { result < 2 ^ 64 }
+{
+    1 << (63 - n)
 }

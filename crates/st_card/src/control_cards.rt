@@ -46,9 +46,9 @@ pub struct Controls {
     pub delays: Vec<u8>,
     /// The signals, at most 4,096, with counts that do not fall.
     pub signals: Vec<Signal>,
-    /// The word addresses, first and last, of the parts of storage that are to be printed.
+    /// The word addresses, first and last, up to 98,303, of the parts of storage that are to be printed, at most 16.
     pub dumps: ArrayVec<(u32, u32), 16>,
-    /// The ticks, rising, at which the machine is to be shown.
+    /// The ticks, rising and of at most 12 digits, at which the machine is to be shown, at most 64.
     pub snaps: ArrayVec<u64, 64>,
     /// Whether the listing is asked for.
     pub list: bool,

@@ -1,6 +1,6 @@
 //! The words and numbers of control cards.
 
-ghost use Rattle.std.specs.Prelude.{◌≡◌, ◌≤◌, length, IfSome};
+ghost use Rattle.std.specs.Prelude.{◌≡◌, ◌≤◌, length};
 ghost use Rattle.std.specs.Option.{option_map};
 ghost use Rattle.st_card.specs.Tables.{row_of as row_in};
 ghost use Rattle.st_card.specs.Pieces.{words};

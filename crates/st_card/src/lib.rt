@@ -1,4 +1,4 @@
-//! The cards of a job, and what its control cards ask for.
+//! The cards of a job, and what its control cards ask for. `docs/strap.md` has the rules.
 #![tactic(auto)]
 
 mod cards;
@@ -17,4 +17,3 @@ pub use faults::Fault;
 pub use numbers::{Reading, read_number};
 pub use pieces::cut;
 pub use tables::row_of;
-pub use words::first_word;

@@ -5,10 +5,8 @@ ghost use Rattle.st_card.specs.Pieces.{words};
 
 use crate::pieces::cut;
 
-/// The first word of a text, and what stands behind it.
-///
-/// Words stand between blanks. `None` where the text has none.
-pub fn first_word(text: &[u8]) -> Option<(&[u8], &[u8])>
+// The first word of a text, and what stands behind it. Words stand between blanks. `None` where the text has none.
+pub(crate) fn first_word(text: &[u8]) -> Option<(&[u8], &[u8])>
     ensures words { MatchOption result (words text.now ≡ [])
         (λ p. words text.now ≡ p.0.now ∷ words p.1.now) }
     ensures some_text { IfSome result (λ p. 0 < length text.now) }

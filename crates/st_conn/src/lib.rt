@@ -1,4 +1,5 @@
 //! Connectives: logic on a field and the accumulator, and the accumulator with a result put into it.
+//! `docs/connectives.md` has the rules.
 #![tactic(auto)]
 
 mod logic;

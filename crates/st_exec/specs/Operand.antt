@@ -3,6 +3,8 @@ use Rattle.std.specs.Prelude.{ℕ, ◌≡◌, ◌+◌, ◌*◌, ◌<◌, ◌≤�
 use Rattle.st_bits.specs.Bits.{all_bits, field, num, part}
 use Rattle.st_state.specs.Machine.{Machine, word}
 use Rattle.st_bin.specs.declared.accumulator.Acc.{Acc}
+use Rattle.st_bits.specs.declared.operations.VflOp.{VflOp}
+use Rattle.st_prep.specs.Entry.{no_words, operand_words, reads_field}
 use Rattle.st_prep.specs.declared.entries.Words.{Words}
 
 -- the words of two runs, in order, are those of a state
@@ -14,6 +16,10 @@ pub record AreOperands (w : Words) (operands : List ℕ) (s : Machine) : Type 0 
 pub record AreRead (w : Words) (operands : List ℕ) (t : Machine) : Type 0 where
   pub first : (k : ℕ) → k < w.len → 32 ≤ w.first + k → slice_index operands k ≡ word t (w.first + k)
   pub second : (k : ℕ) → k < w.len2 → 32 ≤ w.first2 + k → slice_index operands (w.len + k) ≡ word t (w.first2 + k)
+
+-- the words that an operation on a field of n bits at e takes: none where it does not read its field
+abbrev pub taken_words : VflOp → ℕ → ℕ → ℕ → Words
+taken_words op p e n = if reads_field op then operand_words p e n else no_words
 
 -- the number of the n bits of storage from bit a on
 abbrev pub field_at : Machine → ℕ → ℕ → ℕ

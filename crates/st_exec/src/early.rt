@@ -4,8 +4,7 @@ ghost use Rattle.st_prep.specs.Plan.{opened};
 ghost use Rattle.st_prep.specs.Ranges.{IsPrepared};
 ghost use Rattle.st_exec.specs.Completion.{with_change, early as early_of};
 
-use crate::indicators::indicator;
-use st_bits::Ind;
+use st_bits::{Ind, indicator};
 use st_prep::{IndexChange, Prepared};
 use st_state::State;
 

@@ -6,11 +6,10 @@ ghost use Rattle.st_exec.specs.Outcome.{with_register, with_accumulator, with_re
 ghost use Rattle.st_exec.specs.Deed.{IsField, CanBeDone, order_of as order_by, with_order, given, done};
 
 use crate::deeds::Deed;
-use crate::indicators::indicator;
 use crate::outcomes::Outcome;
 use crate::transmission::{copy, exchange};
 use st_bin::Acc;
-use st_bits::Ind;
+use st_bits::{Ind, indicator};
 use st_state::{Order, State};
 
 /// The addresses of the registers.

@@ -28,7 +28,7 @@ fn operand_at(words: Words, k: u8, state: &State) -> u64
     }
 }
 
-/// The operand words that are named, in order, as they stand in the state.
+/// The operand words that are named, in order, as they stand in the state. The places behind them hold 0.
 pub fn read_operands(words: Words, state: &State) -> [u64; 32]
     requires runs { IsRuns words }
     requires inside { AreInside words }

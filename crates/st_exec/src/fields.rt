@@ -6,9 +6,9 @@ ghost use Rattle.st_bin.specs.Indicators.{partial_field as partial_field_of, by_
 ghost use Rattle.st_dec.specs.DecimalOperand.{IsDecimalShape};
 ghost use Rattle.st_format.specs.Operations.{writes_field};
 ghost use Rattle.st_format.specs.declared.operations.FullOp.{FullOp};
-ghost use Rattle.st_prep.specs.Entry.{no_words, field_words, operand_words, reads_field as reads_it};
+ghost use Rattle.st_prep.specs.Entry.{no_words, field_words, operand_words};
 ghost use Rattle.st_prep.specs.Ranges.{AreInside};
-ghost use Rattle.st_exec.specs.Operand.{AreRead, operand as operand_of, accumulator as accumulator_of};
+ghost use Rattle.st_exec.specs.Operand.{AreRead, taken_words, operand as operand_of, accumulator as accumulator_of};
 ghost use Rattle.st_exec.specs.Outcome.{taken as taken_of, result_by as result_of, operated, put_by as put_by_of, connects};
 ghost use Rattle.st_exec.specs.Deed.{IsField};
 
@@ -21,6 +21,7 @@ use st_bin::{Acc, Done, Shape, binary};
 use st_bits::{ConnKind, Ind, VflOp, part};
 use st_conn::{connect, put_acc};
 use st_dec::decimal;
+use st_prep::reads_field;
 use st_state::State;
 
 /// The addresses of registers.
@@ -51,13 +52,6 @@ fn operand(p: u8, e: u32, n: u8, operands: &[u64; 32], state: &State) -> u64
     }
 }
 
-/// Whether an operation reads its field.
-fn reads_field(op: VflOp) -> bool
-    ensures { result ≡ reads_it op }
-{
-    !matches!(op, VflOp::St)
-}
-
 /// The accumulator and its sign byte.
 fn accumulator(state: &State) -> Acc
     ensures { result ≡ accumulator_of state.now }
@@ -73,8 +67,8 @@ fn taken(op: VflOp, p: u8, e: u32, n: u8, operands: &[u64; 32], state: &State) -
     requires some { 1 ≤ n }
     requires few { n ≤ 64 }
     requires short { p ≡ 1 → n ≤ 24 }
-    requires inside { AreInside (if reads_it op then operand_words p e n else no_words) }
-    requires read { AreRead (if reads_it op then operand_words p e n else no_words) operands.now state.now }
+    requires inside { AreInside (taken_words op p e n) }
+    requires read { AreRead (taken_words op p e n) operands.now state.now }
     ensures value { result ≡ taken_of op p e n state.now }
     ensures bound { result < 2 ^ n }
 {
@@ -122,8 +116,8 @@ pub fn operate(
     requires shape { IsShape shape.now }
     requires decimal { is_decimal ≡ true → IsDecimalShape shape.now }
     requires short { p ≡ 1 → shape.now.length ≤ 24 }
-    requires inside { AreInside (if reads_it op then operand_words p e shape.now.length else no_words) }
-    requires read { AreRead (if reads_it op then operand_words p e shape.now.length else no_words) operands.now state.now }
+    requires inside { AreInside (taken_words op p e shape.now.length) }
+    requires read { AreRead (taken_words op p e shape.now.length) operands.now state.now }
     requires written { AreInside (if writes_field (FullOp.Variable op) then field_words e shape.now.length else no_words) }
     ensures value { result ≡ operated is_decimal op shape.now p e state.now }
     ensures field { IfSome result.done.field (IsField e shape.now.length) }

@@ -7,7 +7,6 @@ mod early;
 mod effects;
 mod execution;
 mod fields;
-mod indicators;
 mod laws;
 mod operands;
 mod outcomes;

@@ -43,7 +43,7 @@ pub fn is_at_rest(state: &State) -> bool
 }
 
 /// Makes the next step: an interrupt where one is due, else the instruction at the counter. It is counted as one
-/// instruction. `Waits` changes nothing.
+/// instruction. `Waits` changes nothing. Fewer than 2^63 instructions are done. `docs/machine.md` has the rules.
 #[tactic(auto, unfolding(crate::specs::Step::step))]
 pub fn one(state: &mut State) -> Step
     requires { state.old.done < 2 ^ 63 }

@@ -1,4 +1,4 @@
-//! Expressions, and the symbols that they name.
+//! Expressions, and the symbols that they name. `docs/strap.md` has the rules.
 #![tactic(auto)]
 
 mod expressions;

@@ -1,4 +1,4 @@
-//! The two formats of an instruction, and what their bits spell.
+//! The two formats of an instruction, and what their bits spell. `docs/instructions.md` has the rules.
 //!
 //! A half-word instruction has 32 bits:
 //!
@@ -58,6 +58,8 @@ pub use decoding::decode;
 pub use encoding::encode;
 pub use instruction::{Decoded, Instr};
 pub use laws::{bits_spell_instruction, instruction_keeps_bits};
+pub use operations::{FullOp, writes_field};
+pub use rules::misfits_field;
 
 #[cfg(test)]
 mod tests;

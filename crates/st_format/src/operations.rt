@@ -1,5 +1,4 @@
-ghost use Rattle.std.specs.Prelude.{◌≡◌, ◌<◌, ◌≤◌};
-ghost use Rattle.st_format.specs.Halves.{is_one};
+ghost use Rattle.std.specs.Prelude.{◌≡◌, ◌<◌};
 ghost use Rattle.st_format.specs.Operations.{half_op as half_op_of, branch_op as branch_op_of, full_op as full_op_of, kind as kind_of, half_number as number_of_half, branch_number as number_of_branch, vfl_number as number_of_vfl, kind_number as number_of_kind, row, full_ops, writes_field as writes};
 
 use crate::fields::{later, part};

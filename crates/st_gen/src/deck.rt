@@ -107,7 +107,8 @@ fn push_deck(deck: &mut Vec<u8>, number: u64, cards: u32) -> Result<(), AllocErr
 
 /// The deck that the seed `number` makes: `cards` drawn cards, the end of the program, and control
 /// cards that give a budget of two more than `cards`, sixteen delays of 1 to 20 ticks, and ask for
-/// ticks. The one error is that memory ran out.
+/// ticks. `soak` asks for 1 to 4,000 cards; this call makes a deck of any number. The one error is that memory ran out.
+/// `docs/deck.md` has the rules.
 pub fn make_deck(alloc: Global, number: u64, cards: u32) -> Result<Vec<u8>, NoMemory>
     ensures { IfOk result (λ deck. deck.items ≡ made_deck number cards) }
 {

@@ -1,4 +1,4 @@
-//! The deck that `soak` runs: cards made from a seed.
+//! A deck of cards made from a seed, as `soak` will run it. `docs/deck.md` has the rules.
 #![tactic(auto)]
 
 mod deck;

@@ -1,18 +1,8 @@
 ghost use Rattle.std.specs.Prelude.{◌≡◌, ◌<◌, ◌^◌};
-ghost use Rattle.st_bits.specs.Indicators.{indicator as indicator_of};
 ghost use Rattle.st_index.specs.IndexChange.{comparison, index_result as result_of};
 
-use st_bits::{Ind, count_of, part, value_of};
+use st_bits::{Ind, count_of, indicator, part, value_of};
 use std::cmp::Ordering;
-
-/// The word with indicator `n` on and no other.
-fn bit(n: u8) -> u64
-    requires { n < 64 }
-    ensures value { result ≡ indicator_of n }
-    ensures bound { result < 2 ^ 64 }
-{
-    1 << (63 - n)
-}
 
 /// What a comparison of `a` with `b` turns on and off: XL where a is below b, XE where they are equal, XH where a is
 /// above b, and the other two off.
@@ -20,13 +10,13 @@ pub fn compare(a: i32, b: i32) -> Ind
     ensures { result ≡ comparison a b }
 {
     let on = match a.cmp(&b) {
-        Ordering::Less => bit(52),
-        Ordering::Equal => bit(53),
-        Ordering::Greater => bit(54),
+        Ordering::Less => indicator(52),
+        Ordering::Equal => indicator(53),
+        Ordering::Greater => indicator(54),
     };
     Ind {
         on,
-        off: bit(52) + bit(53) + bit(54),
+        off: indicator(52) + indicator(53) + indicator(54),
     }
 }
 
@@ -35,15 +25,15 @@ pub fn compare(a: i32, b: i32) -> Ind
 pub fn index_result(y: u64) -> Ind
     ensures { result ≡ result_of y }
 {
-    let count = if count_of(y) == 0 { bit(48) } else { 0 };
+    let count = if count_of(y) == 0 { indicator(48) } else { 0 };
     let sign = match value_of(y) {
-        ..0 => bit(49),
-        0 => bit(50),
-        _ => bit(51),
+        ..0 => indicator(49),
+        0 => indicator(50),
+        _ => indicator(51),
     };
-    let flag = if part(y, 25, 1) == 0 { 0 } else { bit(38) };
+    let flag = if part(y, 25, 1) == 0 { 0 } else { indicator(38) };
     Ind {
         on: count + sign + flag,
-        off: bit(48) + bit(49) + bit(50) + bit(51),
+        off: indicator(48) + indicator(49) + indicator(50) + indicator(51),
     }
 }

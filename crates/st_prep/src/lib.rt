@@ -20,6 +20,7 @@ pub use laws::{
     instruction_words_come_one_by_one, looks_agree, plans_are_in_range,
 };
 pub use preparation::{look, plan, prepare, side_word};
+pub use runs::reads_field;
 
 #[cfg(test)]
 mod tests;

@@ -1,7 +1,7 @@
 ghost use Rattle.std.specs.Prelude.{◌≡◌, ◌<◌, ◌^◌, IfSome, is_some};
+ghost use Rattle.st_bits.specs.Indicators.{indicator as indicator_of};
 ghost use Rattle.st_bits.specs.Storage.{words_of_storage};
 ghost use Rattle.st_state.specs.Machine.{Machine, word};
-ghost use Rattle.st_bits.specs.Indicators.{indicator};
 ghost use Rattle.st_state.specs.Interrupts.{turned};
 ghost use Rattle.st_prep.specs.EarlyChange.{words_after};
 ghost use Rattle.st_prep.specs.Plan.{seen, is_alone as is_alone_of, is_serial as is_serial_of, needs as needs_of, asks, suppressed as suppressed_of, entry as entry_of, prepared as prepared_of, plan as plan_of, opened, side_word as side_word_of, side_of, IsSeen, sight};
@@ -15,7 +15,7 @@ use crate::faults::{executed, fault};
 use crate::fetching::{fetch, index_words, is_execute, place_of};
 use crate::outcome::{acts_alone, after, cost, next, value};
 use crate::runs::{has_register, is_register, none, reads, writes};
-use st_bits::Ind;
+use st_bits::{Ind, indicator};
 use st_state::State;
 
 /// The address of the indicator register.
@@ -76,15 +76,6 @@ pub fn look(place: &Place, fetched: &Fetched, x: &[u64; 16], state: &State) -> N
     needs(*place, fetched, x, state)
 }
 
-/// The word with indicator `i` on and no other.
-fn bit(i: u8) -> u64
-    requires { i < 64 }
-    ensures value { result ≡ indicator i }
-    ensures bound { result < 2 ^ 64 }
-{
-    1 << (63 - i)
-}
-
 /// An entry that is suppressed by the indicator `i`.
 #[tactic(auto, unfolding(crate::specs::Plan::suppressed))]
 fn suppressed(place: Place, fetched: &Fetched, i: u8) -> Prepared
@@ -99,7 +90,7 @@ fn suppressed(place: Place, fetched: &Fetched, i: u8) -> Prepared
         e: 0,
         following: next(place, fetched.instr.halves),
         index: None,
-        ind: Ind { on: bit(i), off: 0 },
+        ind: Ind { on: indicator(i), off: 0 },
         suppressed: true,
         reads: none(),
         writes: none(),
@@ -211,9 +202,9 @@ fn found_word(state: &State, table: Option<u8>, w: u32) -> u64
 /// A word of indicators with indicator `i` off.
 fn without(indicators: u64, i: u8) -> u64
     requires { i < 64 }
-    ensures { result ≡ turned 64 0 (indicator i) indicators }
+    ensures { result ≡ turned 64 0 (indicator_of i) indicators }
 {
-    indicators & !bit(i)
+    indicators & !indicator(i)
 }
 
 /// The index-side word, as the next entry of a state or its table instruction finds it: an interrupt has turned off

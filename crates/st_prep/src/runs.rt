@@ -1,13 +1,11 @@
 ghost use Rattle.std.specs.Prelude.{◌≡◌, ◌<◌, ◌^◌};
-ghost use Rattle.st_format.specs.Operations.{writes_field as writes};
-ghost use Rattle.st_format.specs.declared.operations.FullOp.{FullOp};
 ghost use Rattle.st_prep.specs.Entry.{no_words, one_run as one_run_of, two_runs as two_runs_of, field_words as field_words_of, operand_words as operand_words_of, words_read as words_read_of, words_written as words_written_of};
 ghost use Rattle.st_prep.specs.Entry.{is_index_store as is_store, reads_field as reads_it, reads as reads_of, writes as writes_of, has_register as has_register_of, is_register as is_register_of};
 ghost use Rattle.st_prep.specs.Ranges.{HasFields, IsRuns};
 
 use crate::entries::Words;
-use st_bits::{ConnKind, HalfOp, VflOp};
-use st_format::Instr;
+use st_bits::{HalfOp, VflOp};
+use st_format::{FullOp, Instr, writes_field};
 
 /// No words.
 pub fn none() -> Words
@@ -97,25 +95,11 @@ fn is_index_store(op: HalfOp) -> bool
     )
 }
 
-/// Whether an operation reads its field.
-fn reads_field(op: VflOp) -> bool
+/// Whether an operation reads its field: all but ST.
+pub fn reads_field(op: VflOp) -> bool
     ensures { result ≡ reads_it op }
 {
     !matches!(op, VflOp::St)
-}
-
-/// Whether an operation writes its field.
-fn writes_field(op: VflOp) -> bool
-    ensures { result ≡ writes (FullOp.Variable op) }
-{
-    matches!(op, VflOp::St | VflOp::MAdd | VflOp::MAddMg | VflOp::MAdd1)
-}
-
-/// Whether a connective puts its result in the field.
-fn writes_result(kind: ConnKind) -> bool
-    ensures { result ≡ writes (FullOp.Connective kind) }
-{
-    matches!(kind, ConnKind::Cm)
 }
 
 /// The words that an instruction with the effective address `e` reads, in order.
@@ -150,8 +134,8 @@ pub fn writes(instr: Instr, e: u32) -> Words
 {
     match instr {
         Instr::Half { op, .. } if is_index_store(op) => one_run(e / 64, 1),
-        Instr::Vfl { op, length, .. } if writes_field(op) => field_words(e, length),
-        Instr::Connect { kind, length, .. } if writes_result(kind) => field_words(e, length),
+        Instr::Vfl { op, length, .. } if writes_field(FullOp::Variable(op)) => field_words(e, length),
+        Instr::Connect { kind, length, .. } if writes_field(FullOp::Connective(kind)) => field_words(e, length),
         Instr::Move {
             swap,
             second,

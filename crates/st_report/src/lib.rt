@@ -1,4 +1,5 @@
 //! The lines of the report and of the listing: one call a line, each with its line end.
+//! `docs/report.md` has the rules.
 #![tactic(auto)]
 
 mod cards;

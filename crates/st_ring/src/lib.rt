@@ -1,5 +1,6 @@
 //! The levels of the look-ahead: entries that are prepared and not yet done, oldest first, and how
 //! their changes of index words are undone.
+//! `docs/timetable.md` has the rules.
 #![tactic(auto)]
 
 mod level;

@@ -29,13 +29,13 @@
 //!    13  remainder ($RM); 14 factor ($FT), 15 transit ($TR)
 //! 16-31  index words: value, sign, flags, count, refill
 //! ```
+//! `docs/machine.md` has the rules.
 #![tactic(auto, using(st_bits::specs::Storage::words_of_storage_is))]
 
 ghost use Rattle.std.specs.Prelude.{◌≡◌, ℕ, ◌+◌, ◌*◌, ◌<◌, ◌≤◌, ◌^◌, length, slice_index, IfOk, IfSome, IsNone};
 ghost use Rattle.st_bits.specs.Registers.{fixed};
 ghost use Rattle.st_bits.specs.Storage.{words_of_storage};
 
-use devices::is_due;
 use indicators::{leftmost, turned};
 use st_bits::{Ind, NoMemory, WORDS, fix_register, part, put_field};
 use std::alloc::Global;
@@ -45,7 +45,7 @@ mod devices;
 mod indicators;
 mod protection;
 
-pub use devices::{Device, Order};
+pub use devices::{Device, Order, is_due};
 pub use protection::Access;
 
 /// The machine between two instructions.

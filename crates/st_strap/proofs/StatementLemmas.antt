@@ -23,7 +23,7 @@ use Rattle.st_strap.specs.Order.{both_of, judged}
 use Rattle.st_strap.specs.Text.{clean, word_of, behind_word, behind_group, fields_of, ends_with, group}
 use Rattle.st_strap.specs.Table.{operation_of, other_operations, index_operations, index_operation, field_operations, field_operation, negated_operation, connective, kinds, truth_tables}
 use Rattle.st_strap.specs.Describing.{description_of, in_pieces, in_mode, number_to, some_number, described, may_have, floating_number, plain_form, default_form, usual_byte, modes}
-use Rattle.st_strap.specs.Forming.{description_in, behind_description, progressed, with_number, may_have_form, form_number, forms, is_end}
+use Rattle.st_strap.specs.Forming.{description_in, behind_description, progressed, with_number, may_have_form, form_number, forms, unclosed, is_end}
 use Rattle.st_strap.specs.Reading.{front, index_part, index_field, index_fields, index_of, index_parts, spot, expression, plain_number, selected}
 use Rattle.st_strap.specs.Saying.{misnames, index_alone, spot_alone, expression_alone, number_alone, index_and_spot, index_and_list, operand, two_addresses, spot_and_number, address_and_number, two_addresses_and_number, index_word, without_fields, with_fields, is_misnamed, formed, said, clean_statement_of, statement_of}
 use Rattle.st_strap.specs.declared.statement.Spot.{Spot}
@@ -237,7 +237,12 @@ described-is op (FloatingDescription unnormalized) fits is =
 form-below : (group : List ℕ) → IfSome (form_number group) (λ n. n < 8)
 unfolding form_number forms
 form-below [] = lit< tt
-form-below (c ∷ cs) = below_eight (row_of (c ∷ cs) forms) (row-passes (λ n. nat_lt n 8) (c ∷ cs) forms refl)
+form-below (c ∷ cs) =
+    let text = unclosed (c ∷ cs) in
+    elim (ends_with 41 (c ∷ cs)) as (λ b. IfSome (if b then row_of text forms else None) (λ n. n < 8)) [
+      | true ↦ below_eight (row_of text forms) (row-passes (λ n. nat_lt n 8) text forms refl)
+      | false ↦ tt
+    ]
   where
     below_eight : (o : Option ℕ) → IfSome o (λ n. nat_lt n 8 ≡ true) → IfSome o (λ n. n < 8)
     below_eight (Some n) h = grind (arith, h)

@@ -1,25 +1,29 @@
 -- Progressive forms, and which group is the data description.
-use Rattle.std.specs.Prelude.{ℕ, ◌==◌, ◌&&◌, ◌||◌, Bool, true, false, not, nat_le, List, [], ◌∷◌, length, codes, Option, None, Some, is_some, if◌then◌else◌}
+use Rattle.std.specs.Prelude.{ℕ, ◌==◌, ◌&&◌, ◌||◌, Bool, true, false, not, nat_le, ◌-◌, List, [], ◌∷◌, length, take, codes, Option, None, Some, is_some, if◌then◌else◌}
 use Rattle.std.specs.Option.{option_and_then}
 use Rattle.st_card.specs.Tables.{row_of}
 use Rattle.st_format.specs.Operations.{writes_field}
 use Rattle.st_format.specs.declared.operations.FullOp.TheVariants.{Variable, Connective}
-use Rattle.st_strap.specs.Text.{begins_with, group, behind_group}
+use Rattle.st_strap.specs.Text.{begins_with, ends_with, group, behind_group}
 use Rattle.st_strap.specs.declared.statement.Form.{Form}
 use Rattle.st_strap.specs.declared.operations.Operation.{Operation}
 use Rattle.st_strap.specs.declared.operations.Operation.TheVariants.{Vfl, Connect}
 
--- the progressive forms
+-- the progressive forms, each as a group without the parenthesis that closes it
 unfoldable pub forms : List (List ℕ × ℕ)
 forms =
-    (codes "(IM)", 1) ∷ (codes "(V+I)", 2) ∷ (codes "(V+IC)", 3) ∷ (codes "(V+ICR)", 4)
-    ∷ (codes "(V-I)", 5) ∷ (codes "(V-IC)", 6) ∷ (codes "(V-ICR)", 7) ∷ []
+    (codes "(IM", 1) ∷ (codes "(V+I", 2) ∷ (codes "(V+IC", 3) ∷ (codes "(V+ICR", 4)
+    ∷ (codes "(V-I", 5) ∷ (codes "(V-IC", 6) ∷ (codes "(V-ICR", 7) ∷ []
 
--- whether a group is a progressive form
+-- a group without the parenthesis that closes it, if there is one
+unfoldable pub unclosed : List ℕ → List ℕ
+unclosed group = if ends_with 41 group then take (length group - 1) group else group
+
+-- whether a group spells a progressive form, be it closed or not
 abbrev pub is_form : List ℕ → Bool
-is_form group = is_some (row_of group forms)
+is_form group = is_some (row_of (unclosed group) forms)
 
--- the data description: a first group that is no progressive form
+-- the data description: a first group that spells no progressive form
 unfoldable pub description_in : List ℕ → List ℕ
 description_in text = if is_form (group text) then [] else group text
 
@@ -27,10 +31,10 @@ description_in text = if is_form (group text) then [] else group text
 unfoldable pub behind_description : List ℕ → List ℕ
 behind_description text = if is_form (group text) then text else behind_group text
 
--- the progressive form that a group is, 0 where there is no group
+-- the progressive form that a group is, 0 where there is no group; one that is not closed is none
 unfoldable pub form_number : List ℕ → Option ℕ
 form_number [] = Some 0
-form_number (c ∷ cs) = row_of (c ∷ cs) forms
+form_number (c ∷ cs) = if ends_with 41 (c ∷ cs) then row_of (unclosed (c ∷ cs)) forms else None
 
 -- whether an operation may have a progressive form
 abbrev pub may_progress : Operation → Bool

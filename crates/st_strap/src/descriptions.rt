@@ -3,7 +3,6 @@
 ghost use Rattle.std.specs.Prelude.{◌≡◌, ◌≤◌, length, IfSome};
 ghost use Rattle.st_card.specs.Tables.{row_of as row_in};
 ghost use Rattle.st_card.specs.Pieces.{parted};
-ghost use Rattle.st_format.specs.Validity.{misfits as misfits_of};
 ghost use Rattle.st_strap.specs.Describing as spec;
 ghost use Rattle.st_strap.specs.Fields.{texts};
 
@@ -13,6 +12,7 @@ use crate::parts::{ends_with, pieces};
 use crate::statement::Form;
 use st_bits::VflOp;
 use st_card::{Reading, read_number, row_of};
+use st_format::misfits_field;
 
 // The first word of a description.
 #[derive(Clone, Copy)]
@@ -171,19 +171,11 @@ fn may_have(op: Operation, form: Form) -> bool
 {
     match op {
         Operation::Vfl { .. } | Operation::Data => {
-            !misfits(form.decimal, form.unsigned, form.length, form.byte)
+            !misfits_field(form.decimal, form.unsigned, form.length, form.byte)
         }
         Operation::Connect { .. } => !form.decimal && form.unsigned,
         _ => false,
     }
-}
-
-// Whether a form is none: a decimal field has bytes of at least four bits and is made of whole bytes, and
-// a signed field has room for its sign byte.
-fn misfits(decimal: bool, unsigned: bool, length: u8, byte: u8) -> bool
-    ensures { result ≡ misfits_of decimal unsigned length byte }
-{
-    (decimal && (byte < 4 || length % byte != 0)) || (!unsigned && length < byte)
 }
 
 #[tactic(auto, unfolding(crate::specs::Describing::floating_number))]

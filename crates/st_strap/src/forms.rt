@@ -7,26 +7,39 @@ ghost use Rattle.st_strap.specs.Text.{behind_group};
 ghost use Rattle.st_strap.specs.Forming as spec;
 
 use crate::operations::Operation;
-use crate::parts::{begins_with, group_length};
+use crate::parts::{begins_with, ends_with, group_length};
 use crate::statement::Form;
-use st_bits::{ConnKind, VflOp};
 use st_card::row_of;
+use st_format::{FullOp, writes_field};
 
 const FORMS: [(&[u8], u8); 7] = [
-    (b"(IM)", 1),
-    (b"(V+I)", 2),
-    (b"(V+IC)", 3),
-    (b"(V+ICR)", 4),
-    (b"(V-I)", 5),
-    (b"(V-IC)", 6),
-    (b"(V-ICR)", 7),
+    (b"(IM", 1),
+    (b"(V+I", 2),
+    (b"(V+IC", 3),
+    (b"(V+ICR", 4),
+    (b"(V-I", 5),
+    (b"(V-IC", 6),
+    (b"(V-ICR", 7),
 ];
 
+// The number of a group without the parenthesis that closes it.
 #[tactic(auto, unfolding(crate::specs::Forming::forms))]
 fn form_row(group: &[u8]) -> Option<u8>
     ensures { result ≡ row_in group.now spec.forms }
 {
     row_of(&FORMS, group)
+}
+
+// A group without the parenthesis that closes it.
+#[tactic(auto, unfolding(crate::specs::Forming::unclosed))]
+fn unclosed(group: &[u8]) -> &[u8]
+    ensures { result.now ≡ spec.unclosed group.now }
+{
+    if ends_with(group, b')') {
+        group.split_at(group.len() - 1).0
+    } else {
+        group
+    }
 }
 
 // The data description, empty where there is none, and what stands behind it.
@@ -38,7 +51,7 @@ pub(crate) fn split_description(text: &[u8]) -> (&[u8], &[u8])
     ensures shorter { length result.1.now ≤ length text.now }
 {
     let (group, behind) = text.split_at(group_length(text));
-    if form_row(group).is_some() {
+    if form_row(unclosed(group)).is_some() {
         (&[], text)
     } else {
         (group, behind)
@@ -83,14 +96,17 @@ fn is_end(text: &[u8]) -> bool
     text.is_empty() || begins_with(text, b',')
 }
 
-// The progressive form that a group is, 0 where there is no group.
+// The progressive form that a group is, 0 where there is no group; one that is not closed is none.
 #[tactic(auto, unfolding(crate::specs::Forming::form_number))]
 fn form_number(group: &[u8]) -> Option<u8>
     ensures { result ≡ spec.form_number group.now }
 {
-    match group {
-        [] => Some(0),
-        _ => form_row(group),
+    if group.is_empty() {
+        Some(0)
+    } else if ends_with(group, b')') {
+        form_row(unclosed(group))
+    } else {
+        None
     }
 }
 
@@ -112,10 +128,8 @@ fn writes(op: Operation) -> bool
     ensures { result ≡ spec.writes op }
 {
     match op {
-        Operation::Vfl { op, .. } => {
-            matches!(op, VflOp::St | VflOp::MAdd | VflOp::MAddMg | VflOp::MAdd1)
-        }
-        Operation::Connect { kind, .. } => kind == ConnKind::Cm,
+        Operation::Vfl { op, .. } => writes_field(FullOp::Variable(op)),
+        Operation::Connect { kind, .. } => writes_field(FullOp::Connective(kind)),
         _ => false,
     }
 }

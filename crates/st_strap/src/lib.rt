@@ -1,4 +1,4 @@
-//! Statements: what a card of the assembler says.
+//! Statements: what a card of the assembler says. `docs/strap.md` has the rules.
 #![tactic(auto)]
 
 mod descriptions;

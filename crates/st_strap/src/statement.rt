@@ -15,7 +15,9 @@ pub struct Spot {
 /// The form of a field in storage.
 #[derive(Clone, Copy, Debug, PartialEq, Eq)]
 pub struct Form {
+    /// Whether its bytes are decimal digits.
     pub decimal: bool,
+    /// Whether it has no sign byte.
     pub unsigned: bool,
     /// The number of bits, 1 to 64.
     pub length: u8,
@@ -26,7 +28,9 @@ pub struct Form {
     pub p: u8,
 }
 
-/// A statement: an instruction, or an order to the assembler.
+/// A statement: an instruction, or an order to the assembler. `at` is its first address, and `second` is another one, in bits,
+/// without an index part. Numbers (`offset`, `count`, `number`, `flags`) are as they were read, below 2^64; only the
+/// assembler tries them against what has room.
 #[derive(Drop, Debug, PartialEq)]
 pub enum Statement {
     /// An operation on the index word `j`, 0 to 15; EX has `j` 0.
@@ -54,7 +58,7 @@ pub enum Statement {
         number: u8,
         at: Spot,
     },
-    /// An operation on a field.
+    /// An operation on a field. `offset` is in bits.
     Vfl {
         op: VflOp,
         negated: bool,
@@ -62,7 +66,7 @@ pub enum Statement {
         at: Spot,
         offset: u64,
     },
-    /// A connective with its truth table, 0 to 15.
+    /// A connective with its truth table, 0 to 15. `offset` is in bits.
     Connect {
         kind: ConnKind,
         table: u8,
@@ -70,7 +74,7 @@ pub enum Statement {
         at: Spot,
         offset: u64,
     },
-    /// T, or SWAP where `swap` says so.
+    /// T, or SWAP where `swap` says so, of `count` words.
     Move {
         swap: bool,
         at: Spot,
@@ -102,13 +106,13 @@ pub enum Statement {
         at: Spot,
         count: u64,
     },
-    /// DD: a number that is laid as a field.
+    /// DD: a number that is laid as a field, with a minus where `minus` says so.
     Data {
         form: Form,
         minus: bool,
         number: u64,
     },
-    /// XW: an index word.
+    /// XW: an index word. Its value is in bits and may be negative; the refill is the address of a word, in bits.
     IndexWord {
         value: Expr,
         count: u64,

@@ -14,7 +14,7 @@ use st_exch::{Hopper, print_text};
 use st_exec::{is_at_rest, print_out, read_in};
 use st_io::{Failed, Sink};
 use st_report::line_prt;
-use st_state::{Device, Order, State};
+use st_state::{Device, State, is_due};
 use std::marker::Model;
 
 /// A run at a moment: the machine, and the signals and the reader's cards that are still to come.
@@ -104,13 +104,6 @@ fn take_signals_at_rest(scene: &mut Scene)
     ensures { scene.new ≡ run.with_signals_at_rest scene.old.machine scene.old.signals scene.old.cards }
 {
     scene.signals = signals_at_rest(&mut scene.machine, scene.signals);
-}
-
-/// Whether there is an order that takes effect by the time that `done` instructions are done.
-fn is_due(order: Option<Order>, done: u64) -> bool
-    ensures { result ≡ is_due_of done order }
-{
-    order.is_some_and(|order| order.due <= done)
 }
 
 /// Whether the reader's order is due.

@@ -257,7 +257,7 @@ fn reads_orders_to_the_assembler(rt: HostRuntime) {
 
 #[test]
 fn the_earliest_fault_counts(rt: HostRuntime) {
-    let rows: [(&[u8], &[u8], Fault); 52] = [
+    let rows: [(&[u8], &[u8], Fault); 55] = [
         (b"9A", b"NOP", Fault::BadName),
         (b"ABCDEFGHI", b"NOP", Fault::BadName),
         (b"A B", b"FOO", Fault::BadName),
@@ -287,6 +287,9 @@ fn the_earliest_fault_counts(rt: HostRuntime) {
         (b"", b"L(V+I)(BU),1", Fault::BadProgressive),
         (b"", b"L(BU)(X),1", Fault::BadProgressive),
         (b"", b"L(BU)(V+I", Fault::BadProgressive),
+        (b"", b"L(IM", Fault::BadProgressive),
+        (b"", b"DD(V-ICR", Fault::BadProgressive),
+        (b"", b"L(IM,5", Fault::BadDataDescription),
         (b"", b"T(V+I),1,1,1", Fault::BadProgressive),
         (b"", b"L(N)(IM),1", Fault::BadProgressive),
         (b"", b"BEW,", Fault::BadFieldCount),
