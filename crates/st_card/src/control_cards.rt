@@ -8,12 +8,13 @@ ghost use Rattle.st_card.specs.Pieces.{words};
 ghost use Rattle.st_card.specs.Limits.{IsWithinLimits};
 ghost use Rattle.st_card.specs.Answers.{Settles, Appends, Marks, Explains};
 
-use crate::limits::{
-    LAST_WORD, MOST_BACK, MOST_BUDGET, MOST_COUNT, MOST_DELAY, MOST_DELAYS, MOST_INDICATOR, MOST_SIGNALS,
-};
 use crate::cards::columns;
 use crate::faults::Fault;
 use crate::keywords::{Keyword, Outcome, keyword_of, read_numbers};
+use crate::limits::{
+    LAST_WORD, MOST_BACK, MOST_BUDGET, MOST_COUNT, MOST_DELAY, MOST_DELAYS, MOST_INDICATOR,
+    MOST_SIGNALS,
+};
 use crate::words::first_word;
 use arrayvec::ArrayVec;
 use std::alloc::Global;

@@ -118,7 +118,8 @@ pub fn operate(
     requires short { p ≡ 1 → shape.now.length ≤ 24 }
     requires inside { AreInside (taken_words op p e shape.now.length) }
     requires read { AreRead (taken_words op p e shape.now.length) operands.now state.now }
-    requires written { AreInside (if writes_field (FullOp.Variable op) then field_words e shape.now.length else no_words) }
+    requires written { AreInside (if writes_field (FullOp.Variable op)
+        then field_words e shape.now.length else no_words) }
     ensures value { result ≡ operated is_decimal op shape.now p e state.now }
     ensures field { IfSome result.done.field (IsField e shape.now.length) }
 {
@@ -196,7 +197,8 @@ pub fn connect_field(
     requires short { p ≡ 1 → n ≤ 24 }
     requires inside { AreInside (operand_words p e n) }
     requires read { AreRead (operand_words p e n) operands.now state.now }
-    requires written { AreInside (if writes_field (FullOp.Connective kind) then field_words e n else no_words) }
+    requires written { AreInside (if writes_field (FullOp.Connective kind)
+        then field_words e n else no_words) }
     ensures value { result ≡ connects kind table p e offset n state.now }
     ensures field { IfSome result.done.field (IsField e n) }
 {

@@ -22,13 +22,16 @@ pub fn entries_count_as_one()
 /// An entry that is not done alone leaves of a state what the entries behind it were prepared by: the index words of its
 /// early change, each word above the registers that it does not name, and the rest of `IsPast`.
 pub fn entries_ahead_leave_the_rest()
-    ensures { (p : Prepared) (s : Machine) → IsPrepared p → IsMachine s → p.serial ≡ false → IsPast p s (completed p s) }
+    ensures { (p : Prepared) (s : Machine) → IsPrepared p → IsMachine s → p.serial ≡ false
+        → IsPast p s (completed p s) }
 {}
 
 /// The guess is right but where a branch is missed, and only a branch on an indicator can be.
 pub fn only_indicator_branches_are_missed()
-    ensures right { (p : Prepared) (s : Machine) → IsPrepared p → is_missed p s ≡ false → guessed p s ≡ completed p s }
-    ensures missed { (p : Prepared) (s : Machine) → IsPrepared p → is_missed p s ≡ true → is_indicator_branch p.instr ≡ true }
+    ensures right { (p : Prepared) (s : Machine) → IsPrepared p → is_missed p s ≡ false
+        → guessed p s ≡ completed p s }
+    ensures missed { (p : Prepared) (s : Machine) → IsPrepared p → is_missed p s ≡ true
+        → is_indicator_branch p.instr ≡ true }
 {}
 
 /// Two states that differ in word 11 alone differ in no more after the guess of an entry that is not done alone, nor after
@@ -45,5 +48,6 @@ pub fn indicators_are_passed_over()
 /// An entry of a state leaves a state: storage whole, each word in its bits, the fixed bits of the registers, the counter
 /// below 2^19, and each order with its area in storage.
 pub fn entries_leave_states()
-    ensures { (p : Prepared) (s : Machine) → IsPrepared p → IsMachine s → IsMachine (completed p s) }
+    ensures { (p : Prepared) (s : Machine) → IsPrepared p → IsMachine s
+        → IsMachine (completed p s) }
 {}

@@ -17,5 +17,6 @@ pub fn bits_spell_instruction(instr: &Instr, rest: u32)
 pub fn instruction_keeps_bits(first: u32, second: u32)
     ensures shape { IsShape (instruction_of first second) }
     ensures first { first_half (instruction_of first second) ≡ first }
-    ensures second { second_half (instruction_of first second) ≡ (if is_full first then Some second else None) }
+    ensures second { second_half (instruction_of first second)
+        ≡ (if is_full first then Some second else None) }
 {}

@@ -31,7 +31,11 @@ pub fn index_result(y: u64) -> Ind
         0 => indicator(50),
         _ => indicator(51),
     };
-    let flag = if part(y, 25, 1) == 0 { 0 } else { indicator(38) };
+    let flag = if part(y, 25, 1) == 0 {
+        0
+    } else {
+        indicator(38)
+    };
     Ind {
         on: count + sign + flag,
         off: indicator(48) + indicator(49) + indicator(50) + indicator(51),

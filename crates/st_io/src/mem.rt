@@ -55,7 +55,12 @@ impl Model for MemSource {
 
     ghost Value = { MemoryInput };
 
-    ghost view = { λ s. record { left = s.source.left; taken = s.source.taken; faults = s.faults; calls = s.calls } };
+    ghost view = { λ s. record {
+      left = s.source.left;
+      taken = s.source.taken;
+      faults = s.faults;
+      calls = s.calls;
+    } };
 }
 
 impl MemSource {
@@ -114,7 +119,12 @@ impl Model for MemSink {
 
     ghost Value = { MemoryOutput };
 
-    ghost view = { λ s. record { written = s.buffer.bytes; room = s.buffer.room; faults = s.faults; calls = s.calls } };
+    ghost view = { λ s. record {
+      written = s.buffer.bytes;
+      room = s.buffer.room;
+      faults = s.faults;
+      calls = s.calls;
+    } };
 }
 
 impl MemSink {

@@ -65,7 +65,10 @@ impl Model for SureSink {
 
     ghost Value = { SureOutput };
 
-    ghost view = { λ s. record { written = option_map (λ b. b.bytes) s.buffer; room = option_map_or (λ b. b.room) s.buffer 0 } };
+    ghost view = { λ s. record {
+      written = option_map (λ b. b.bytes) s.buffer;
+      room = option_map_or (λ b. b.room) s.buffer 0;
+    } };
 }
 
 impl SureSink {

@@ -7,7 +7,6 @@ use Rattle.st_object.specs.Draft.{Draft, blank, IsDraft, is_empty, lines_of, lac
 use Rattle.st_object.specs.declared.items.Item.{Item}
 use Rattle.st_object.specs.declared.items.Item.TheVariants.{Object, Start, Word, Budget, Delay, Signal, Dump, Trace, Time, Chart, Snap, Back, Fin}
 use Rattle.st_object.proofs.Told.{given, the_one}
-
 use Rattle.st_object.proofs.Grown.{grown, asked_step, mark_step}
 use Rattle.st_object.proofs.Kept.{kept}
 

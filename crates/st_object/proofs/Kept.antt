@@ -15,7 +15,6 @@ use Rattle.st_object.specs.declared.items.Item.{Item}
 use Rattle.st_object.specs.declared.items.Item.TheVariants.{Object, Start, Word, Budget, Delay, Signal, Dump, Trace, Time, Chart, Snap, Back, Fin}
 use Rattle.st_object.proofs.Told.{given, mapped, the_one, IsNarrow}
 
-
 -- a word above the registers leaves them zero
 registers_kept : (xs : List ℕ) (w x : ℕ) → length xs ≤ w → 32 ≤ w → ((k : ℕ) → k < 32 → get_or xs k 0 ≡ 0) →
     (k : ℕ) → k < 32 → get_or (xs ++ replicate (w - length xs) 0 ++ x ∷ []) k 0 ≡ 0

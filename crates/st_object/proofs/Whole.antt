@@ -10,7 +10,6 @@ use Rattle.st_object.specs.Draft.{Draft, IsDraft, is_empty, start_lines, lines_o
 use Rattle.st_object.specs.Object.{IsProgram, AreWords, object_lines, filled_up, program_of}
 use Rattle.st_object.specs.declared.items.Item.{Item}
 use Rattle.st_object.specs.declared.items.Item.TheVariants.{Object}
-
 use Rattle.st_object.proofs.Grown.{word_lines-append, word_lines-zeros}
 use Rattle.st_object.proofs.Written.{whole_lines}
 

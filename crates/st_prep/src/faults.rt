@@ -48,7 +48,8 @@ fn forbidden(state: &State, access: Access, w: u32) -> Option<u8>
 /// The indicator of the first of `len` words that may not be accessed.
 fn forbidden_run(state: &State, access: Access, first: u32, len: u8) -> Option<u8>
     requires { first < 2 ^ 18 }
-    ensures value { result ≡ forbidden_run_of (word state.now 3) state.now.enabled access first len }
+    ensures value { result
+        ≡ forbidden_run_of (word state.now 3) state.now.enabled access first len }
     ensures bound { IfSome result (λ i. i < 64) }
 {
     for w in first..first + u32::from(len) {

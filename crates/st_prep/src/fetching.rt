@@ -86,7 +86,8 @@ fn nothing() -> Decoded
 
 /// The instruction with this first half-word, whose second one is at `h`.
 fn find_whole(state: &State, first: u32, h: u32) -> Found
-    ensures value { result ≡ found_whole_of (forbidden state.now Access.Fetch (h / 2)) state.now first h }
+    ensures value { result
+        ≡ found_whole_of (forbidden state.now Access.Fetch (h / 2)) state.now first h }
     ensures shape { IsFound result }
 {
     match state.may(Access::Fetch, h / 2) {

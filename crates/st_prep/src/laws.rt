@@ -15,12 +15,14 @@ ghost use Rattle.st_prep.specs.Alike.{AreAlike};
 /// What forbids an access to a word of a state is seen from its boundary register and the mark for interrupts alone.
 #[tactic(auto, unfolding(crate::specs::Checks::forbidden_by))]
 pub fn forbidden_words_are_seen()
-    ensures { (s : Machine) (a : Access) (w : ℕ) → forbidden s a w ≡ forbidden_by (word s 3) s.enabled a w }
+    ensures { (s : Machine) (a : Access) (w : ℕ) → forbidden s a w
+        ≡ forbidden_by (word s 3) s.enabled a w }
 {}
 
 /// Each entry of each state is in its ranges once it is prepared.
 pub fn plans_are_in_range()
-    ensures { (s : Machine) (t : Option ℕ) → IsMachine s → IfSome t (λ i. i < 64) → IsPrepared (plan s t) }
+    ensures { (s : Machine) (t : Option ℕ) → IsMachine s → IfSome t (λ i. i < 64)
+        → IsPrepared (plan s t) }
 {}
 
 /// An entry is prepared as one that is done alone exactly where it was looked at as one.
@@ -32,7 +34,8 @@ pub fn looks_agree()
 /// whatever stands there.
 pub fn index_side_words_change_index_words_alone()
     ensures { (v : Sight) (r q : Option ℕ)
-        → prepared v r ≡ record (prepared v q) { index = (prepared v r).index; ind = (prepared v r).ind } }
+        → prepared v r
+        ≡ record (prepared v q) { index = (prepared v r).index; ind = (prepared v r).ind } }
 {}
 
 /// EX with a target that could be fetched is done alone.
@@ -54,7 +57,8 @@ pub fn instruction_words_come_one_by_one()
         → All (λ w. w < words_of_storage) (words_read (reading x b on p) c) }
 
     // Other contents elsewhere lead to the same words, and to the same find.
-    ensures next { (r : Reading) (n : ℕ) (c d : ℕ → ℕ) → All (λ w. d w ≡ c w) (take n (words_read r c))
+    ensures next { (r : Reading) (n : ℕ) (c d : ℕ → ℕ) → All (λ w. d w ≡ c w)
+        (take n (words_read r c))
         → take (suc n) (words_read r d) ≡ take (suc n) (words_read r c) }
     ensures same { (r : Reading) (c d : ℕ → ℕ) → All (λ w. d w ≡ c w) (words_read r c)
         → outcome r d ≡ outcome r c }

@@ -90,7 +90,10 @@ fn suppressed(place: Place, fetched: &Fetched, i: u8) -> Prepared
         e: 0,
         following: next(place, fetched.instr.halves),
         index: None,
-        ind: Ind { on: indicator(i), off: 0 },
+        ind: Ind {
+            on: indicator(i),
+            off: 0,
+        },
         suppressed: true,
         reads: none(),
         writes: none(),

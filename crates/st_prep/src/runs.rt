@@ -134,8 +134,11 @@ pub fn writes(instr: Instr, e: u32) -> Words
 {
     match instr {
         Instr::Half { op, .. } if is_index_store(op) => one_run(e / 64, 1),
-        Instr::Vfl { op, length, .. } if writes_field(FullOp::Variable(op)) => field_words(e, length),
-        Instr::Connect { kind, length, .. } if writes_field(FullOp::Connective(kind)) => field_words(e, length),
+        Instr::Vfl { op, length, .. } if writes_field(FullOp::Variable(op)) => field_words(
+            e, length,
+        ),
+        Instr::Connect { kind, length, .. } if writes_field(FullOp::Connective(kind)) =>
+            field_words(e, length),
         Instr::Move {
             swap,
             second,

@@ -84,7 +84,8 @@ fn say(op: Operation, text: &[u8]) -> Result<Statement, Fault>
 // The operation and the form that a group makes of an operation.
 fn description_in(op: Operation, group: &[u8]) -> Option<(Operation, Form)>
     requires { length group.now ≤ 63 }
-    ensures { result ≡ option_and_then (describing.described op) (describing.description_of group.now) }
+    ensures { result ≡ option_and_then (describing.described op)
+        (describing.description_of group.now) }
 {
     described(op, description_of(group)?)
 }

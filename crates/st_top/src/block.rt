@@ -21,7 +21,8 @@ pub fn put<K: Sink>(out: &mut K, line: &Line) -> Result<(), Failed>
 #[tactic(auto, using(st_lines::proofs::Progress::wrote_nothing, st_bits::specs::Storage::words_of_storage_is))]
 fn write_register<K: Sink>(out: &mut K, state: &State, w: u8) -> Result<(), Failed>
     requires { w < 32 }
-    ensures { WritesLines (K.output out.old) (K.output out.new) (register_lines state.now w) result }
+    ensures { WritesLines (K.output out.old) (K.output out.new)
+        (register_lines state.now w) result }
 {
     let word = state.word(u32::from(w));
     if word == 0 {
@@ -32,7 +33,8 @@ fn write_register<K: Sink>(out: &mut K, state: &State, w: u8) -> Result<(), Fail
 
 /// Writes the lines of the registers that are not zero.
 fn write_registers<K: Sink>(out: &mut K, state: &State) -> Result<(), Failed>
-    ensures { WritesLines (K.output out.old) (K.output out.new) (lines_for (register_lines state.now) 30 2) result }
+    ensures { WritesLines (K.output out.old) (K.output out.new)
+        (lines_for (register_lines state.now) 30 2) result }
 {
     for w in 2..32 {
         write_register(out, state, w)?;
@@ -77,7 +79,8 @@ fn write_range<K: Sink>(out: &mut K, first: u32, last: u32) -> Result<(), Failed
 fn write_dump<K: Sink>(out: &mut K, state: &State, first: u32, last: u32) -> Result<(), Failed>
     requires order { first ≤ last }
     requires within { last < 98304 }
-    ensures { WritesLines (K.output out.old) (K.output out.new) (dump_lines state.now first last) result }
+    ensures { WritesLines (K.output out.old) (K.output out.new)
+        (dump_lines state.now first last) result }
 {
     write_range(out, first, last)?;
     write_words(out, state, first, last)
@@ -86,7 +89,8 @@ fn write_dump<K: Sink>(out: &mut K, state: &State, first: u32, last: u32) -> Res
 /// Writes dumps, in order.
 fn write_dumps<K: Sink>(out: &mut K, state: &State, dumps: &[(u32, u32)]) -> Result<(), Failed>
     requires { AllPass is_part dumps.now }
-    ensures { WritesLines (K.output out.old) (K.output out.new) (dumps_lines state.now dumps.now) result }
+    ensures { WritesLines (K.output out.old) (K.output out.new)
+        (dumps_lines state.now dumps.now) result }
 {
     for (first, last) in dumps {
         write_dump(out, state, *first, *last)?;
@@ -104,7 +108,8 @@ fn write_counter<K: Sink>(out: &mut K, state: &State) -> Result<(), Failed>
 
 /// Writes the line that says whether interrupts are enabled.
 fn write_enabled<K: Sink>(out: &mut K, state: &State) -> Result<(), Failed>
-    ensures { WritesLines (K.output out.old) (K.output out.new) (en_line state.now.enabled ∷ []) result }
+    ensures { WritesLines (K.output out.old) (K.output out.new)
+        (en_line state.now.enabled ∷ []) result }
 {
     let enabled = state.enabled;
     put(out, &line_en(enabled))

@@ -17,7 +17,8 @@ fn write_row<K: Sink>(out: &mut K, job: &[u8], row: Listed, card: Card) -> Resul
     requires row { IsRow row }
     requires text { IsCardOf job.now card }
     requires good { card.fault ≡ None }
-    ensures { WritesLines (K.output out.old) (K.output out.new) (row_line job.now row card ∷ []) result }
+    ensures { WritesLines (K.output out.old) (K.output out.new)
+        (row_line job.now row card ∷ []) result }
 {
     let text = card.text(job);
     put(
@@ -37,7 +38,8 @@ fn write_rows<K: Sink>(
     requires texts { All (IsCardOf job.now) cards.now }
     requires good { All (λ card. card.fault ≡ None) cards.now }
     requires same { length rows.now ≡ length cards.now }
-    ensures { WritesLines (K.output out.old) (K.output out.new) (rows_lines job.now rows.now cards.now) result }
+    ensures { WritesLines (K.output out.old) (K.output out.new)
+        (rows_lines job.now rows.now cards.now) result }
 {
     for k in 0..rows.len() {
         write_row(out, job, rows[k], cards[k])?;
@@ -48,7 +50,8 @@ fn write_rows<K: Sink>(
 /// Writes the line of a symbol.
 fn write_symbol<K: Sink>(out: &mut K, symbol: Symbol) -> Result<(), Failed>
     requires { IsSymbol symbol }
-    ensures { WritesLines (K.output out.old) (K.output out.new) (symbols_lines (symbol ∷ [])) result }
+    ensures { WritesLines (K.output out.old) (K.output out.new)
+        (symbols_lines (symbol ∷ [])) result }
 {
     put(out, &line_symbol(symbol.name, symbol.value))
 }
@@ -97,7 +100,8 @@ pub fn write_listing<K: Sink>(
 ) -> Result<(), Failed>
     requires cards { HasCards job.now program.now.listing.items cards.now }
     requires symbols { All IsSymbol program.now.symbols.items }
-    ensures { WritesLines (K.output out.old) (K.output out.new) (listing job.now (shown program.now)) result }
+    ensures { WritesLines (K.output out.old) (K.output out.new)
+        (listing job.now (shown program.now)) result }
 {
     if !is_listed(&program.controls) {
         return Ok(());

@@ -45,7 +45,8 @@ fn with_end<'a>(text: &'a [u8], line: &[u8]) -> &'a [u8]
 
 /// Writes the lines of a text that have a line end, each with it.
 fn write_ended<K: Sink>(out: &mut K, text: &[u8]) -> Result<(), Failed>
-    ensures { WritesLines (K.output out.old) (K.output out.new) (ended_lines (parted 10 text.now)) result }
+    ensures { WritesLines (K.output out.old) (K.output out.new)
+        (ended_lines (parted 10 text.now)) result }
 {
     let mut rest = text;
     'lines: while let Some((line, after)) = cut(rest, b'\n') {

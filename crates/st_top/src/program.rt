@@ -76,7 +76,8 @@ fn try_command<S: Source, K: Sink>(
     job: &mut S,
     out: &mut K,
 ) -> Result<Answer, LayerError>
-    ensures { Tries command (S.input job.old) (S.input job.new) (K.output out.old) (K.output out.new) result }
+    ensures { Tries command (S.input job.old) (S.input job.new) (K.output out.old)
+        (K.output out.new) result }
 {
     let text = read_all(alloc, job, JOB_LIMIT)?;
     try_job(alloc, command, text.as_slice(), out)
@@ -114,7 +115,8 @@ pub fn stretch<S: Source, K: Sink>(
     // A bad command line is one of words that mean nothing, and one with a word that is empty or begins with `-` is
     // always called so.
     ensures usage { result.status ≡ Status.Usage → command_of (map string_bytes words.now) ≡ None }
-    ensures plain { list_all is_plain (map string_bytes words.now) ≡ false → result.status ≡ Status.Usage }
+    ensures plain { list_all is_plain (map string_bytes words.now) ≡ false →
+        result.status ≡ Status.Usage }
 
     // Ticks are not modelled yet.
     ensures ticks { result.ticks ≡ 0 }

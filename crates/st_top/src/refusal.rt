@@ -14,7 +14,8 @@ use st_report::line_fault;
 
 /// Writes the line of a refused card.
 fn write_refusal<K: Sink>(out: &mut K, card: u32, fault: Fault) -> Result<(), Failed>
-    ensures { WritesLines (K.output out.old) (K.output out.new) (fault_line card (name_of fault) ∷ []) result }
+    ensures { WritesLines (K.output out.old) (K.output out.new)
+        (fault_line card (name_of fault) ∷ []) result }
 {
     put(out, &line_fault(card, &fault.name()))
 }

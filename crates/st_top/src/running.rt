@@ -20,14 +20,16 @@ use st_state::State;
 /// Writes the state block, with the dumps that are asked for.
 fn write_state<K: Sink>(out: &mut K, state: &State, controls: &Controls) -> Result<(), Failed>
     requires { AllPass is_part controls.now.dumps }
-    ensures { WritesLines (K.output out.old) (K.output out.new) (block controls.now.dumps state.now) result }
+    ensures { WritesLines (K.output out.old) (K.output out.new)
+        (block controls.now.dumps state.now) result }
 {
     write_block(out, state, controls.dumps.as_slice())
 }
 
 /// Writes the line that says which interrupt is taken, and when.
 fn write_taken<K: Sink>(out: &mut K, state: &State, i: u8) -> Result<(), Failed>
-    ensures { WritesLines (K.output out.old) (K.output out.new) (int_line i state.now.done ∷ []) result }
+    ensures { WritesLines (K.output out.old) (K.output out.new)
+        (int_line i state.now.done ∷ []) result }
 {
     let done = state.done;
     put(out, &line_int(i, done))
@@ -41,7 +43,8 @@ fn write_interrupt<K: Sink>(
     controls: &Controls,
 ) -> Result<(), Failed>
     requires { AllPass is_part controls.now.dumps }
-    ensures { WritesLines (K.output out.old) (K.output out.new) (lines_at controls.now (Interrupts state.now i)) result }
+    ensures { WritesLines (K.output out.old) (K.output out.new)
+        (lines_at controls.now (Interrupts state.now i)) result }
 {
     write_taken(out, state, i)?;
     write_state(out, state, controls)
@@ -68,7 +71,8 @@ fn write_next_interrupt<K: Sink>(
 #[tactic(auto, using(st_lines::proofs::Progress::wrote_nothing))]
 fn write_trace<K: Sink>(out: &mut K, state: &State, address: u32, trace: bool) -> Result<(), Failed>
     requires { address < 2 ^ 19 }
-    ensures { WritesLines (K.output out.old) (K.output out.new) (trace_lines trace state.now address) result }
+    ensures { WritesLines (K.output out.old) (K.output out.new)
+        (trace_lines trace state.now address) result }
 {
     if !trace {
         return Ok(());
@@ -79,7 +83,8 @@ fn write_trace<K: Sink>(out: &mut K, state: &State, address: u32, trace: bool) -
 
 /// Writes the line with the number of instructions done.
 fn write_done<K: Sink>(out: &mut K, state: &State) -> Result<(), Failed>
-    ensures { WritesLines (K.output out.old) (K.output out.new) (done_line state.now.done ∷ []) result }
+    ensures { WritesLines (K.output out.old) (K.output out.new)
+        (done_line state.now.done ∷ []) result }
 {
     let done = state.done;
     put(out, &line_done(done))
@@ -100,7 +105,8 @@ fn write_end<K: Sink>(
     controls: &Controls,
 ) -> Result<(), Failed>
     requires { AllPass is_part controls.now.dumps }
-    ensures { WritesLines (K.output out.old) (K.output out.new) (lines_at controls.now (Ends state.now rests)) result }
+    ensures { WritesLines (K.output out.old) (K.output out.new)
+        (lines_at controls.now (Ends state.now rests)) result }
 {
     write_ended(out, rests)?;
     write_done(out, state)?;
@@ -153,7 +159,8 @@ fn step<K: Sink>(out: &mut K, scene: &mut Scene, controls: &Controls) -> Result<
     requires going { rests scene.old.machine ≡ false }
     requires few { scene.old.machine.done < 2 ^ 63 }
     requires parts { AllPass is_part controls.now.dumps }
-    ensures { WritesReached (K.output out.old) (K.output out.new) controls.now (stepping scene.old) scene.new result }
+    ensures { WritesReached (K.output out.old) (K.output out.new) controls.now (stepping scene.old)
+        scene.new result }
 {
     write_interrupts(out, scene, controls)?;
     let address = address(scene);

@@ -33,7 +33,11 @@ impl<'a> Model for Scene<'a> {
 
     ghost Value = { run.Scene };
 
-    ghost view = { λ c. record { machine = c.machine; signals = signals_of c.signals.now; cards = c.cards } };
+    ghost view = { λ c. record {
+      machine = c.machine;
+      signals = signals_of c.signals.now;
+      cards = c.cards;
+    } };
 
     ghost invariant = { λ c. AllPass is_signal c.signals.now };
 }
@@ -46,7 +50,11 @@ impl<'a> Scene<'a> {
     /// A run at its start.
     pub fn new(machine: State, signals: &'a [Signal], cards: Hopper) -> Scene<'a>
         requires { AllPass is_signal signals.now }
-        ensures { result ≡ record { machine = machine; signals = signals_of signals.now; cards = cards } }
+        ensures { result ≡ record {
+          machine = machine;
+          signals = signals_of signals.now;
+          cards = cards;
+        } }
     {
         Scene {
             machine,
@@ -60,7 +68,8 @@ impl<'a> Scene<'a> {
 fn due_signals<'a>(machine: &mut State, signals: &'a [Signal]) -> &'a [Signal]
     requires { AllPass is_signal signals.now }
     ensures rest { AllPass is_signal result.now }
-    ensures came { (cards : List (List ℕ)) → run.with_due_signals machine.old (signals_of signals.now) cards
+    ensures came { (cards : List (List ℕ)) → run.with_due_signals machine.old
+        (signals_of signals.now) cards
         ≡ record { machine = machine.new; signals = signals_of result.now; cards = cards } }
 {
     let mut rest = signals;
@@ -78,7 +87,8 @@ fn due_signals<'a>(machine: &mut State, signals: &'a [Signal]) -> &'a [Signal]
 fn signals_at_rest<'a>(machine: &mut State, signals: &'a [Signal]) -> &'a [Signal]
     requires { AllPass is_signal signals.now }
     ensures rest { AllPass is_signal result.now }
-    ensures came { (cards : List (List ℕ)) → run.with_signals_at_rest machine.old (signals_of signals.now) cards
+    ensures came { (cards : List (List ℕ)) → run.with_signals_at_rest machine.old
+        (signals_of signals.now) cards
         ≡ record { machine = machine.new; signals = signals_of result.now; cards = cards } }
 {
     let mut rest = signals;
@@ -101,7 +111,8 @@ fn take_due_signals(scene: &mut Scene)
 
 /// Signals come as long as the machine is at rest.
 fn take_signals_at_rest(scene: &mut Scene)
-    ensures { scene.new ≡ run.with_signals_at_rest scene.old.machine scene.old.signals scene.old.cards }
+    ensures { scene.new ≡ run.with_signals_at_rest scene.old.machine scene.old.signals
+        scene.old.cards }
 {
     scene.signals = signals_at_rest(&mut scene.machine, scene.signals);
 }
@@ -153,7 +164,8 @@ fn serve_printer<K: Sink>(out: &mut K, scene: &mut Scene) -> Result<(), Failed>
 /// The reader's order takes effect, if it is due.
 fn serve_due_reader(scene: &mut Scene)
     ensures { scene.new
-        ≡ (run.with_reader (run.if_due scene.old.machine.done scene.old.machine.reader) scene.old).scene }
+        ≡ (run.with_reader
+        (run.if_due scene.old.machine.done scene.old.machine.reader) scene.old).scene }
 {
     if reader_is_due(&scene.machine) {
         serve_reader(scene);
@@ -163,7 +175,9 @@ fn serve_due_reader(scene: &mut Scene)
 /// The printer's order takes effect, if it is due.
 fn serve_due_printer<K: Sink>(out: &mut K, scene: &mut Scene) -> Result<(), Failed>
     ensures { (asked : Asked) → WritesReached (K.output out.old) (K.output out.new) asked
-        (run.with_printer (run.if_due scene.old.machine.done scene.old.machine.printer) scene.old) scene.new result }
+        (run.with_printer
+        (run.if_due scene.old.machine.done scene.old.machine.printer) scene.old)
+        scene.new result }
 {
     if printer_is_due(&scene.machine) {
         return serve_printer(out, scene);
