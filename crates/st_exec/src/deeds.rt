@@ -1,7 +1,6 @@
 //! What an operation does once its operands are there.
 ghost use Rattle.std.specs.Prelude.{◌≡◌, ◌+◌, ◌*◌, ◌/◌, ◌<◌, ◌≤◌, ◌^◌, true};
 ghost use Rattle.st_bits.specs.Storage.{words_of_storage};
-ghost use Rattle.st_state.specs.Machine.{HasArea};
 ghost use Rattle.st_state.specs.declared.devices.Order.{Order};
 ghost use Rattle.st_prep.specs.Entry.{is_index_store, reads, writes};
 ghost use Rattle.st_prep.specs.Ranges.{HasFields, AreInside, FitsPart, IsStored, HasRoom};

@@ -1,5 +1,5 @@
 //! One entry from its preparation to its completion.
-ghost use Rattle.std.specs.Prelude.{◌≡◌, ℕ, ◌+◌, ◌-◌, ◌<◌, ◌≤◌, ◌^◌, IfSome, slice_index};
+ghost use Rattle.std.specs.Prelude.{◌≡◌, ◌+◌, ◌-◌, ◌<◌, ◌≤◌, ◌^◌, IfSome};
 ghost use Rattle.st_state.specs.Machine.{word as word_of};
 ghost use Rattle.st_prep.specs.Ranges.{IsRuns, AreInside};
 ghost use Rattle.st_exec.specs.Operand.{AreOperands};

@@ -1,5 +1,5 @@
 //! Operations on fields, and connectives.
-ghost use Rattle.std.specs.Prelude.{◌≡◌, ◌+◌, ◌*◌, ◌/◌, ◌<◌, ◌≤◌, ◌^◌, IfSome, if◌then◌else◌, true, false};
+ghost use Rattle.std.specs.Prelude.{◌≡◌, ◌+◌, ◌*◌, ◌<◌, ◌≤◌, ◌^◌, IfSome, if◌then◌else◌, true, false};
 ghost use Rattle.st_bin.specs.BinaryOperand.{IsShape};
 ghost use Rattle.st_bits.specs.declared.operations.ConnKind.{ConnKind};
 ghost use Rattle.st_bin.specs.Indicators.{partial_field as partial_field_of, by_number as by_number_of};

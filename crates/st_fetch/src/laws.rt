@@ -1,5 +1,5 @@
 //! What requests, answers and stores make of the held words.
-ghost use Rattle.std.specs.Prelude.{◌≡◌, ◌≢◌, ◌≤◌, ℕ, List, ◌∷◌, [], ◌++◌, length, drop, true, false, Some, None};
+ghost use Rattle.std.specs.Prelude.{◌≡◌, ◌≢◌, ◌≤◌, ℕ, List, ◌∷◌, [], ◌++◌, length, drop, true, Some, None};
 ghost use Rattle.std.specs.Option.{option_map};
 ghost use Rattle.st_fetch.specs.HeldWords.{is_held, requested, answered, patched, answer_of};
 ghost use Rattle.st_fetch.specs.declared.held.Held.{Held};

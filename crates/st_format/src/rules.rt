@@ -1,5 +1,5 @@
 //! Which bits spell no instruction.
-ghost use Rattle.std.specs.Prelude.{◌≡◌, ◌<◌, ◌≤◌};
+ghost use Rattle.std.specs.Prelude.{◌≡◌, ◌<◌};
 ghost use Rattle.st_format.specs.Validity.{breaks_rules as breaks, unused_in_kind as kind_rest, unused_k as k_rest, unused_marks as marks_rest, misfits, has_misfit as misfit, misuses_p, has_misused_p as misused_p, miscounts, has_miscount as miscount};
 
 use crate::fields::{

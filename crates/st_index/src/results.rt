@@ -1,4 +1,4 @@
-ghost use Rattle.std.specs.Prelude.{◌≡◌, ◌<◌, ◌^◌};
+ghost use Rattle.std.specs.Prelude.{◌≡◌};
 ghost use Rattle.st_index.specs.IndexChange.{comparison, index_result as result_of};
 
 use st_bits::{Ind, count_of, indicator, part, value_of};

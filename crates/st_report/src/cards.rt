@@ -1,5 +1,5 @@
 //! The lines of the listing.
-ghost use Rattle.std.specs.Prelude.{◌≡◌, ◌+◌, ◌^◌, ◌<◌, ◌≤◌, ◌++◌, length, take, slice_index, IsAscii, max};
+ghost use Rattle.std.specs.Prelude.{◌≡◌, ◌+◌, ◌^◌, ◌<◌, ◌≤◌, ◌++◌, length, IsAscii, max};
 ghost use Rattle.arrayvec.specs.ArrayString.{array_string_len};
 ghost use Rattle.st_text.specs.Blanks.{without_end_blanks};
 ghost use Rattle.st_report.specs.Listing.{blanks, right_in, left_in, laid_text, location_text, IsCardText, listed_line, symbol_line};

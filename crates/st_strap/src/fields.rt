@@ -1,6 +1,6 @@
 //! What the fields of a statement say, each by itself.
 
-ghost use Rattle.std.specs.Prelude.{◌≡◌, ◌≤◌, ◌<◌, ◌^◌, length, IfOk, IfSome};
+ghost use Rattle.std.specs.Prelude.{◌≡◌, ◌≤◌, ◌<◌, length, IfOk, IfSome};
 ghost use Rattle.st_card.specs.Tables.{row_of as row_in};
 ghost use Rattle.st_strap.specs.Order as order;
 ghost use Rattle.st_strap.specs.Fields.{texts};

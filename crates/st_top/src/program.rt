@@ -5,7 +5,7 @@ ghost use Rattle.st_top.specs.Command.{command_of};
 ghost use Rattle.st_top.specs.CommandLine.{is_plain};
 ghost use Rattle.st_top.specs.declared.command.Command.TheVariants.{Run, Assemble, Load};
 ghost use Rattle.st_top.specs.Output.{output_of};
-ghost use Rattle.st_top.specs.Answers.{Writes, Did, IsAnswer};
+ghost use Rattle.st_top.specs.Answers.{Did, IsAnswer};
 ghost use Rattle.st_top.specs.Layers.{Ends, Tries};
 
 use crate::answer::{Answer, Status};

@@ -1,10 +1,10 @@
 //! A whole run, and its report.
-ghost use Rattle.std.specs.Prelude.{◌≡◌, ◌≤◌, ◌<◌, ◌^◌, false, [], ◌∷◌, None, if◌then◌else◌};
+ghost use Rattle.std.specs.Prelude.{◌≡◌, ◌≤◌, ◌<◌, ◌^◌, false, [], ◌∷◌, None};
 ghost use Rattle.std.specs.List.{AllPass};
 ghost use Rattle.st_card.specs.Limits.{is_part};
 ghost use Rattle.st_lines.specs.Lines.{WritesLines};
 ghost use Rattle.st_exec.specs.Run.{Interrupts, Ends, run as run_of};
-ghost use Rattle.st_exec.specs.Step.{interrupt as interrupt_of, rests, step as step_of, address as address_of};
+ghost use Rattle.st_exec.specs.Step.{interrupt as interrupt_of, rests, address as address_of};
 ghost use Rattle.st_report.specs.Line.{int_line, end_line, done_line};
 ghost use Rattle.st_top.specs.Report.{block, lines_at, lines_by, trace_lines};
 ghost use Rattle.st_top.specs.Running.{WritesReached, RunWrites, stepping};
