@@ -7,6 +7,7 @@ ghost use Rattle.st_bits.specs.Storage.{words_of_storage};
 pub const WORDS: u32 = 98_304;
 
 /// The number of words in the code is that of the definitions.
+#[tactic(auto, unfolding(crate::specs::Storage::words_of_storage))]
 pub fn words_are_those_of_storage()
     ensures { WORDS ≡ words_of_storage }
 {}

@@ -6,8 +6,8 @@ use Rattle.st_card.proofs.PieceLemmas.{first_piece}
 use Rattle.st_object.specs.Draft.{Draft, IsDraft, with_item}
 use Rattle.st_object.specs.Meaning.{item_in}
 use Rattle.st_object.specs.Object.{Program, with_line, read_from}
-use Rattle.st_object.proofs.Told.{chained, told}
-use Rattle.st_object.proofs.Kept.{kept}
+use Rattle.st_object.proofs.LineMeanings.{chained, told}
+use Rattle.st_object.proofs.DraftLemmas.{kept}
 
 -- the first line of more than one
 first_line : (d : Draft) (n : ℕ) (line rest after : List ℕ) → parted 10 rest ≡ line ∷ parted 10 after →

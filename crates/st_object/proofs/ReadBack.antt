@@ -13,7 +13,7 @@ use Rattle.st_object.specs.declared.items.Item.{Item}
 use Rattle.st_object.specs.declared.items.Item.TheVariants.{Object, Start, Word, Budget, Delay, Signal, Dump, Trace, Time, Chart, Snap, Back, Fin}
 use Rattle.st_object.proofs.Parts.{other_first}
 use Rattle.st_object.proofs.Spellings.{short_small, lacks-decimal, lacks-hex, spelled_again}
-use Rattle.st_object.proofs.Again.{Leads, made_again}
+use Rattle.st_object.proofs.ProgramLines.{Leads, made_again}
 
 -- no line end stands among digits
 lacks_number : (n : ℕ) → IsShort n → lacks 10 (decimal n) ≡ true

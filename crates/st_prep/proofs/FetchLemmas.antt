@@ -6,8 +6,8 @@ use Rattle.st_format.specs.declared.instruction.Instr.TheVariants.{Half, Branch,
 use Rattle.st_format.specs.declared.instruction.Decoded.{Decoded}
 use Rattle.st_format.specs.Formats.{IsShape, decoded}
 use Rattle.st_format.proofs.Shapes.{shape-instruction_of}
-use Rattle.st_state.specs.Machine.{Machine}
-use Rattle.st_state.specs.Boundary.{forbidden, is_invalid, is_protected}
+use Rattle.st_state.specs.Machine.{Machine, word}
+use Rattle.st_state.specs.Boundary.{forbidden, forbidden_by, is_invalid, is_protected}
 use Rattle.st_state.specs.declared.protection.Access.TheVariants.{Fetch}
 use Rattle.st_prep.specs.declared.entries.Place.{Place}
 use Rattle.st_prep.specs.declared.fetching.Found.{Found}
@@ -38,10 +38,11 @@ unfolding half_at
 half_at-below s h = omega arith
 
 fetch_fault : (s : Machine) (w : ℕ) → IfSome (forbidden s Fetch w) (λ i. i < 64)
+unfolding forbidden_by
 fetch_fault s w =
     let P : Option ℕ → Type 0 = λ o. IfSome o (λ i. i < 64) in
-    of_choice P (is_invalid Fetch w) (Some 16) (if is_protected s w then Some 21 else None) (omega arith)
-    (of_choice P (is_protected s w) (Some 21) None (omega arith) tt)
+    of_choice P (is_invalid Fetch w) (Some 16) (if is_protected (word s 3) s.enabled w then Some 21 else None) (omega arith)
+    (of_choice P (is_protected (word s 3) s.enabled w) (Some 21) None (omega arith) tt)
 
 found_whole-fits : (f : Option ℕ) (s : Machine) (first h : ℕ) → first < 2 ^ 32 → IfSome f (λ i. i < 64)
     → IsFound (found_whole f s first h)

@@ -1,7 +1,8 @@
 -- A run of words is looked at one word after the other.
 use Rattle.std.proofs.Common.{◌≡◌, ℕ, zero, suc, ◌+◌, ◌≤◌, Bool, true, false, Option, None, Some, is_some, refl, ap, arith}
 use Rattle.st_state.specs.declared.protection.Access.{Access}
-use Rattle.st_prep.specs.Checks.{forbidden_by, forbidden_run}
+use Rattle.st_state.specs.Boundary.{forbidden_by}
+use Rattle.st_prep.specs.Checks.{forbidden_run}
 
 -- nothing forbids no words
 pub run-none : (b : ℕ) (en : Bool) (a : Access) (w n : ℕ) → n ≡ 0 → forbidden_run b en a w n ≡ None

@@ -6,13 +6,12 @@ use Rattle.st_bits.specs.Storage.{words_of_storage}
 use Rattle.st_format.specs.declared.instruction.Decoded.{Decoded}
 use Rattle.st_format.specs.Formats.{decoded}
 use Rattle.st_state.specs.Machine.{Machine, word}
-use Rattle.st_state.specs.Boundary.{forbidden, is_invalid, address_invalid}
+use Rattle.st_state.specs.Boundary.{forbidden, is_invalid, address_invalid, forbidden_by}
 use Rattle.st_state.specs.declared.protection.Access.TheVariants.{Fetch}
 use Rattle.st_prep.specs.declared.entries.Place.{Place}
 use Rattle.st_prep.specs.declared.entries.Fetched.{Fetched}
 use Rattle.st_prep.specs.declared.fetching.Found.{Found}
 use Rattle.st_prep.specs.EarlyChange.{effective}
-use Rattle.st_prep.specs.Checks.{forbidden_by}
 use Rattle.st_prep.specs.Fetch.{index_words, half_at, found_whole, found_after, found, is_execute, with_target, alone, fetched}
 use Rattle.st_prep.specs.Reading.{Reading, Finds, Reads, outcome, words_read, half_of, Use, with_second, with_first, read_after, instruction_at, own_use, reading}
 use Rattle.st_format.proofs.Spelled.{or-right}

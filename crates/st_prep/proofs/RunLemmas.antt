@@ -8,12 +8,12 @@ use Rattle.st_format.specs.declared.operations.FullOp.TheVariants.{Variable, Con
 use Rattle.st_format.specs.declared.instruction.Instr.{Instr}
 use Rattle.st_format.specs.declared.instruction.Instr.TheVariants.{Half, Branch, Floating, Vfl, Connect, Move, BitBranch, IndBranch, StoreCounter, Transfer, Invalid}
 use Rattle.st_format.specs.Operations.{writes_field}
-use Rattle.st_state.specs.Boundary.{is_invalid, address_invalid}
+use Rattle.st_state.specs.Boundary.{is_invalid, address_invalid, forbidden_by}
 use Rattle.st_state.specs.declared.protection.Access.{Access}
 use Rattle.st_state.specs.declared.protection.Access.TheVariants.{Read, Write, Fetch}
 use Rattle.st_prep.specs.declared.entries.Words.{Words}
 use Rattle.st_prep.specs.Entry.{no_words, one_run, two_runs, field_words, operand_words, words_read, words_written, is_index_store, reads_field, reads, writes, has_register}
-use Rattle.st_prep.specs.Checks.{forbidden_by, forbidden_run, forbidden_words, area_access, forbidden_area}
+use Rattle.st_prep.specs.Checks.{forbidden_run, forbidden_words, area_access, forbidden_area}
 use Rattle.st_prep.specs.Ranges.{HasFields, IsRuns, AreInside, AreAbove, HasRoom}
 use Rattle.st_format.proofs.Spelled.{or-left, or-right}
 use Rattle.st_prep.proofs.Choices.{of_choice, none-left, none-right, test-none, none-else}

@@ -5,7 +5,7 @@ use Rattle.st_bits.specs.Bits.{part}
 use Rattle.st_format.specs.declared.instruction.Instr.{Instr}
 use Rattle.st_format.specs.declared.instruction.Instr.TheVariants.{Transfer}
 use Rattle.st_format.specs.Formats.{is_valid}
-use Rattle.st_state.specs.Boundary.{is_invalid, is_between, address_invalid, protected}
+use Rattle.st_state.specs.Boundary.{forbidden_by, address_invalid}
 use Rattle.st_state.specs.declared.protection.Access.{Access}
 use Rattle.st_state.specs.declared.protection.Access.TheVariants.{Read, Write}
 use Rattle.st_prep.specs.declared.entries.Fetched.{Fetched}
@@ -20,16 +20,7 @@ executed f = (unwrap_or f.target f.instr).instr
 
 -- ---- forbidden words
 
--- the indicator that forbids the access, by word 3 and the mark
-unfoldable pub forbidden_by : ℕ → Bool → Access → ℕ → Option ℕ
-forbidden_by bounds enabled access w =
-    if is_invalid access w then Some address_invalid
-    else if enabled && nat_le 32 w
-    && (if part bounds 57 1 == 0 then is_between bounds w else not (is_between bounds w))
-    then Some (protected access)
-    else None
-
--- the same of the first of n words that may not be accessed
+-- what forbids the access to the first of n words that may not be accessed
 unfoldable pub forbidden_run : ℕ → Bool → Access → ℕ → ℕ → Option ℕ
 forbidden_run bounds enabled access w zero = None
 forbidden_run bounds enabled access w (suc n) =

@@ -7,7 +7,7 @@ use Rattle.st_prep.specs.declared.entries.Place.{Place}
 use Rattle.st_prep.specs.declared.entries.Fetched.{Fetched}
 use Rattle.st_prep.specs.declared.fetching.Found.{Found}
 use Rattle.st_prep.specs.EarlyChange.{effective}
-use Rattle.st_prep.specs.Checks.{forbidden_by}
+use Rattle.st_state.specs.Boundary.{forbidden_by}
 use Rattle.st_prep.specs.Fetch.{nothing, is_execute, with_target, alone}
 
 -- something is found, or a word is read and its content decides how it goes on

@@ -1,7 +1,8 @@
 ghost use Rattle.std.specs.Prelude.{◌≡◌, ◌+◌, ◌/◌, ◌<◌, ◌^◌, IfSome};
 ghost use Rattle.st_state.specs.Machine.{word, word as word_of};
 ghost use Rattle.st_prep.specs.Ranges.{HasFields, IsFetched, IsRuns};
-ghost use Rattle.st_prep.specs.Checks.{executed as executed_of, forbidden_by, forbidden_run as forbidden_run_of, forbidden_words as forbidden_words_of, forbidden_side as forbidden_side_of, forbidden_area as forbidden_area_of, area_access as area_access_of, operation_fault as operation_fault_of, fault as fault_of};
+ghost use Rattle.st_state.specs.Boundary.{forbidden_by};
+ghost use Rattle.st_prep.specs.Checks.{executed as executed_of, forbidden_run as forbidden_run_of, forbidden_words as forbidden_words_of, forbidden_side as forbidden_side_of, forbidden_area as forbidden_area_of, area_access as area_access_of, operation_fault as operation_fault_of, fault as fault_of};
 
 use crate::addresses::effective_address;
 use crate::early::side;
@@ -37,7 +38,6 @@ pub fn executed(fetched: &Fetched) -> Instr
 }
 
 /// The indicator that forbids the access to a word.
-#[tactic(auto, unfolding(crate::specs::Checks::forbidden_by))]
 fn forbidden(state: &State, access: Access, w: u32) -> Option<u8>
     ensures value { result ≡ forbidden_by (word state.now 3) state.now.enabled access w }
     ensures bound { IfSome result (λ i. i < 64) }

@@ -4,20 +4,12 @@ ghost use Rattle.st_bits.specs.Storage.{words_of_storage};
 ghost use Rattle.st_state.specs.Machine.{Machine, IsMachine, word};
 ghost use Rattle.st_state.specs.Boundary.{forbidden};
 ghost use Rattle.st_state.specs.declared.protection.Access.{Access};
-ghost use Rattle.st_prep.specs.Checks.{forbidden_by};
 ghost use Rattle.st_prep.specs.Plan.{Sight, needs, prepared, sight, plan};
 ghost use Rattle.st_prep.specs.declared.entries.Place.{Place};
 ghost use Rattle.st_prep.specs.Ranges.{IsPrepared};
 ghost use Rattle.st_prep.specs.Fetch.{index_words, place_of, fetched};
 ghost use Rattle.st_prep.specs.Reading.{Reading, outcome, words_read, count_of, reading};
 ghost use Rattle.st_prep.specs.Alike.{AreAlike};
-
-/// What forbids an access to a word of a state is seen from its boundary register and the mark for interrupts alone.
-#[tactic(auto, unfolding(crate::specs::Checks::forbidden_by))]
-pub fn forbidden_words_are_seen()
-    ensures { (s : Machine) (a : Access) (w : ℕ) → forbidden s a w
-        ≡ forbidden_by (word s 3) s.enabled a w }
-{}
 
 /// Each entry of each state is in its ranges once it is prepared.
 pub fn plans_are_in_range()

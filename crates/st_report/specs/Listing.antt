@@ -1,7 +1,7 @@
 -- The bytes of the lines of the listing, their line ends included.
-use Rattle.std.specs.Prelude.{ℕ, ◌-◌, ◌*◌, ◌^◌, ◌≤◌, ◌==◌, List, [], ◌++◌, length, take, replicate, IsAscii, codes, decimal, Option, Some, None}
+use Rattle.std.specs.Prelude.{ℕ, ◌-◌, ◌*◌, ◌^◌, ◌≤◌, List, [], ◌++◌, length, replicate, IsAscii, codes, decimal, Option, Some, None}
 use Rattle.std.specs.Int.{div_ceil}
-use Rattle.std.specs.List.{suffix_len}
+use Rattle.st_text.specs.Blanks.{without_end_blanks}
 use Rattle.st_report.specs.Line.{lf, hex_text, bit_address}
 
 -- n blanks

@@ -16,11 +16,10 @@ is_invalid Fetch w = nat_le words_of_storage w || nat_lt w 32
 abbrev pub is_between : ℕ → ℕ → Bool
 is_between bounds w = nat_le (part bounds 32 18) w && nat_lt w (part bounds 0 18)
 
--- bit 57 of word 3 zero protects the words between the bounds, one all others; never a register
-abbrev pub is_protected : Machine → ℕ → Bool
-is_protected s w =
-    let bounds = word s 3 in
-    s.enabled && nat_le 32 w && (if part bounds 57 1 == 0 then is_between bounds w else not (is_between bounds w))
+-- by word 3 and the mark for interrupts: bit 57 zero protects the words between the bounds, one all others; never a register
+abbrev pub is_protected : ℕ → Bool → ℕ → Bool
+is_protected bounds enabled w =
+    enabled && nat_le 32 w && (if part bounds 57 1 == 0 then is_between bounds w else not (is_between bounds w))
 
 -- the indicators of an address that is not valid, and of each access to a protected word
 abbrev pub address_invalid : ℕ
@@ -31,9 +30,13 @@ protected Read = 20
 protected Write = 19
 protected Fetch = 21
 
--- the indicator that forbids the access, if one does
-abbrev pub forbidden : Machine → Access → ℕ → Option ℕ
-forbidden s access w =
+-- the indicator that forbids the access, if one does, by word 3 and the mark for interrupts
+unfoldable pub forbidden_by : ℕ → Bool → Access → ℕ → Option ℕ
+forbidden_by bounds enabled access w =
     if is_invalid access w then Some address_invalid
-    else if is_protected s w then Some (protected access)
+    else if is_protected bounds enabled w then Some (protected access)
     else None
+
+-- the same of a state
+abbrev pub forbidden : Machine → Access → ℕ → Option ℕ
+forbidden s access w = forbidden_by (word s 3) s.enabled access w

@@ -176,6 +176,7 @@ impl State {
     }
 
     /// The indicator that forbids the access to the word address `w`, None where it is allowed.
+    #[tactic(auto, unfolding(crate::specs::Boundary::forbidden_by), using(st_bits::specs::Storage::words_of_storage_is))]
     pub fn may(&self, access: Access, w: u32) -> Option<u8>
         ensures value { result ≡ forbidden self.now access w }
         ensures bound { IfSome result (λ i. i < 64) }
@@ -200,7 +201,7 @@ impl State {
 
     /// Whether the boundary register protects the word.
     fn protects(&self, w: u32) -> bool
-        ensures { result ≡ is_protected self.now w }
+        ensures { result ≡ is_protected (word_of self.now 3) self.now.enabled w }
     {
         let bounds = self.words[BOUNDS];
         let w = u64::from(w);

@@ -11,8 +11,8 @@ use Rattle.st_card.specs.Pieces.{parted, onto_first}
 use Rattle.st_object.specs.Lines.{spelled, text_of}
 use Rattle.st_object.specs.Draft.{blank}
 use Rattle.st_object.specs.Object.{Program, IsProgram, object_lines as lines_of, object_text, read_text}
-use Rattle.st_object.proofs.Again.{made_again}
-use Rattle.st_object.proofs.Accepted.{accepted}
+use Rattle.st_object.proofs.ProgramLines.{made_again}
+use Rattle.st_object.proofs.AcceptedTexts.{accepted}
 use Rattle.st_object.proofs.ReadBack.{parted-text_of}
 use Rattle.st_top.specs.ObjectText.{object_lines, ended_lines}
 

@@ -4,7 +4,7 @@
 use st_io::{StdSink, StdSource};
 use st_top::{Status, stretch};
 use std::env::{self, Env};
-use std::io;
+use std::io::{self, ErrorKind};
 use std::process::ExitCode;
 
 /// The words after the program's name.
@@ -16,9 +16,18 @@ fn words(rt: &(impl Env + AllocGlobal)) -> io::Result<Vec<String>> {
     Ok(words)
 }
 
+/// The status where the words could not be had: one that is not UTF-8 is no command; else there was no memory.
+fn status_without_words(error: &io::Error) -> Status {
+    match error.kind() {
+        ErrorKind::InvalidData => Status::Usage,
+        _ => Status::NoMemory,
+    }
+}
+
 fn main(rt: HostRuntime) -> ExitCode {
-    let Ok(words) = words(&rt) else {
-        return ExitCode::from(Status::NoMemory as u8);
+    let words = match words(&rt) {
+        Ok(words) => words,
+        Err(error) => return ExitCode::from(status_without_words(&error) as u8),
     };
     let mut job = StdSource::new(rt.reader());
     let mut out = StdSink::new(io::writer(&rt));

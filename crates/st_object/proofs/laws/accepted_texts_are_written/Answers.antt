@@ -1,4 +1,4 @@
-use Rattle.st_object.proofs.Accepted.{accepted}
+use Rattle.st_object.proofs.AcceptedTexts.{accepted}
 use Rattle.st_object.proofs.laws.accepted_texts_are_written.Goals as goal
 
 pub returns-clause-program : goal.returns-clause-program

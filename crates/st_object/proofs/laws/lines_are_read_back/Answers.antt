@@ -1,5 +1,5 @@
 use Rattle.st_object.proofs.Spellings.{spelled_again}
-use Rattle.st_object.proofs.Told.{told}
+use Rattle.st_object.proofs.LineMeanings.{told}
 use Rattle.st_object.proofs.laws.lines_are_read_back.Goals as goal
 
 pub returns-clause-again : goal.returns-clause-again

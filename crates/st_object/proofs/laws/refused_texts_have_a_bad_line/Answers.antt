@@ -1,4 +1,4 @@
-use Rattle.st_object.proofs.Refused.{bad_line}
+use Rattle.st_object.proofs.BadLines.{bad_line}
 use Rattle.st_object.proofs.laws.refused_texts_have_a_bad_line.Goals as goal
 
 pub returns : goal.returns

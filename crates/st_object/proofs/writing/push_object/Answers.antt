@@ -3,7 +3,7 @@ use Rattle.st_object.specs.Lines.{word_lines, order_lines, show_lines}
 use Rattle.st_object.specs.Object.{Program, object_lines}
 use Rattle.st_object.specs.declared.items.Item.{Item}
 use Rattle.st_object.specs.declared.items.Item.TheVariants.{Object, Start, Fin}
-use Rattle.st_object.proofs.Written.{written_further, written_last}
+use Rattle.st_object.proofs.WrittenLines.{written_further, written_last}
 use Rattle.st_object.proofs.writing.push_object.Goals as goal
 
 pub returns : goal.returns

@@ -1,5 +1,5 @@
 use Rattle.std.proofs.Common.{get_or, refl}
-use Rattle.st_object.proofs.Written.{words_more}
+use Rattle.st_object.proofs.WrittenLines.{words_more}
 use Rattle.st_object.proofs.writing.push_words.Goals as goal
 
 pub words-preserved : goal.words-preserved

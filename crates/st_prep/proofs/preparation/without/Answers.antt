@@ -5,5 +5,5 @@ use Rattle.st_prep.proofs.preparation.without.Goals as goal
 
 pub returns : goal.returns
 returns c =
-    without-turned c.args.indicators c.bit.result (omega arith) (omega arith)
-    ∙ ap (λ off. turned 64 0 off c.args.indicators) c.bit.ensures.value
+    without-turned c.args.indicators c.indicator.result (omega arith) (omega arith)
+    ∙ ap (λ off. turned 64 0 off c.args.indicators) c.indicator.ensures.value

@@ -9,8 +9,8 @@ use Rattle.st_object.specs.Lines.{marked, word_lines, budget_lines, back_lines}
 use Rattle.st_object.specs.Draft.{Draft, start_lines, lines_from_fin, lines_from_back, lines_from_snaps, lines_from_chart, lines_from_time, lines_from_trace, lines_from_dumps, lines_from_signals, lines_from_delays, lines_from_budget, lines_from_words, lines_from_start, lines_of, lacks_fin, lacks_back, lacks_snaps, lacks_chart, lacks_time, lacks_trace, lacks_dumps, lacks_signals, lacks_delays, lacks_budget, lacks_words, lacks_start, lacks_object, has_start, has_delays, has_place, may_hold, with_start, with_word, with_asked, with_value, with_item}
 use Rattle.st_object.specs.declared.items.Item.{Item}
 use Rattle.st_object.specs.declared.items.Item.TheVariants.{Object, Start, Word, Budget, Delay, Signal, Dump, Trace, Time, Chart, Snap, Back, Fin}
-use Rattle.st_object.proofs.Told.{given, the_one}
-use Rattle.st_object.proofs.Empties.{none_from_fin, none_from_back, none_from_snaps, none_from_chart, none_from_time, none_from_trace, none_from_dumps, none_from_signals, none_from_delays, none_from_budget, none_from_words, none_from_start}
+use Rattle.st_object.proofs.LineMeanings.{given, the_one}
+use Rattle.st_object.proofs.EmptyParts.{none_from_fin, none_from_back, none_from_snaps, none_from_chart, none_from_time, none_from_trace, none_from_dumps, none_from_signals, none_from_delays, none_from_budget, none_from_words, none_from_start}
 
 -- lines behind the parts of others
 abbrev onto : List (List Item) → List Item → List Item

@@ -11,11 +11,11 @@ use Rattle.st_object.specs.Draft.{Draft, blank, IsDraft, is_empty, lines_of, is_
 use Rattle.st_object.specs.Meaning.{item_in}
 use Rattle.st_object.specs.Object.{Program, IsProgram, AreWords, object_text, program_of, with_line, finished, unended, end_of, read_from, read_text}
 use Rattle.st_object.specs.declared.items.Item.{Item}
-use Rattle.st_object.proofs.Told.{chained, told}
-use Rattle.st_object.proofs.Grown.{grown}
+use Rattle.st_object.proofs.LineMeanings.{chained, told}
+use Rattle.st_object.proofs.FurtherLines.{grown}
 use Rattle.st_object.proofs.LineByLine.{line_kept}
-use Rattle.st_object.proofs.Written.{text_of-append}
-use Rattle.st_object.proofs.Whole.{whole_program, whole_words, whole_lines_of}
+use Rattle.st_object.proofs.WrittenLines.{text_of-append}
+use Rattle.st_object.proofs.WholeDrafts.{whole_program, whole_words, whole_lines_of}
 
 -- pieces with line ends between them
 abbrev pub joined : List (List ℕ) → List ℕ

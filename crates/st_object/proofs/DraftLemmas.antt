@@ -13,7 +13,7 @@ use Rattle.st_card.proofs.LimitLemmas.{budget-kept, delays-kept, signal-kept, du
 use Rattle.st_object.specs.Draft.{Draft, IsDraft, lacks_object, lacks_fin, has_delays, lacks_start, has_start, lacks_budget, has_place, may_hold, with_start, with_word, with_asked, with_value, with_item}
 use Rattle.st_object.specs.declared.items.Item.{Item}
 use Rattle.st_object.specs.declared.items.Item.TheVariants.{Object, Start, Word, Budget, Delay, Signal, Dump, Trace, Time, Chart, Snap, Back, Fin}
-use Rattle.st_object.proofs.Told.{given, mapped, the_one, IsNarrow}
+use Rattle.st_object.proofs.LineMeanings.{given, mapped, the_one, IsNarrow}
 
 -- a word above the registers leaves them zero
 registers_kept : (xs : List ℕ) (w x : ℕ) → length xs ≤ w → 32 ≤ w → ((k : ℕ) → k < 32 → get_or xs k 0 ≡ 0) →

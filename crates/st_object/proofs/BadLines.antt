@@ -11,14 +11,14 @@ use Rattle.st_object.specs.Draft.{Draft, blank, IsDraft, is_empty, lines_of, is_
 use Rattle.st_object.specs.Meaning.{item_in}
 use Rattle.st_object.specs.Object.{Program, object_lines, program_of, with_line, finished, unended, end_of, read_from, read_text, lines_in, text_lines, IsFront, IsBadLine}
 use Rattle.st_object.specs.declared.items.Item.{Item}
-use Rattle.st_object.proofs.Told.{chained}
+use Rattle.st_object.proofs.LineMeanings.{chained}
 use Rattle.st_object.proofs.LineByLine.{line_kept}
-use Rattle.st_object.proofs.Written.{text_of-append}
-use Rattle.st_object.proofs.Whole.{whole_program, whole_words, whole_lines_of}
-use Rattle.st_object.proofs.Accepted.{blank_draft, line_behind}
-use Rattle.st_object.proofs.Again.{Leads, made_again}
+use Rattle.st_object.proofs.WrittenLines.{text_of-append}
+use Rattle.st_object.proofs.WholeDrafts.{whole_program, whole_words, whole_lines_of}
+use Rattle.st_object.proofs.AcceptedTexts.{blank_draft, line_behind}
+use Rattle.st_object.proofs.ProgramLines.{Leads, made_again}
 use Rattle.st_object.proofs.ReadBack.{parted_line, parted-text_of, with_spelled}
-use Rattle.st_object.proofs.Completed.{IsOrderly, blank_orderly, ordered, completed}
+use Rattle.st_object.proofs.Completions.{IsOrderly, blank_orderly, ordered, completed}
 
 -- lines, each with its line end
 abbrev closed : List (List ℕ) → List ℕ

@@ -10,8 +10,8 @@ use Rattle.st_object.specs.Draft.{Draft, IsDraft, is_empty, start_lines, lines_o
 use Rattle.st_object.specs.Object.{IsProgram, AreWords, object_lines, filled_up, program_of}
 use Rattle.st_object.specs.declared.items.Item.{Item}
 use Rattle.st_object.specs.declared.items.Item.TheVariants.{Object}
-use Rattle.st_object.proofs.Grown.{word_lines-append, word_lines-zeros}
-use Rattle.st_object.proofs.Written.{whole_lines}
+use Rattle.st_object.proofs.FurtherLines.{word_lines-append, word_lines-zeros}
+use Rattle.st_object.proofs.WrittenLines.{whole_lines}
 
 -- what a whole draft has
 pub record HasAll (d : Draft) : Type 0 where

@@ -18,7 +18,7 @@ use Rattle.st_object.specs.Meaning.{IsShort, IsItem}
 use Rattle.st_object.specs.Object.{Program, IsProgram, AreWords, object_lines, filled_up, program_of}
 use Rattle.st_object.specs.declared.items.Item.{Item}
 use Rattle.st_object.specs.declared.items.Item.TheVariants.{Start, Word, Budget, Delay, Signal, Dump, Trace, Time, Chart, Snap, Back, Fin}
-use Rattle.st_object.proofs.Written.{whole_lines}
+use Rattle.st_object.proofs.WrittenLines.{whole_lines}
 
 -- lines that can be read and may follow one another lead from one draft to another
 abbrev pub Leads : Draft → List Item → Draft → Type 0

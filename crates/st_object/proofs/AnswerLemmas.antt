@@ -4,8 +4,8 @@ use Rattle.st_object.specs.Object.{Program, IsProgram, object_text, read_text}
 use Rattle.st_object.specs.Answers.{Gives, NamesBadLine}
 use Rattle.st_object.specs.declared.reading.ObjectError.{ObjectError}
 use Rattle.st_object.specs.declared.reading.ObjectError.TheVariants.{Refused, NoMemory}
-use Rattle.st_object.proofs.Accepted.{accepted}
-use Rattle.st_object.proofs.Refused.{bad_line}
+use Rattle.st_object.proofs.AcceptedTexts.{accepted}
+use Rattle.st_object.proofs.BadLines.{bad_line}
 
 pub read_program : (text : List ℕ) (r : Result Program ObjectError) → Gives (read_text text) r → IfOk r (λ p. IsProgram p)
 read_program text (Ok p) gives = (accepted text p gives).program

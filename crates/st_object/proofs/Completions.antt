@@ -6,9 +6,9 @@ use Rattle.st_card.specs.Controls.{Asked, is_among}
 use Rattle.st_object.specs.Draft.{Draft, blank, IsDraft, is_empty, lines_of, lacks_fin, lacks_signals, lacks_delays, lacks_budget, lacks_words, lacks_start, lacks_object, has_start, has_budget, has_delays, is_whole, has_place, may_hold, with_start, with_word, with_asked, with_value, with_item}
 use Rattle.st_object.specs.declared.items.Item.{Item}
 use Rattle.st_object.specs.declared.items.Item.TheVariants.{Object, Start, Word, Budget, Delay, Signal, Dump, Trace, Time, Chart, Snap, Back, Fin}
-use Rattle.st_object.proofs.Told.{given, the_one}
-use Rattle.st_object.proofs.Grown.{grown, asked_step, mark_step}
-use Rattle.st_object.proofs.Kept.{kept}
+use Rattle.st_object.proofs.LineMeanings.{given, the_one}
+use Rattle.st_object.proofs.FurtherLines.{grown, asked_step, mark_step}
+use Rattle.st_object.proofs.DraftLemmas.{kept}
 
 -- where a line that may not be left out was not read yet, nothing behind it was
 pub record IsOrderly (d : Draft) : Type 0 where

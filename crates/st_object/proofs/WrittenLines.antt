@@ -8,7 +8,7 @@ use Rattle.st_object.specs.Draft.{Draft, lines_of}
 use Rattle.st_object.specs.Object.{Program, object_lines}
 use Rattle.st_object.specs.declared.items.Item.{Item}
 use Rattle.st_object.specs.declared.items.Item.TheVariants.{Object, Start, Word, Delay, Signal, Dump, Trace, Time, Chart, Snap, Fin}
-use Rattle.st_object.proofs.Grown.{word_lines-append}
+use Rattle.st_object.proofs.FurtherLines.{word_lines-append}
 
 pub text_of-append : (xs ys : List Item) → text_of (xs ++ ys) ≡ text_of xs ++ text_of ys
 text_of-append xs ys = flat_map-append (λ i. spelled i ++ lf) xs ys
