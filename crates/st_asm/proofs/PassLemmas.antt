@@ -1,5 +1,5 @@
 -- How a pass goes on, and where it stops.
-use Rattle.std.proofs.Common.{◌≡◌, ◌≤◌, ◌<◌, ◌-◌, ℕ, suc, refl, List, [], ◌∷◌, length, get_or, take, drop, Result, Ok, ap, sym, ◌∙◌, arith}
+use Rattle.std.proofs.Common.{◌≡◌, ◌≤◌, ◌<◌, ◌-◌, ℕ, refl, List, [], ◌∷◌, length, get_or, take, drop, Result, Ok, ap, sym, ◌∙◌, arith}
 use Rattle.st_card.proofs.ListLemmas.{first_and_rest}
 use Rattle.st_card.specs.declared.faults.Fault.{Fault}
 use Rattle.st_asm.specs.Pass.{onward, pass}

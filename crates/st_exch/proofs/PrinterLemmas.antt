@@ -1,12 +1,9 @@
 -- Printed text.
-use Rattle.std.proofs.Common.{◌≡◌, ◌≢◌, ◌≤◌, ◌<◌, ◌-◌, ◌==◌, ◌&&◌, ℕ, zero, suc, Bool, true, false, List, [], ◌∷◌, length, take, map, slice_index, refl, ◌∙◌, arith, nat_le, if◌then◌else◌}
+use Rattle.std.proofs.Common.{◌≡◌, ◌-◌, ◌==◌, ◌&&◌, ℕ, zero, suc, Bool, true, false, List, [], ◌∷◌, length, take, map, refl, ◌∙◌, nat_le, if◌then◌else◌}
 use Rattle.std.proofs.lemmas.Bool.{and_from as all-both}
-use Rattle.std.proofs.lemmas.Grind.{common_steps}
-use Rattle.std.proofs.lemmas.List.Sums.{suffix_len_is}
 use Rattle.std.proofs.lemmas.List.Folds.{list_all-append}
 use Rattle.std.specs.List.{flat_map, suffix_len}
 use Rattle.st_card.specs.Cards.{is_printable}
-use Rattle.st_text.specs.Blanks.{without_end_blanks}
 use Rattle.st_exch.specs.Printer.{bytes_of, character, characters_of, printed}
 
 is_character : ℕ → Bool

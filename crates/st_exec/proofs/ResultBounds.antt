@@ -1,5 +1,5 @@
 -- What operations on fields leave fits the registers.
-use Rattle.std.proofs.Common.{◌≡◌, ◌≢◌, ℕ, ◌-◌, ◌*◌, ◌/◌, ◌%◌, ◌^◌, ◌<◌, ◌≤◌, Bool, true, false, not, ◌&&◌, ◌||◌, ◌==◌, if◌then◌else◌, Option, None, length, refl, sym, subst, arith}
+use Rattle.std.proofs.Common.{◌≡◌, ◌≢◌, ℕ, ◌-◌, ◌*◌, ◌/◌, ◌%◌, ◌^◌, ◌<◌, ◌≤◌, Bool, true, false, not, ◌&&◌, ◌||◌, ◌==◌, Option, None, length, refl, sym, subst, arith}
 use Rattle.std.specs.Prelude.{IfSome, nat_lt}
 use Rattle.std.proofs.lemmas.Bool.{ltb-false, eqb-true, eqb-false, not-false as not-not}
 use Rattle.std.proofs.lemmas.Nat.{mul-lt}
@@ -22,7 +22,7 @@ use Rattle.st_bin.specs.Digits.{digits_of}
 use Rattle.st_bin.proofs.DigitLemmas.{digits_of-below}
 use Rattle.st_dec.specs.DecimalResult as decimal
 use Rattle.st_dec.specs.DecimalOperand.{IsDecimalShape, digit_count, digit_bytes, codes, place, placed}
-use Rattle.st_dec.specs.DigitLists.{joined, bytes}
+use Rattle.st_dec.specs.DigitLists.{joined}
 use Rattle.st_dec.specs.DigitLists as lists
 use Rattle.st_dec.proofs.DigitLemmas.{joined-below}
 use Rattle.st_dec.proofs.ListLemmas.{codes-below}

@@ -1,7 +1,6 @@
 -- The checks before an instruction is executed: the first that fails suppresses it.
-use Rattle.std.specs.Prelude.{ℕ, zero, suc, ◌+◌, ◌/◌, Bool, true, false, not, ◌&&◌, ◌==◌, nat_lt, nat_le, if◌then◌else◌, List, Option, None, Some, unwrap_or}
+use Rattle.std.specs.Prelude.{ℕ, zero, suc, ◌+◌, ◌/◌, Bool, true, false, not, nat_lt, if◌then◌else◌, List, Option, None, Some, unwrap_or}
 use Rattle.std.specs.Option.{option_or}
-use Rattle.st_bits.specs.Bits.{part}
 use Rattle.st_format.specs.declared.instruction.Instr.{Instr}
 use Rattle.st_format.specs.declared.instruction.Instr.TheVariants.{Transfer}
 use Rattle.st_format.specs.Formats.{is_valid}

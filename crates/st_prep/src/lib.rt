@@ -15,7 +15,7 @@ mod runs;
 pub use entries::{Fetched, IndexChange, Needs, Place, Prepared, Words};
 pub use fetching::{fetch, index_words, place_of};
 pub use laws::{
-    entries_read_36_words_at_most, entries_with_a_target_are_alone, 
+    entries_read_36_words_at_most, entries_with_a_target_are_alone,
     index_side_words_change_index_words_alone, indicators_are_not_seen,
     instruction_words_come_one_by_one, looks_agree, plans_are_in_range,
 };

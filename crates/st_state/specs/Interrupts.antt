@@ -1,5 +1,5 @@
 -- Indicators: indicator n is bit n of word 11, and bit n of word 12 is its mask.
-use Rattle.std.specs.Prelude.{ℕ, zero, suc, ◌+◌, ◌-◌, ◌*◌, ◌^◌, Bool, ◌==◌, ◌&&◌, if◌then◌else◌, Option, None, Some}
+use Rattle.std.specs.Prelude.{ℕ, zero, suc, ◌+◌, ◌*◌, ◌^◌, Bool, ◌==◌, ◌&&◌, if◌then◌else◌, Option, None, Some}
 use Rattle.std.specs.Int.{bit_at}
 use Rattle.st_bits.specs.Bits.{part}
 use Rattle.st_bits.specs.declared.Ind.{Ind}

@@ -1,5 +1,5 @@
 -- What holds of what was read, through the steps of a reading.
-use Rattle.std.proofs.Common.{◌≡◌, Bool, true, false, cond, List, [], ◌∷◌, ◌&&◌, Option, Some, None, Result, Ok, Err, refl, ℕ}
+use Rattle.std.proofs.Common.{◌≡◌, Bool, true, false, cond, List, [], ◌∷◌, Option, Some, None, Result, Ok, Err, refl, ℕ}
 use Rattle.std.proofs.lemmas.Bool.{and_parts as both-true}
 use Rattle.std.specs.List.{list_all}
 use Rattle.std.specs.Option.{IfSome, option_map, option_and_then, option_or, ok_or}

@@ -1,5 +1,5 @@
 -- An object text line by line.
-use Rattle.std.proofs.Common.{◌≡◌, ◌≤◌, ◌+◌, ◌==◌, ℕ, List, [], ◌∷◌, ◌++◌, length, map, take, true, false, if◌then◌else◌, refl, sym, ◌∙◌, ap, subst, append_assoc, arith}
+use Rattle.std.proofs.Common.{◌≡◌, ◌+◌, ◌==◌, ℕ, List, [], ◌∷◌, ◌++◌, length, map, take, true, false, if◌then◌else◌, refl, sym, ◌∙◌, ap, subst, append_assoc}
 use Rattle.std.proofs.lemmas.List.{take_at, length_push}
 use Rattle.std.specs.Prelude.{Ok}
 use Rattle.std.specs.List.{flat_map}
@@ -8,7 +8,7 @@ use Rattle.st_lines.specs.Lines.{text}
 use Rattle.st_lines.proofs.Progress.{LinesSoFar}
 use Rattle.st_report.specs.Line.{lf}
 use Rattle.st_card.specs.Pieces.{parted, onto_first}
-use Rattle.st_object.specs.Lines.{spelled, text_of}
+use Rattle.st_object.specs.Lines.{spelled}
 use Rattle.st_object.specs.Draft.{blank}
 use Rattle.st_object.specs.Object.{Program, IsProgram, object_lines as lines_of, object_text, read_text}
 use Rattle.st_object.proofs.ProgramLines.{made_again}

@@ -1,15 +1,13 @@
 -- What is written on the way from one scene to another, one thing after another.
-use Rattle.std.proofs.Common.{◌≡◌, ℕ, ◌+◌, ◌-◌, ◌≤◌, List, [], ◌∷◌, ◌++◌, Bool, true, false, nat_le, length, get_or, take, drop, refl, sym, ◌∙◌, ap, subst, append_assoc, arith, if◌then◌else◌}
-use Rattle.std.proofs.Math.Seq.{take-length}
+use Rattle.std.proofs.Common.{◌≡◌, ℕ, ◌+◌, List, [], ◌∷◌, ◌++◌, Bool, true, false, nat_le, length, refl, sym, ◌∙◌, ap, subst, append_assoc, arith, if◌then◌else◌}
 use Rattle.std.proofs.lemmas.List.{append-nil}
 use Rattle.std.specs.Prelude.{Option, None, Some, is_none, IfSome, Result, Ok, Err, IsErr, MatchOption}
-use Rattle.std.specs.List.{AllPass}
 use Rattle.st_card.specs.Controls.{Asked}
 use Rattle.st_card.specs.declared.control_cards.Signal.{Signal as SignalCard}
 use Rattle.st_io.specs.Output.{OutputState, Wrote}
 use Rattle.st_io.specs.declared.Failed.{Failed}
 use Rattle.st_lines.specs.Lines.{text, WritesLines}
-use Rattle.st_lines.specs.Event.{Event, lines_of, at_moment, StoppedAt}
+use Rattle.st_lines.specs.Event.{lines_of, at_moment, StoppedAt}
 use Rattle.st_lines.proofs.Writing.{wrote_at_moment, stopped_at_moment, wrote_events, events_before, events_after}
 use Rattle.st_lines.proofs.Progress.{wrote_nothing}
 use Rattle.st_report.specs.Line.{prt_line}
@@ -20,8 +18,8 @@ use Rattle.st_state.specs.declared.devices.Order.{Order}
 use Rattle.st_state.specs.declared.devices.Device.{Device}
 use Rattle.st_exch.specs.Printer.{printed}
 use Rattle.st_exec.specs.Step.{rests, interrupt, step, address}
-use Rattle.st_exec.specs.Run.{Signal, Scene, Reached, Happening, Prints, Executes, interrupts_by, stepped, with_due_signals, with_signals_at_rest, first_card, cards_after, words_from, printed_out, with_reader, with_printer, nothing, and_then, if_due, with_due_orders, with_device, with_order_at_rest, with_wait, settled}
-use Rattle.st_top.specs.Signals.{signal_of, signals_of}
+use Rattle.st_exec.specs.Run.{Scene, Reached, Happening, Executes, interrupts_by, stepped, with_due_signals, with_signals_at_rest, first_card, cards_after, words_from, printed_out, with_reader, with_printer, nothing, and_then, if_due, with_due_orders, with_device, with_order_at_rest, with_wait, settled}
+use Rattle.st_top.specs.Signals.{signals_of}
 use Rattle.st_top.specs.Report.{report, events_at, lines_by, trace_lines}
 use Rattle.st_top.specs.Running.{WritesReached, stepping}
 

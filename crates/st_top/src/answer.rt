@@ -22,6 +22,7 @@ pub enum Status {
 /// What a call of `stretch` did.
 #[derive(Clone, Copy, Debug, PartialEq, Eq)]
 pub struct Answer {
+    /// How the call ended.
     pub status: Status,
     /// The number of instructions done; after a failed write, when the line that failed was written.
     pub done: u64,

@@ -1,7 +1,7 @@
-use Rattle.std.proofs.Common.{◌≡◌, ◌≤◌, ℕ, List, codes, length, map, true, false, ◌∙◌, ap, ap₂, sym, subst}
+use Rattle.std.proofs.Common.{◌≡◌, ◌≤◌, ℕ, List, codes, length, map, false, ◌∙◌, ap, ap₂, sym, subst}
 use Rattle.std.proofs.lemmas.List.{length-map}
 use Rattle.std.specs.String.{string_bytes}
-use Rattle.clap.specs.Words.{app_of, first_of, found_of, is_simple, matches_of, takes}
+use Rattle.clap.specs.Words.{first_of, found_of, is_simple, matches_of, takes}
 use Rattle.clap.proofs.WalkLemmas.{first_value-rows}
 use Rattle.st_top.specs.CommandLine.{command_by}
 use Rattle.st_top.proofs.CommandLines.{read_command, not_taken, never_both}

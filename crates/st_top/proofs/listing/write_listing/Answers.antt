@@ -1,4 +1,4 @@
-use Rattle.std.proofs.Common.{[], ◌++◌, sym, ◌∙◌, ap}
+use Rattle.std.proofs.Common.{◌++◌, sym, ◌∙◌, ap}
 use Rattle.st_lines.proofs.Progress.{wrote_nothing}
 use Rattle.st_asm.specs.Assembly.{shown}
 use Rattle.st_top.specs.Listing.{rows_lines, symbols_lines}

@@ -1,4 +1,4 @@
-use Rattle.std.proofs.Common.{◌+◌, ◌-◌, sym, ◌∙◌, ap, arith}
+use Rattle.std.proofs.Common.{sym, ◌∙◌, ap, arith}
 use Rattle.st_exec.specs.Run.{run}
 use Rattle.st_exec.specs.Step.{rests}
 use Rattle.st_exec.proofs.Runs.{run-rests, run-budget}

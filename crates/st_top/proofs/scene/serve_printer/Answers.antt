@@ -1,8 +1,7 @@
-use Rattle.std.proofs.Common.{◌≡◌, [], ◌∷◌, sym, ◌∙◌, ap, subst}
+use Rattle.std.proofs.Common.{◌≡◌, sym, ◌∙◌, ap, subst}
 use Rattle.std.specs.Prelude.{IfSome, is_none}
 use Rattle.st_state.specs.Machine.{Machine}
 use Rattle.st_exec.specs.Run.{Scene, words_from, printed_out}
-use Rattle.st_lines.specs.Lines.{WritesLines}
 use Rattle.st_report.specs.Line.{prt_line}
 use Rattle.st_top.specs.Signals.{signals_of}
 use Rattle.st_top.proofs.Stages.{printer_stage, line_is}
