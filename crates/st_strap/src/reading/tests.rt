@@ -37,7 +37,7 @@ fn says(rt: &impl Abort, name: &[u8], text: &[u8], wanted: Statement) {
 }
 
 #[test]
-fn reads_half_word_instructions(rt: HostRuntime) {
+fn reads_index_operations(rt: HostRuntime) {
     says(
         &rt,
         b"A",
@@ -75,6 +75,10 @@ fn reads_half_word_instructions(rt: HostRuntime) {
             at: spot(352, 0),
         },
     );
+}
+
+#[test]
+fn reads_branches_and_floating_operations(rt: HostRuntime) {
     says(
         &rt,
         b"",
@@ -114,7 +118,7 @@ fn reads_half_word_instructions(rt: HostRuntime) {
 }
 
 #[test]
-fn reads_full_word_instructions(rt: HostRuntime) {
+fn reads_operations_on_fields(rt: HostRuntime) {
     says(
         &rt,
         b"",
@@ -151,6 +155,10 @@ fn reads_full_word_instructions(rt: HostRuntime) {
             offset: 0,
         },
     );
+}
+
+#[test]
+fn reads_other_full_word_instructions(rt: HostRuntime) {
     says(
         &rt,
         b"",
