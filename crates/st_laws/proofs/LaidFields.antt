@@ -1,0 +1,66 @@
+-- Laid fields, as they are read.
+use Rattle.std.proofs.Common.{◌≡◌, ℕ, ◌-◌, ◌%◌, ◌^◌, ◌<◌, ◌≤◌, ◌&&◌, ◌||◌, ◌==◌, Bool, true, false, not, nat_lt, refl, ap, subst, ◌∙◌, arith, map, if◌then◌else◌}
+use Rattle.std.proofs.lemmas.Bool.{or_parts as either_false}
+use Rattle.std.specs.Bool.{IsFalse}
+use Rattle.st_format.specs.Validity.{misfits}
+use Rattle.st_strap.specs.declared.statement.Form.{Form}
+use Rattle.st_asm.specs.Numbers.{holds, capacity, digit_count, magnitude, packed, field_of as laid_bits}
+use Rattle.st_asm.proofs.FieldLemmas.{holds-below}
+use Rattle.st_dec.specs.DigitLists.{bytes, value}
+use Rattle.st_dec.specs.DecimalOperand.{field_value}
+use Rattle.st_laws.specs.LaidNumbers.{IsHeld, IsRead, shape_of, laid}
+use Rattle.st_laws.proofs.LaidDigits.{value-packed}
+use Rattle.st_laws.proofs.LaidParts.{parts-read}
+
+-- an unsigned field has no minus
+first_part : (a b : Bool) → (not a && b) ≡ true → a ≡ false
+first_part true b e = let no : ⊥ = cc in absurd no
+first_part false b e = refl
+
+no_minus : (form : Form) (minus : Bool) (number : ℕ) → holds form minus number ≡ true → (form.unsigned && minus) ≡ false
+unfolding holds
+no_minus form minus number held = first_part (form.unsigned && minus) (nat_lt number (capacity form)) held
+
+-- a laid field is read as its magnitude and its sign
+magnitude-read : (form : Form) (minus negated : Bool) (number offset : ℕ) → IsHeld form minus number →
+    let f = laid form minus number (shape_of form negated offset) in
+    IsRead f f.mag minus (magnitude form number)
+unfolding laid_bits
+magnitude-read form minus negated number offset held =
+    parts-read form.unsigned minus negated (magnitude form number) form.length form.byte offset
+    (no_minus form minus number held.room) held.sizes.sizes.some_byte held.sizes.sizes.small_byte
+
+pub binary-read : (form : Form) (minus negated : Bool) (number offset : ℕ) → IsHeld form minus number → form.decimal ≡ false →
+    let f = laid form minus number (shape_of form negated offset) in
+    IsRead f f.mag minus number
+binary-read form minus negated number offset held binary =
+    let read = magnitude-read form minus negated number offset held in
+    let is = ap (λ d. if d then packed form.byte (digit_count form) number else number) binary in
+    record { same_number = read.same_number ∙ is; same_sign = read.same_sign; no_flags = read.no_flags; no_zone = read.no_zone }
+
+-- a decimal field has bytes with room for a digit
+wide_bytes : (unsigned : Bool) (bits byte : ℕ) → IsFalse (misfits true unsigned bits byte) → 4 ≤ byte
+wide_bytes unsigned bits byte fits =
+    let first = (either_false (nat_lt byte 4 || not (bits % byte == 0)) (not unsigned && nat_lt bits byte) fits).0 in
+    let second = (either_false (nat_lt byte 4) (not (bits % byte == 0)) first).0 in
+    grind arith
+
+pub decimal-read : (form : Form) (minus negated : Bool) (number offset : ℕ) → IsHeld form minus number → form.decimal ≡ true →
+    let h = shape_of form negated offset in
+    let f = laid form minus number h in
+    IsRead f (field_value f h) minus number
+decimal-read form minus negated number offset held decimal =
+    let read = magnitude-read form minus negated number offset held in
+    let n = digit_count form in
+    let is = ap (λ d. if d then packed form.byte n number else number) decimal in
+    let wide = wide_bytes form.unsigned form.length form.byte
+    (subst (λ d. IsFalse (misfits d form.unsigned form.length form.byte)) decimal held.sizes.fits) in
+    let few = subst (λ k. number < k) (ap (λ d. if d then 10 ^ n else 2 ^ (if form.unsigned then form.length else form.length - form.byte)) decimal)
+    (holds-below form minus number held.room) in
+    record {
+      same_number = ap (λ m. value (map (λ d. d % 16) (bytes form.byte n m))) (read.same_number ∙ is)
+          ∙ value-packed form.byte n number wide few;
+      same_sign = read.same_sign;
+      no_flags = read.no_flags;
+      no_zone = read.no_zone;
+    }

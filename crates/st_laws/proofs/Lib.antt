@@ -1,0 +1,3 @@
+pub mod LaidParts
+pub mod LaidDigits
+pub mod LaidFields

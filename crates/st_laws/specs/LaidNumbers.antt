@@ -1,0 +1,34 @@
+-- What is laid for a number, and what an operation reads there.
+use Rattle.std.specs.Prelude.{ℕ, ◌≡◌, Bool, true}
+use Rattle.st_strap.specs.declared.statement.Form.{Form}
+use Rattle.st_strap.specs.WellFormed.{IsNumberForm}
+use Rattle.st_asm.specs.Numbers.{holds, field_of as laid_bits}
+use Rattle.st_bin.specs.declared.fields.Field.{Field}
+use Rattle.st_bin.specs.declared.fields.Shape.{Shape}
+use Rattle.st_bin.specs.BinaryOperand.{field_of}
+
+-- a number with its sign for which a field of the form has room
+pub record IsHeld (form : Form) (minus : Bool) (number : ℕ) : Type 0 where
+  pub sizes : IsNumberForm form
+  pub room : holds form minus number ≡ true
+
+-- how an operation sees a field of the form; whether it is negated, and its offset, are its own
+abbrev pub shape_of : Form → Bool → ℕ → Shape
+shape_of form negated offset = record {
+  length = form.length;
+  byte = form.byte;
+  unsigned = form.unsigned;
+  negated = negated;
+  offset = offset;
+}
+
+-- what an operation that sees it so reads of the field that is laid for a number
+abbrev pub laid : Form → Bool → ℕ → Shape → Field
+laid form minus number h = field_of (laid_bits form minus number) h
+
+-- a field of this value is read as that number with that sign, and has neither flags nor zone
+pub record IsRead (f : Field) (value : ℕ) (minus : Bool) (number : ℕ) : Type 0 where
+  pub same_number : value ≡ number
+  pub same_sign : f.negative ≡ minus
+  pub no_flags : f.flags ≡ 0
+  pub no_zone : f.zone ≡ 0
