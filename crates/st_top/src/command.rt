@@ -1,5 +1,5 @@
 //! The words of a command line.
-ghost use Rattle.std.specs.Prelude.{◌≡◌, ◌≤◌, IfOk, None, Ok, false, true, length, map, option_map};
+ghost use Rattle.std.specs.Prelude.{◌≡◌, ◌<◌, ◌≤◌, IfOk, None, Ok, false, true, length, map, option_map};
 ghost use Rattle.std.specs.List.{list_all};
 ghost use Rattle.std.specs.String.{string_bytes};
 ghost use Rattle.clap.specs.Words.{app_of, kind_of};
@@ -108,10 +108,12 @@ fn read_arguments(alloc: Global, words: &[String]) -> Result<Option<Command>, No
 }
 
 /// The command that the words are; None where they mean nothing. The one error is that memory ran out, and it never
-/// comes where a word is empty or begins with `-`.
+/// comes where a word is empty or begins with `-`, nor where there are no words or more than three.
 pub fn read_words(alloc: Global, words: &[String]) -> Result<Option<Command>, NoMemory>
     ensures ok { IfOk result (λ command. command ≡ command_of (map string_bytes words.now)) }
     ensures plain { list_all is_plain_word (map string_bytes words.now) ≡ false → result ≡ Ok None }
+    ensures some { length words.now ≡ 0 → result ≡ Ok None }
+    ensures few { 3 < length words.now → result ≡ Ok None }
 {
     if !are_plain(words) || words.is_empty() || MOST_WORDS < words.len() {
         return Ok(None);

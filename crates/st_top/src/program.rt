@@ -112,11 +112,13 @@ pub fn stretch<S: Source, K: Sink>(
     ensures answer { IsAnswer (command_of (map string_bytes words.now))
         (S.input job.old) (S.input job.new) (K.output out.old) (K.output out.new) result }
 
-    // A bad command line is one of words that mean nothing, and one with a word that is empty or begins with `-` is
-    // always called so.
+    // A bad command line is one of words that mean nothing. One with a word that is empty or begins with `-`, one
+    // without words and one of more than three words are always called so.
     ensures usage { result.status ≡ Status.Usage → command_of (map string_bytes words.now) ≡ None }
-    ensures plain { list_all is_plain (map string_bytes words.now) ≡ false →
-        result.status ≡ Status.Usage }
+    ensures plain { list_all is_plain (map string_bytes words.now) ≡ false
+        → result.status ≡ Status.Usage }
+    ensures some { length words.now ≡ 0 → result.status ≡ Status.Usage }
+    ensures few { 3 < length words.now → result.status ≡ Status.Usage }
 
     // Ticks are not modelled yet.
     ensures ticks { result.ticks ≡ 0 }
