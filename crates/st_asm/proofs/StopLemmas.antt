@@ -1,8 +1,25 @@
 -- A pass stops at the first faulty card.
-use Rattle.std.proofs.Common.{◌≡◌, ℕ, List, [], ◌∷◌, ◌++◌, Result, Ok, Err, refl, ap, ◌∙◌}
+use Rattle.std.proofs.Common.{◌≡◌, ◌⊎◌, inl, inr, ℕ, ◌+◌, Bool, true, false, List, [], ◌∷◌, ◌++◌, length, Option, Some, None, Result, Ok, Err, refl, ap, sym, ◌∙◌, if◌then◌else◌}
+use Rattle.std.specs.Option.{option_or}
+use Rattle.st_card.specs.Cards.{first_fault, cards_of, text_in}
+use Rattle.st_card.specs.Controls.{Asked, added}
+use Rattle.st_card.specs.declared.cards.Card.{Card}
+use Rattle.st_card.specs.declared.cards.CardKind.{CardKind}
+use Rattle.st_card.specs.declared.cards.CardKind.TheVariants.{Comment, Control, Statement as StatementCard}
 use Rattle.st_card.specs.declared.faults.Fault.{Fault}
-use Rattle.st_asm.specs.Pass.{Refusal, onward, pass}
-use Rattle.st_asm.specs.Stops.{Leads, HasFirst, StopsAtFirst}
+use Rattle.st_card.specs.declared.faults.Fault.TheVariants.{BadControlCard, CardAfterEnd, NoEnd, NotYetBuilt}
+use Rattle.st_strap.specs.Faults.{fault_in, faults_on}
+use Rattle.st_strap.specs.Order.{judged, mapped}
+use Rattle.st_strap.specs.Saying.{statement_of}
+use Rattle.st_strap.proofs.FaultLemmas.{card-fault, fault-mapped}
+use Rattle.st_asm.specs.Pass.{Refusal, onward, pass, then_for, unless_faulty}
+use Rattle.st_asm.specs.Lines.{name_field, statement_field}
+use Rattle.st_asm.specs.Forming.{Found, unread, is_built, before_end, first_fault_of, with_end, with_asked, with_statement, form_control, form_statement, form_kind, form_card, form_pass}
+use Rattle.st_asm.specs.Symbols.{table}
+use Rattle.st_asm.specs.Naming.{Named, name_pass}
+use Rattle.st_asm.specs.Valuing.{Laid, value_pass}
+use Rattle.st_asm.specs.Assembly.{Assembly, together, assembly}
+use Rattle.st_asm.specs.Stops.{Leads, HasFirst, StopsAtFirst, LacksEnd, StopsForm, StopsAtNames, StopsAtValues, StopsInOrder, asking_fault, form_fault}
 
 -- the refusal that an answer is
 abbrev refusal-in : {S : Type 0} → Refusal → Result S Refusal → Refusal
@@ -34,6 +51,13 @@ first-here next number from x xs r fault bad same = record {
   bad = bad ∙ ap (λ q. Err q.fault) same;
   card = ap (λ q. q.card) same;
 }
+
+-- a card without a fault, and the others
+passed-on : {S X : Type 0} (next : S → X → Result S Fault) (number : X → ℕ) (from to : S) (x : X) (xs : List X) →
+    ((state : S) → pass next number state xs ≡ Ok to → Leads next state xs to) → (answer : Result S Fault) →
+    next from x ≡ answer → onward (λ s. pass next number s xs) (number x) answer ≡ Ok to → Leads next from (x ∷ xs) to
+passed-on next number from to x xs further (Ok state) is went = (state, is, further state went)
+passed-on next number from to x xs further (Err fault) is went = let no : ⊥ = cc in absurd no
 
 -- what a refused pass says of its first card
 first-of : {S X : Type 0} (next : S → X → Result S Fault) (number : X → ℕ) (from : S) (x : X) (xs : List X) (r : Refusal) →
@@ -67,3 +91,181 @@ stops-at-first next number from xs r = (
   λ first. ap (λ l. pass next number from l) first.parts
       ∙ refused-there next number from first.state first.before first.after first.here r first.good first.bad first.card,
 )
+
+-- what comes next where there is something, is refused by itself or by what is first
+then_for-refused : {A B : Type 0} (next : A → Result B Refusal) (r : Result A Refusal) (refusal : Refusal) → then_for next r ≡ Err refusal →
+    (r ≡ Err refusal) ⊎ ((a : A) × (r ≡ Ok a) × (next a ≡ Err refusal))
+then_for-refused next (Ok a) refusal refused = inr (a, refl, refused)
+then_for-refused next (Err other) refusal refused = let same : other ≡ refusal = cc in inl (ap (λ q. Err q) same)
+
+then_for-first : {A B : Type 0} (next : A → Result B Refusal) (r : Result A Refusal) (refusal : Refusal) → r ≡ Err refusal → then_for next r ≡ Err refusal
+then_for-first next r refusal is = ap (λ x. then_for next x) is
+
+then_for-next : {A B : Type 0} (next : A → Result B Refusal) (r : Result A Refusal) (a : A) (refusal : Refusal) → r ≡ Ok a → next a ≡ Err refusal →
+    then_for next r ≡ Err refusal
+then_for-next next r a refusal is refused = ap (λ x. then_for next x) is ∙ refused
+
+-- a pass that goes to its end
+passed : {S X : Type 0} (next : S → X → Result S Fault) (number : X → ℕ) (from to : S) (xs : List X) → pass next number from xs ≡ Ok to → Leads next from xs to
+passed next number from to [] went = let same : from ≡ to = cc in same
+passed next number from to (x ∷ xs) went = passed-on next number from to x xs (λ state again. passed next number state to xs again) (next from x) refl went
+
+passes : {S X : Type 0} (next : S → X → Result S Fault) (number : X → ℕ) (from to : S) (xs : List X) → Leads next from xs to → pass next number from xs ≡ Ok to
+passes next number from to [] leads = ap (λ s. Ok s) leads
+passes next number from to (x ∷ xs) (middle, step, good) =
+    ap (λ a. onward (λ s. pass next number s xs) (number x) a) step ∙ passes next number middle to xs good
+
+ended-not : (ended : Bool) (r : Refusal) (found : Found) (refusal : Refusal) → (if ended then Ok found else Err r) ≡ Err refusal →
+    (ended ≡ false) × (refusal ≡ r)
+ended-not true r found refusal refused = let no : ⊥ = cc in absurd no
+ended-not false r found refusal refused = let same : refusal ≡ r = cc in (refl, same)
+
+open-end : (cards : ℕ) (found : Found) (refusal : Refusal) → with_end cards found ≡ Err refusal →
+    (found.ended ≡ false) × (refusal ≡ record { card = cards + 1; fault = NoEnd })
+open-end cards found refusal refused = ended-not found.ended (record { card = cards + 1; fault = NoEnd }) found refusal refused
+
+form-by : (job : List ℕ) (cards : List Card) (refusal : Refusal) →
+    let read : Result Found Refusal = pass (form_card job) (λ card. card.number) unread cards in
+    (read ≡ Err refusal) ⊎ ((found : Found) × (read ≡ Ok found) × (with_end (length cards) found ≡ Err refusal)) →
+    HasFirst (form_card job) (λ card. card.number) unread cards refusal ⊎ LacksEnd job cards refusal
+form-by job cards refusal (inl refused) = inl (has-first (form_card job) (λ card. card.number) unread cards refusal refused)
+form-by job cards refusal (inr (found, read, refused)) =
+    let end = open-end (length cards) found refusal refused in
+    inr (record {
+      found = found;
+      good = passed (form_card job) (λ card. card.number) unread found cards read;
+      endless = end.0;
+      behind = end.1;
+    })
+
+form-stopped : (job : List ℕ) (cards : List Card) (refusal : Refusal) →
+    HasFirst (form_card job) (λ card. card.number) unread cards refusal ⊎ LacksEnd job cards refusal → form_pass job cards ≡ Err refusal
+unfolding form_pass
+form-stopped job cards refusal (inl first) =
+    then_for-first (with_end (length cards)) (pass (form_card job) (λ card. card.number) unread cards) refusal
+    ((stops-at-first (form_card job) (λ card. card.number) unread cards refusal).1 first)
+form-stopped job cards refusal (inr lacks) =
+    then_for-next (with_end (length cards)) (pass (form_card job) (λ card. card.number) unread cards) lacks.found refusal
+    (passes (form_card job) (λ card. card.number) unread lacks.found cards lacks.good)
+    (ap (λ (b : Bool). if b then Ok lacks.found else Err (record { card = length cards + 1; fault = NoEnd })) lacks.endless
+    ∙ ap (λ (q : Refusal). Err q) (sym lacks.behind))
+
+-- the form pass
+pub stops-form : (job : List ℕ) (cards : List Card) → StopsForm job cards
+unfolding form_pass
+stops-form job cards refusal =
+    let number = λ (card : Card). card.number in
+    let read : Result Found Refusal = pass (form_card job) number unread cards in (
+      λ refused. form-by job cards refusal (then_for-refused (with_end (length cards)) read refusal refused),
+      λ stops. form-stopped job cards refusal stops,
+    )
+
+-- the passes in their order
+abbrev after-names : Found → Named → Result Assembly Refusal
+after-names found named = then_for (λ laid. Ok (together found named laid)) (value_pass (table named.symbols) found.lines named.places)
+
+abbrev after-form : Found → Result Assembly Refusal
+after-form found = then_for (λ named. after-names found named) (name_pass found.lines)
+
+last-refused : (found : Found) (named : Named) (r : Result Laid Refusal) (refusal : Refusal) → then_for (λ laid. Ok (together found named laid)) r ≡ Err refusal →
+    r ≡ Err refusal
+last-refused found named (Ok laid) refusal refused = let no : ⊥ = cc in absurd no
+last-refused found named (Err other) refusal refused = let same : other ≡ refusal = cc in ap (λ q. Err q) same
+
+names-by : (job : List ℕ) (refusal : Refusal) (found : Found) → form_pass job (cards_of job) ≡ Ok found →
+    (name_pass found.lines ≡ Err refusal) ⊎ ((named : Named) × (name_pass found.lines ≡ Ok named) × (after-names found named ≡ Err refusal)) →
+    StopsAtNames job refusal ⊎ StopsAtValues job refusal
+names-by job refusal found formed (inl refused) = inl (record { found = found; formed = formed; refused = refused })
+names-by job refusal found formed (inr (named, has_names, refused)) = inr (record {
+  found = found;
+  formed = formed;
+  named = named;
+  has_names = has_names;
+  refused = last-refused found named (value_pass (table named.symbols) found.lines named.places) refusal refused;
+})
+
+order-by : (job : List ℕ) (refusal : Refusal) →
+    (form_pass job (cards_of job) ≡ Err refusal) ⊎ ((found : Found) × (form_pass job (cards_of job) ≡ Ok found) × (after-form found ≡ Err refusal)) →
+    (form_pass job (cards_of job) ≡ Err refusal) ⊎ (StopsAtNames job refusal ⊎ StopsAtValues job refusal)
+order-by job refusal (inl refused) = inl refused
+order-by job refusal (inr (found, formed, refused)) =
+    inr (names-by job refusal found formed (then_for-refused (λ named. after-names found named) (name_pass found.lines) refusal refused))
+
+order-stopped : (job : List ℕ) (refusal : Refusal) →
+    (form_pass job (cards_of job) ≡ Err refusal) ⊎ (StopsAtNames job refusal ⊎ StopsAtValues job refusal) → assembly job ≡ Err refusal
+unfolding assembly
+order-stopped job refusal (inl refused) = then_for-first (λ found. after-form found) (form_pass job (cards_of job)) refusal refused
+order-stopped job refusal (inr (inl at)) =
+    then_for-next (λ found. after-form found) (form_pass job (cards_of job)) at.found refusal at.formed
+    (then_for-first (λ named. after-names at.found named) (name_pass at.found.lines) refusal at.refused)
+order-stopped job refusal (inr (inr at)) =
+    then_for-next (λ found. after-form found) (form_pass job (cards_of job)) at.found refusal at.formed
+    (then_for-next (λ named. after-names at.found named) (name_pass at.found.lines) at.named refusal at.has_names
+    (then_for-first (λ laid. Ok (together at.found at.named laid)) (value_pass (table at.named.symbols) at.found.lines at.named.places) refusal at.refused))
+
+pub stops-in-order : (job : List ℕ) → StopsInOrder job
+unfolding assembly
+stops-in-order job refusal = (
+  λ refused. order-by job refusal (then_for-refused (λ found. after-form found) (form_pass job (cards_of job)) refusal refused),
+  λ stops. order-stopped job refusal stops,
+)
+
+-- ---- the faults of one card in the form pass
+
+unless-fault : {S : Type 0} (o : Option Fault) (r : Result S Fault) → fault_in (unless_faulty o r) ≡ option_or o (fault_in r)
+unless-fault None r = refl
+unless-fault (Some fault) r = refl
+
+or-none : (o : Option Fault) → option_or o None ≡ o
+or-none None = refl
+or-none (Some fault) = refl
+
+built-fault : (b : Bool) (found : Found) → fault_in {A = Found} (if b then Ok found else Err NotYetBuilt) ≡ (if b then None else Some NotYetBuilt)
+built-fault true found = refl
+built-fault false found = refl
+
+asked-fault : (found : Found) (card : ℕ) (o : Option Asked) →
+    fault_in (judged BadControlCard o (λ asked. with_asked found card asked)) ≡ asking_fault o
+asked-fault found card None = refl
+asked-fault found card (Some asked) = built-fault (is_built asked) _
+
+control-fault : (found : Found) (card : ℕ) (text : List ℕ) → fault_in (form_control found card text)
+    ≡ (if found.ended then asking_fault (added found.asked text) else Some BadControlCard)
+unfolding form_control
+control-fault found card text =
+    elim found.ended as (λ b. fault_in (if b then judged BadControlCard (added found.asked text) (λ asked. with_asked found card asked) else Err BadControlCard)
+    ≡ (if b then asking_fault (added found.asked text) else Some BadControlCard)) [
+      | true ↦ asked-fault found card (added found.asked text)
+      | false ↦ refl
+    ]
+
+read-fault : (o : Option Fault) (found : Found) (card : ℕ) (name text : List ℕ) →
+    fault_in (unless_faulty o (mapped (λ s. with_statement found card name s) (statement_of name text))) ≡ option_or o (first_fault (faults_on name text))
+read-fault o found card name text =
+    unless-fault o (mapped (λ s. with_statement found card name s) (statement_of name text))
+    ∙ ap (λ x. option_or o x) (fault-mapped (λ s. with_statement found card name s) (statement_of name text) ∙ card-fault name text)
+
+statement-fault : (found : Found) (card : ℕ) (o : Option Fault) (text : List ℕ) → fault_in (form_statement found card o text)
+    ≡ option_or (if found.ended then Some CardAfterEnd else None) (option_or o (first_fault (faults_on (name_field text) (statement_field text))))
+unfolding form_statement
+statement-fault found card o text =
+    let read : Result Found Fault = unless_faulty o (mapped (λ s. with_statement found card (name_field text) s) (statement_of (name_field text) (statement_field text))) in
+    elim found.ended as (λ b. fault_in (if b then Err CardAfterEnd else read)
+    ≡ option_or (if b then Some CardAfterEnd else None) (option_or o (first_fault (faults_on (name_field text) (statement_field text))))) [
+      | true ↦ refl
+      | false ↦ read-fault o found card (name_field text) (statement_field text)
+    ]
+
+kind-fault : (k : CardKind) (job : List ℕ) (found : Found) (card : Card) →
+    fault_in (unless_faulty (first_fault_of k card.fault) (form_kind k found card.number card.fault (text_in job card))) ≡ form_fault k job found card
+kind-fault Comment job found card = unless-fault card.fault (form_kind Comment found card.number card.fault (text_in job card)) ∙ or-none card.fault
+kind-fault Control job found card =
+    unless-fault card.fault (form_control found card.number (text_in job card))
+    ∙ ap (λ x. option_or card.fault x) (control-fault found card.number (text_in job card))
+kind-fault StatementCard job found card =
+    unless-fault (before_end card.fault) (form_statement found card.number card.fault (text_in job card))
+    ∙ ap (λ x. option_or (before_end card.fault) x) (statement-fault found card.number card.fault (text_in job card))
+
+pub form_card-fault : (job : List ℕ) (found : Found) (card : Card) → fault_in (form_card job found card) ≡ form_fault card.kind job found card
+unfolding form_card
+form_card-fault job found card = kind-fault card.kind job found card

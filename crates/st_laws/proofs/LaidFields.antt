@@ -6,10 +6,10 @@ use Rattle.st_format.specs.Validity.{misfits}
 use Rattle.st_strap.specs.declared.statement.Form.{Form}
 use Rattle.st_asm.specs.Numbers.{holds, capacity, digit_count, magnitude, packed, field_of as laid_bits}
 use Rattle.st_asm.proofs.FieldLemmas.{holds-below}
-use Rattle.st_dec.specs.DigitLists.{bytes, value}
-use Rattle.st_dec.specs.DecimalOperand.{field_value}
+use Rattle.st_dec.specs.DigitLists.{bytes, value, decimal as digits}
+use Rattle.st_dec.specs.DecimalOperand.{field_value, digit_bytes}
 use Rattle.st_laws.specs.LaidNumbers.{IsHeld, IsRead, shape_of, laid}
-use Rattle.st_laws.proofs.LaidDigits.{value-packed}
+use Rattle.st_laws.proofs.LaidDigits.{bytes-packed, value-packed}
 use Rattle.st_laws.proofs.LaidParts.{parts-read}
 
 -- an unsigned field has no minus
@@ -64,3 +64,15 @@ decimal-read form minus negated number offset held decimal =
       no_flags = read.no_flags;
       no_zone = read.no_zone;
     }
+
+-- the bytes of a laid decimal field are the digits of the number
+pub digits-read : (form : Form) (minus negated : Bool) (number offset : ℕ) → IsHeld form minus number → form.decimal ≡ true →
+    let h = shape_of form negated offset in
+    digit_bytes (laid form minus number h) h ≡ digits (digit_count form) number
+digits-read form minus negated number offset held decimal =
+    let read = magnitude-read form minus negated number offset held in
+    let n = digit_count form in
+    let is = ap (λ d. if d then packed form.byte n number else number) decimal in
+    let wide = wide_bytes form.unsigned form.length form.byte
+    (subst (λ d. IsFalse (misfits d form.unsigned form.length form.byte)) decimal held.sizes.fits) in
+    ap (λ m. bytes form.byte n m) (read.same_number ∙ is) ∙ bytes-packed form.byte n number wide

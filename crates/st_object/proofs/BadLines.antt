@@ -9,15 +9,15 @@ use Rattle.st_card.proofs.PieceLemmas.{first_piece}
 use Rattle.st_object.specs.Lines.{spelled, text_of}
 use Rattle.st_object.specs.Draft.{Draft, blank, IsDraft, is_empty, lines_of, is_whole, with_item}
 use Rattle.st_object.specs.Meaning.{item_in}
-use Rattle.st_object.specs.Object.{Program, object_lines, program_of, with_line, finished, unended, end_of, read_from, read_text, lines_in, text_lines, IsFront, IsBadLine}
+use Rattle.st_object.specs.Object.{Program, object_lines, program_of, with_line, finished, unended, end_of, read_from, read_text, lines_in, text_lines, IsObjectText, IsFront, IsBadLine}
 use Rattle.st_object.specs.declared.items.Item.{Item}
 use Rattle.st_object.proofs.LineMeanings.{chained}
 use Rattle.st_object.proofs.LineByLine.{line_kept}
 use Rattle.st_object.proofs.WrittenLines.{text_of-append}
 use Rattle.st_object.proofs.WholeDrafts.{whole_program, whole_words, whole_lines_of}
-use Rattle.st_object.proofs.AcceptedTexts.{blank_draft, line_behind}
+use Rattle.st_object.proofs.AcceptedTexts.{blank_draft, line_behind, accepted}
 use Rattle.st_object.proofs.ProgramLines.{Leads, made_again}
-use Rattle.st_object.proofs.ReadBack.{parted_line, parted-text_of, with_spelled}
+use Rattle.st_object.proofs.ReadBack.{parted_line, parted-text_of, with_spelled, read_back}
 use Rattle.st_object.proofs.Completions.{IsOrderly, blank_orderly, ordered, completed}
 
 -- lines, each with its line end
@@ -200,6 +200,12 @@ is_front d front draft orderly same =
           ∙ (text_of-append (lines_of d) c.more ∙ ap (λ (s : List ℕ). s ++ text_of c.more) same),
     )
 
+-- what is refused is no object text
+never_read : (text : List ℕ) (n : ℕ) → read_text text ≡ Err n → IsObjectText text → ⊥
+never_read text n refused object =
+    let read : read_text text ≡ Ok object.0 = ap (λ (s : List ℕ). read_text s) object.3 ∙ read_back object.0 object.1 object.2 in
+    cc
+
 -- the named line is the first bad one
 pub bad_line : (text : List ℕ) (n : ℕ) → read_text text ≡ Err n → IsBadLine text n
 unfolding read_text
@@ -209,6 +215,7 @@ bad_line text n read =
     let before : n - 1 ≡ bad.good = omega (arith, bad.counted) in
     let next : n ≡ suc bad.good = omega (arith, bad.counted) in
     record {
+      none = never_read text n read;
       counted = (omega (arith, bad.counted), omega (arith, bad.counted, bad.within));
       good_before = subst (λ (k : ℕ). IsFront (closed (take k lines))) (sym before)
           (is_front bad.last (closed (take bad.good lines)) bad.draft bad.orderly bad.before);
@@ -216,3 +223,42 @@ bad_line text n read =
           not_front (take n lines) (taken_lines n lines (lines_in_lines (parted 10 text) (parted_lines text)))
           (subst (λ (k : ℕ). add_lines blank (take k lines) ≡ None) (sym next) (bad.bad (omega (arith, inside, next)))) front;
     }
+
+-- the first lines of lines
+fewer_lines : (n k : ℕ) (lines : List (List ℕ)) → n ≤ k → (rest : List ℕ) × (closed (take k lines) ≡ closed (take n lines) ++ rest)
+fewer_lines zero k lines less = (closed (take k lines), refl)
+fewer_lines (suc n) zero lines less = absurd (omega (arith, less))
+fewer_lines (suc n) (suc k) [] less = ([], refl)
+fewer_lines (suc n) (suc k) (line ∷ more) less =
+    let later = fewer_lines n k more (omega (arith, less)) in (
+      later.0,
+      ap (λ (s : List ℕ). (line ++ lf) ++ s) later.1 ∙ sym (append_assoc (line ++ lf) (closed (take n more)) later.0),
+    )
+
+-- what begins a text with which an object text begins
+shorter_front : (front rest whole : List ℕ) → whole ≡ front ++ rest → IsFront whole → IsFront front
+shorter_front front rest whole cut is =
+    (is.0, is.1, is.2, rest ++ is.3, is.4 ∙ (ap (λ (s : List ℕ). s ++ is.3) cut ∙ append_assoc front rest is.3))
+
+-- no line before the bad one is bad
+none_earlier : (text : List ℕ) (n m : ℕ) → IsBadLine text n → IsBadLine text m → n < m → ⊥
+none_earlier text n m bad later before =
+    let cut = fewer_lines n (m - 1) (text_lines text) (omega (arith, before)) in
+    bad.bad (omega (arith, before, later.counted.1))
+    (shorter_front (closed (take n (text_lines text))) cut.0 (closed (take (m - 1) (text_lines text))) cut.1 later.good_before)
+
+one_bad_line : (text : List ℕ) (n m : ℕ) → IsBadLine text n → IsBadLine text m → m ≡ n
+one_bad_line text n m first second =
+    let not_before : n < m → ⊥ = none_earlier text n m first second in
+    let not_behind : m < n → ⊥ = none_earlier text m n second first in
+    grind (arith, not_before, not_behind)
+
+-- a text that has a bad line is refused there
+pub refused_there : (text : List ℕ) (n : ℕ) → IsBadLine text n → read_text text ≡ Err n
+refused_there text n bad =
+    let step : (r : Result Program ℕ) → read_text text ≡ r → r ≡ Err n =
+    λ r. elim r as (λ v. read_text text ≡ v → v ≡ Err n) [
+      | Ok p ↦ λ read. let is = accepted text p read in absurd (bad.none (p, is.program, is.words, is.same))
+      | Err m ↦ λ read. ap refusal (one_bad_line text n m bad (bad_line text m read))
+    ] in
+    step (read_text text) refl

@@ -95,9 +95,14 @@ abbrev pub IsFront : List ℕ → Type 0
 IsFront front = (p : Program) × IsProgram p × AreWords p.words
     × (rest : List ℕ) × (object_text p ≡ front ++ rest)
 
--- the bad line of a text: the first after which the lines so far begin no object text; where the text
--- ends too early, the line behind the last
+-- the text of some program
+abbrev pub IsObjectText : List ℕ → Type 0
+IsObjectText text = (p : Program) × IsProgram p × AreWords p.words × (text ≡ object_text p)
+
+-- the bad line of a text that is no object text: the first after which the lines so far begin none; where the
+-- text ends too early, the line behind the last
 pub record IsBadLine (text : List ℕ) (n : ℕ) : Type 0 where
+  pub none : IsObjectText text → ⊥
   pub counted : (1 ≤ n) × (n ≤ length (text_lines text) + 1)
   pub good_before : IsFront (first_lines (n - 1) text)
   pub bad : n ≤ length (text_lines text) → IsFront (first_lines n text) → ⊥

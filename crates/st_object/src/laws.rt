@@ -32,8 +32,9 @@ pub fn written_texts_are_read_back()
     ensures { (p : Program) → IsProgram p → AreWords p.words → read_text (object_text p) ≡ Ok p }
 {}
 
-/// A text that is refused has as its bad line the first after which its lines so far begin no
-/// object text, or where it ends too early the line behind its last.
+/// A text is refused exactly where it is no object text, and with its bad line: the first after which
+/// its lines so far begin no object text, or where it ends too early the line behind its last.
 pub fn refused_texts_have_a_bad_line()
-    ensures { (text : List ℕ) (n : ℕ) → read_text text ≡ Err n → IsBadLine text n }
+    ensures named { (text : List ℕ) (n : ℕ) → read_text text ≡ Err n → IsBadLine text n }
+    ensures only { (text : List ℕ) (n : ℕ) → IsBadLine text n → read_text text ≡ Err n }
 {}

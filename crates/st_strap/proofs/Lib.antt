@@ -2,3 +2,4 @@ pub mod TableBounds
 pub mod FieldLemmas
 pub mod ReadLemmas
 pub mod StatementLemmas
+pub mod FaultLemmas

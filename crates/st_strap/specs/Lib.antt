@@ -6,4 +6,5 @@ pub mod Describing
 pub mod Forming
 pub mod Reading
 pub mod Saying
+pub mod Faults
 pub mod WellFormed

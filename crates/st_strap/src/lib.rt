@@ -5,11 +5,13 @@ mod descriptions;
 mod field;
 mod fields;
 mod forms;
+mod laws;
 mod operations;
 mod parts;
 mod reading;
 mod shapes;
 mod statement;
 
+pub use laws::the_first_fault_of_the_list_counts;
 pub use reading::read_statement;
 pub use statement::{Form, Spot, Statement};

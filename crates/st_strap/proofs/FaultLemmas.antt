@@ -1,0 +1,458 @@
+-- The first fault of a statement card is the one that counts.
+use Rattle.std.proofs.Common.{◌≡◌, ◌≤◌, ◌<◌, ◌||◌, ℕ, zero, suc, Bool, true, false, nat_lt, nat_le, List, [], ◌∷◌, ◌++◌, length, drop, replicate, Option, Some, None, is_none, Result, Ok, Err, refl, ap, sym, ◌∙◌, arith, if◌then◌else◌}
+use Rattle.std.specs.List.{list_any, zip}
+use Rattle.std.specs.Option.{option_map, ok_or}
+use Rattle.std.proofs.lemmas.Bool.Decides.{nat_tests}
+use Rattle.arrayvec.specs.ArrayVec.{ArrayVec}
+use Rattle.st_card.specs.Cards.{first_fault}
+use Rattle.st_card.specs.Number.{is_filled}
+use Rattle.st_card.specs.Tables.{row_of}
+use Rattle.st_card.specs.declared.faults.Fault.{Fault}
+use Rattle.st_card.specs.declared.faults.Fault.TheVariants.{BadName, UnknownOperation, BadDataDescription, BadProgressive, BadFieldCount, BadExpression, BadIndex, NumberTooLarge}
+use Rattle.st_card.specs.declared.numbers.Reading.{Reading}
+use Rattle.st_card.specs.declared.numbers.Reading.TheVariants.{Bad, Large, Good}
+use Rattle.st_expr.specs.Expression.{parts, any_bad, any_large, terms_of, expr_of}
+use Rattle.st_expr.specs.declared.terms.Term.{Term}
+use Rattle.st_strap.specs.Order.{earlier, both_of, mapped, judged}
+use Rattle.st_strap.specs.Text.{clean, begins_with, behind_word}
+use Rattle.st_strap.specs.Forming.{behind_description}
+use Rattle.st_strap.specs.Reading.{front, index_part, index_fields, index_parts, index_field, index_of, spot, unindexed, expression, number_in, number_of, plain_number, signed_of, signed_number, with_selected, selected}
+use Rattle.st_strap.specs.Saying.{index_alone, spot_alone, expression_alone, number_alone, index_and_spot, index_and_list, operand, two_addresses, spot_and_number, address_and_number, two_addresses_and_number, refill_and_flags, count_and_refill, index_word, without_fields, with_fields, is_misnamed, formed, said, clean_statement_of, statement_of}
+use Rattle.st_strap.specs.Faults.{Wanted, an_index_word, an_address, a_plain_address, a_number, a_signed_number, wanted_by, miscounts, plain, without_sign, is_bad, is_large, lacks_expression, lacks_index, is_past, any_field, named_in, described_in, progressed_in, fields_in, has_bad_progressive, field_faults, faults_behind, faults_on, wanted_in, fault_in}
+use Rattle.st_strap.specs.declared.statement.Form.{Form}
+use Rattle.st_strap.specs.declared.operations.Operation.{Operation}
+use Rattle.st_strap.specs.declared.operations.Operation.TheVariants.{Half, Sum, Refill, Execute, Branch, Bare, Floating, Vfl, Connect, Move, BitBranch, IndBranch, StoreCounter, Transfer, Data, IndexWord, Synonym, SetLocation, Reserve, End}
+use Rattle.st_strap.specs.declared.statement.Statement.{Statement}
+
+-- the first of the faults that fields may have
+abbrev pub first-of : Bool → Bool → Bool → Bool → Option Fault
+first-of c e i l = first_fault ((c, BadFieldCount) ∷ (e, BadExpression) ∷ (i, BadIndex) ∷ (l, NumberTooLarge) ∷ [])
+
+-- the earlier of two faults, where there are any
+abbrev pub earliest : Option Fault → Option Fault → Option Fault
+earliest None b = b
+earliest (Some a) None = Some a
+earliest (Some a) (Some b) = Some (earlier a b)
+
+pub first-joined : (c e i l d f j m : Bool) →
+    earliest (first-of c e i l) (first-of d f j m) ≡ first-of (c || d) (e || f) (i || j) (l || m)
+first-joined true e i l true f j m = refl
+first-joined true e i l false true j m = refl
+first-joined true e i l false false true m = refl
+first-joined true e i l false false false true = refl
+first-joined true e i l false false false false = refl
+first-joined false true i l true f j m = refl
+first-joined false true i l false true j m = refl
+first-joined false true i l false false true m = refl
+first-joined false true i l false false false true = refl
+first-joined false true i l false false false false = refl
+first-joined false false true l true f j m = refl
+first-joined false false true l false true j m = refl
+first-joined false false true l false false true m = refl
+first-joined false false true l false false false true = refl
+first-joined false false true l false false false false = refl
+first-joined false false false true true f j m = refl
+first-joined false false false true false true j m = refl
+first-joined false false false true false false true m = refl
+first-joined false false false true false false false true = refl
+first-joined false false false true false false false false = refl
+first-joined false false false false true f j m = refl
+first-joined false false false false false true j m = refl
+first-joined false false false false false false true m = refl
+first-joined false false false false false false false true = refl
+first-joined false false false false false false false false = refl
+
+beside-index : (b l i : Bool) → earliest (first-of false b false l) (first-of false false i false) ≡ first-of false b i l
+beside-index true true true = refl
+beside-index true true false = refl
+beside-index true false true = refl
+beside-index true false false = refl
+beside-index false true true = refl
+beside-index false true false = refl
+beside-index false false true = refl
+beside-index false false false = refl
+
+pub fault-both : {A B : Type 0} (a : Result A Fault) (b : Result B Fault) →
+    fault_in (both_of a b) ≡ earliest (fault_in a) (fault_in b)
+fault-both (Ok a) (Ok b) = refl
+fault-both (Ok a) (Err g) = refl
+fault-both (Err f) (Ok b) = refl
+fault-both (Err f) (Err g) = refl
+
+pub fault-mapped : {A B : Type 0} (f : A → B) (r : Result A Fault) → fault_in (mapped f r) ≡ fault_in r
+fault-mapped f (Ok a) = refl
+fault-mapped f (Err e) = refl
+
+filled : (c : ℕ) (cs : List ℕ) → is_filled (c ∷ cs) ≡ true
+filled c cs = grind (arith, nat_tests)
+
+-- the fault of a field as it is wanted
+abbrev pub field-fault : Wanted → List ℕ → Option Fault
+field-fault wanted field = first-of false (lacks_expression wanted field) (lacks_index wanted field) (is_past wanted field)
+
+-- ---- each kind of field
+
+row-fault : (o : Option ℕ) → fault_in (ok_or o BadIndex) ≡ first-of false false (is_none o) false
+row-fault None = refl
+row-fault (Some n) = refl
+
+pub index-fault : (field : List ℕ) → fault_in (index_field field) ≡ field-fault an_index_word field
+unfolding index_field
+index-fault field = row-fault (row_of field index_fields)
+
+must-fault : (must : Bool) → fault_in {A = ℕ} (if must then Err BadIndex else Ok 0) ≡ first-of false false must false
+must-fault true = refl
+must-fault false = refl
+
+part-fault : (must : Bool) (part : List ℕ) → fault_in (index_of must part)
+    ≡ first-of false false (if is_filled part then is_none (row_of part index_parts) else must) false
+unfolding index_of
+part-fault must [] = must-fault must
+part-fault must (c ∷ cs) =
+    row-fault (row_of (c ∷ cs) index_parts)
+    ∙ ap (λ b. first-of false false (if b then is_none (row_of (c ∷ cs) index_parts) else must) false) (sym (filled c cs))
+
+tests-fault : {A : Type 0} (b l : Bool) (a : A) →
+    fault_in (if b then Err BadExpression else (if l then Err NumberTooLarge else Ok a)) ≡ first-of false b false l
+tests-fault true l a = refl
+tests-fault false true a = refl
+tests-fault false false a = refl
+
+expr-fault : (text : List ℕ) → fault_in (expr_of text) ≡ first-of false (any_bad (parts text)) false (any_large (parts text))
+expr-fault text = tests-fault {A = ArrayVec Term} (any_bad (parts text)) (any_large (parts text)) (record { items = terms_of (parts text) })
+
+pub address-fault : (must : Bool) (field : List ℕ) → fault_in (spot must field) ≡ field-fault (an_address must) field
+unfolding spot
+address-fault must field =
+    fault-mapped _ (both_of (expr_of (front field)) (index_of must (index_part field)))
+    ∙ (fault-both (expr_of (front field)) (index_of must (index_part field))
+    ∙ (ap (λ x. earliest x (fault_in (index_of must (index_part field)))) (expr-fault (front field))
+    ∙ (ap (λ x. earliest (first-of false (any_bad (parts (front field))) false (any_large (parts (front field)))) x) (part-fault must (index_part field))
+    ∙ beside-index (any_bad (parts (front field))) (any_large (parts (front field))) (lacks_index (an_address must) field))))
+
+-- an index part in excess
+excess : {A : Type 0} (c : ℕ) (cs : List ℕ) (value : Result A Fault) →
+    fault_in (unindexed (c ∷ cs) value) ≡ earliest (fault_in value) (Some BadIndex)
+excess c cs (Ok a) = refl
+excess c cs (Err e) = refl
+
+unindexed-fault : {A : Type 0} (part : List ℕ) (value : Result A Fault) (b l : Bool) → fault_in value ≡ first-of false b false l →
+    fault_in (unindexed part value) ≡ first-of false b (is_filled part) l
+unindexed-fault [] value b l is = is
+unindexed-fault (c ∷ cs) value b l is =
+    excess c cs value
+    ∙ (ap (λ x. earliest x (Some BadIndex)) is
+    ∙ (beside-index b l true ∙ ap (λ i. first-of false b i l) (sym (filled c cs))))
+
+pub plain_address-fault : (field : List ℕ) → fault_in (expression field) ≡ field-fault a_plain_address field
+unfolding expression
+plain_address-fault field = unindexed-fault (index_part field) (expr_of (front field)) _ _ (expr-fault (front field))
+
+reading-fault : (r : Reading) → fault_in (number_in r) ≡ first-of false (is_bad r) false (is_large r)
+reading-fault Bad = refl
+reading-fault Large = refl
+reading-fault (Good n) = refl
+
+plain-fault : (text : List ℕ) → fault_in (number_of text) ≡ first-of false (is_bad (plain text)) false (is_large (plain text))
+unfolding number_of
+plain-fault text = reading-fault (plain text)
+
+pub number-fault : (field : List ℕ) → fault_in (plain_number field) ≡ field-fault a_number field
+unfolding plain_number
+number-fault field = unindexed-fault (index_part field) (number_of (front field)) _ _ (plain-fault (front field))
+
+signs-fault : (minus plus : Bool) (text : List ℕ) →
+    fault_in {A = Bool × ℕ} (if minus then mapped (λ n. (true, n)) (number_of (drop 1 text))
+    else (if plus then mapped (λ n. (false, n)) (number_of (drop 1 text)) else mapped (λ n. (false, n)) (number_of text)))
+    ≡ fault_in (number_of (if minus || plus then drop 1 text else text))
+signs-fault true plus text = fault-mapped {B = Bool × ℕ} (λ n. (true, n)) (number_of (drop 1 text))
+signs-fault false true text = fault-mapped {B = Bool × ℕ} (λ n. (false, n)) (number_of (drop 1 text))
+signs-fault false false text = fault-mapped {B = Bool × ℕ} (λ n. (false, n)) (number_of text)
+
+sign-fault : (text : List ℕ) →
+    fault_in (signed_of text) ≡ first-of false (is_bad (plain (without_sign text))) false (is_large (plain (without_sign text)))
+unfolding signed_of
+sign-fault text = signs-fault (begins_with 45 text) (begins_with 43 text) text ∙ plain-fault (without_sign text)
+
+pub signed_number-fault : (field : List ℕ) → fault_in (signed_number field) ≡ field-fault a_signed_number field
+unfolding signed_number
+signed_number-fault field = unindexed-fault (index_part field) (signed_of (front field)) _ _ (sign-fault (front field))
+
+-- ---- several fields
+
+-- the earliest fault of fields as they are wanted
+abbrev pub fields-fault : List (Wanted × List ℕ) → Option Fault
+fields-fault [] = None
+fields-fault (p ∷ ps) = earliest (field-fault p.0 p.1) (fields-fault ps)
+
+pub any-fault : (ps : List (Wanted × List ℕ)) → fields-fault ps
+    ≡ first-of false (list_any (λ p. lacks_expression p.0 p.1) ps) (list_any (λ p. lacks_index p.0 p.1) ps) (list_any (λ p. is_past p.0 p.1) ps)
+any-fault [] = refl
+any-fault (p ∷ ps) =
+    ap (λ x. earliest (field-fault p.0 p.1) x) (any-fault ps)
+    ∙ first-joined false (lacks_expression p.0 p.1) (lacks_index p.0 p.1) (is_past p.0 p.1)
+    false (list_any (λ p. lacks_expression p.0 p.1) ps) (list_any (λ p. lacks_index p.0 p.1) ps) (list_any (λ p. is_past p.0 p.1) ps)
+
+-- the first fault of fields, their count among them
+abbrev pub counted : List Wanted × List Wanted → List (List ℕ) → Option Fault
+counted wanted fields = first-of (miscounts wanted fields) (any_field lacks_expression wanted fields)
+    (any_field lacks_index wanted fields) (any_field is_past wanted fields)
+
+further-below : (a b : ℕ) → nat_lt (suc a) (suc b) ≡ nat_lt a b
+further-below a b = grind (arith, nat_tests)
+
+further-test : (n a b : ℕ) → (nat_lt (suc n) (suc a) || nat_lt (suc b) (suc n)) ≡ (nat_lt n a || nat_lt b n)
+further-test n a b = rw (further-below n a, further-below b n) refl
+
+too-many : (wanted : List Wanted × List Wanted) (fields : List (List ℕ)) → length (wanted.0 ++ wanted.1) < length fields →
+    Some BadFieldCount ≡ counted wanted fields
+too-many wanted fields more =
+    let most = length (wanted.0 ++ wanted.1) in
+    let above : nat_lt most (length fields) ≡ true = grind (arith, nat_tests) in
+    let either : miscounts wanted fields ≡ true =
+    elim (nat_lt (length fields) (length wanted.0)) as (λ b. (b || nat_lt most (length fields)) ≡ true) [ true ↦ refl | false ↦ above ] in
+    ap (λ b. first-of b (any_field lacks_expression wanted fields) (any_field lacks_index wanted fields) (any_field is_past wanted fields)) (sym either)
+
+none-behind : (x : Option Fault) → earliest x None ≡ x
+none-behind None = refl
+none-behind (Some f) = refl
+
+-- a field more
+one-more : (k : Wanted) (field : List ℕ) (ks ms : List Wanted) (fields : List (List ℕ)) →
+    earliest (field-fault k field) (counted (ks, ms) fields) ≡ counted (k ∷ ks, ms) (field ∷ fields)
+one-more k field ks ms fields =
+    first-joined false (lacks_expression k field) (lacks_index k field) (is_past k field)
+    (miscounts (ks, ms) fields) (any_field lacks_expression (ks, ms) fields) (any_field lacks_index (ks, ms) fields) (any_field is_past (ks, ms) fields)
+    ∙ ap (λ c. first-of c (any_field lacks_expression (k ∷ ks, ms) (field ∷ fields)) (any_field lacks_index (k ∷ ks, ms) (field ∷ fields))
+    (any_field is_past (k ∷ ks, ms) (field ∷ fields))) (sym (further-test (length fields) (length ks) (length (ks ++ ms))))
+
+pair-fault : {A B : Type 0} (a : Result A Fault) (b : Result B Fault) (k : Wanted) (field : List ℕ) (ks ms : List Wanted)
+    (fields : List (List ℕ)) → fault_in a ≡ field-fault k field → fault_in b ≡ counted (ks, ms) fields →
+    fault_in (both_of a b) ≡ counted (k ∷ ks, ms) (field ∷ fields)
+pair-fault a b k field ks ms fields first rest =
+    fault-both a b
+    ∙ (ap (λ x. earliest x (fault_in b)) first
+    ∙ (ap (λ x. earliest (field-fault k field) x) rest ∙ one-more k field ks ms fields))
+
+one-fault : {A : Type 0} (a : Result A Fault) (k : Wanted) (field : List ℕ) → fault_in a ≡ field-fault k field →
+    fault_in a ≡ counted (k ∷ [], []) (field ∷ [])
+one-fault a k field is = is ∙ (sym (none-behind (field-fault k field)) ∙ one-more k field [] [] [])
+
+-- ---- the fields of each kind of operation
+
+index_alone-fault : (fields : List (List ℕ)) → fault_in (index_alone fields) ≡ counted (an_index_word ∷ [], []) fields
+unfolding index_alone
+index_alone-fault [] = refl
+index_alone-fault (j ∷ []) = one-fault (index_field j) an_index_word j (index-fault j)
+index_alone-fault (j ∷ k ∷ more) = too-many (an_index_word ∷ [], []) (j ∷ k ∷ more) (omega arith)
+
+spot_alone-fault : (fields : List (List ℕ)) → fault_in (spot_alone fields) ≡ counted (an_address false ∷ [], []) fields
+unfolding spot_alone
+spot_alone-fault [] = refl
+spot_alone-fault (a ∷ []) = one-fault (spot false a) (an_address false) a (address-fault false a)
+spot_alone-fault (a ∷ b ∷ more) = too-many (an_address false ∷ [], []) (a ∷ b ∷ more) (omega arith)
+
+expression_alone-fault : (fields : List (List ℕ)) → fault_in (expression_alone fields) ≡ counted (a_plain_address ∷ [], []) fields
+unfolding expression_alone
+expression_alone-fault [] = refl
+expression_alone-fault (a ∷ []) = one-fault (expression a) a_plain_address a (plain_address-fault a)
+expression_alone-fault (a ∷ b ∷ more) = too-many (a_plain_address ∷ [], []) (a ∷ b ∷ more) (omega arith)
+
+number_alone-fault : (fields : List (List ℕ)) → fault_in (number_alone fields) ≡ counted (a_signed_number ∷ [], []) fields
+unfolding number_alone
+number_alone-fault [] = refl
+number_alone-fault (a ∷ []) = one-fault (signed_number a) a_signed_number a (signed_number-fault a)
+number_alone-fault (a ∷ b ∷ more) = too-many (a_signed_number ∷ [], []) (a ∷ b ∷ more) (omega arith)
+
+index_and_spot-fault : (fields : List (List ℕ)) → fault_in (index_and_spot fields) ≡ counted (an_index_word ∷ an_address false ∷ [], []) fields
+unfolding index_and_spot
+index_and_spot-fault [] = refl
+index_and_spot-fault (a ∷ []) = refl
+index_and_spot-fault (a ∷ b ∷ []) = pair-fault (index_field a) (spot false b) an_index_word a (an_address false ∷ []) [] (b ∷ [])
+    (index-fault a) (one-fault (spot false b) (an_address false) b (address-fault false b))
+index_and_spot-fault (a ∷ b ∷ c ∷ more) = too-many (an_index_word ∷ an_address false ∷ [], []) (a ∷ b ∷ c ∷ more) (omega arith)
+
+two_addresses-fault : (fields : List (List ℕ)) → fault_in (two_addresses fields) ≡ counted (an_address false ∷ a_plain_address ∷ [], []) fields
+unfolding two_addresses
+two_addresses-fault [] = refl
+two_addresses-fault (a ∷ []) = refl
+two_addresses-fault (a ∷ b ∷ []) = pair-fault (spot false a) (expression b) (an_address false) a (a_plain_address ∷ []) [] (b ∷ [])
+    (address-fault false a) (one-fault (expression b) a_plain_address b (plain_address-fault b))
+two_addresses-fault (a ∷ b ∷ c ∷ more) = too-many (an_address false ∷ a_plain_address ∷ [], []) (a ∷ b ∷ c ∷ more) (omega arith)
+
+spot_and_number-fault : (fields : List (List ℕ)) → fault_in (spot_and_number fields) ≡ counted (an_address false ∷ a_number ∷ [], []) fields
+unfolding spot_and_number
+spot_and_number-fault [] = refl
+spot_and_number-fault (a ∷ []) = refl
+spot_and_number-fault (a ∷ b ∷ []) = pair-fault (spot false a) (plain_number b) (an_address false) a (a_number ∷ []) [] (b ∷ [])
+    (address-fault false a) (one-fault (plain_number b) a_number b (number-fault b))
+spot_and_number-fault (a ∷ b ∷ c ∷ more) = too-many (an_address false ∷ a_number ∷ [], []) (a ∷ b ∷ c ∷ more) (omega arith)
+
+address_and_number-fault : (fields : List (List ℕ)) → fault_in (address_and_number fields) ≡ counted (a_plain_address ∷ a_number ∷ [], []) fields
+unfolding address_and_number
+address_and_number-fault [] = refl
+address_and_number-fault (a ∷ []) = refl
+address_and_number-fault (a ∷ b ∷ []) = pair-fault (expression a) (plain_number b) a_plain_address a (a_number ∷ []) [] (b ∷ [])
+    (plain_address-fault a) (one-fault (plain_number b) a_number b (number-fault b))
+address_and_number-fault (a ∷ b ∷ c ∷ more) = too-many (a_plain_address ∷ a_number ∷ [], []) (a ∷ b ∷ c ∷ more) (omega arith)
+
+two_addresses_and_number-fault : (fields : List (List ℕ)) →
+    fault_in (two_addresses_and_number fields) ≡ counted (an_address false ∷ a_plain_address ∷ a_number ∷ [], []) fields
+unfolding two_addresses_and_number
+two_addresses_and_number-fault [] = refl
+two_addresses_and_number-fault (a ∷ more) = pair-fault (spot false a) (address_and_number more) (an_address false) a (a_plain_address ∷ a_number ∷ []) [] more
+    (address-fault false a) (address_and_number-fault more)
+
+operand-fault : (form : Form) (fields : List (List ℕ)) →
+    fault_in (operand form fields) ≡ counted (an_address (nat_le 2 form.p) ∷ [], a_number ∷ []) fields
+unfolding operand
+operand-fault form [] = refl
+operand-fault form (a ∷ []) = pair-fault {B = ℕ} (spot (nat_le 2 form.p) a) (Ok 0) (an_address (nat_le 2 form.p)) a [] (a_number ∷ []) []
+    (address-fault (nat_le 2 form.p) a) refl
+operand-fault form (a ∷ b ∷ []) = pair-fault (spot (nat_le 2 form.p) a) (plain_number b) (an_address (nat_le 2 form.p)) a [] (a_number ∷ []) (b ∷ [])
+    (address-fault (nat_le 2 form.p) a) (one-fault (plain_number b) a_number b (number-fault b))
+operand-fault form (a ∷ b ∷ c ∷ more) = too-many (an_address (nat_le 2 form.p) ∷ [], a_number ∷ []) (a ∷ b ∷ c ∷ more) (omega arith)
+
+refill_and_flags-fault : (fields : List (List ℕ)) → fault_in (refill_and_flags fields) ≡ counted (a_plain_address ∷ [], a_number ∷ []) fields
+unfolding refill_and_flags
+refill_and_flags-fault [] = refl
+refill_and_flags-fault (a ∷ []) = pair-fault {B = ℕ} (expression a) (Ok 0) a_plain_address a [] (a_number ∷ []) [] (plain_address-fault a) refl
+refill_and_flags-fault (a ∷ b ∷ []) = pair-fault (expression a) (plain_number b) a_plain_address a [] (a_number ∷ []) (b ∷ [])
+    (plain_address-fault a) (one-fault (plain_number b) a_number b (number-fault b))
+refill_and_flags-fault (a ∷ b ∷ c ∷ more) = too-many (a_plain_address ∷ [], a_number ∷ []) (a ∷ b ∷ c ∷ more) (omega arith)
+
+count_and_refill-fault : (fields : List (List ℕ)) →
+    fault_in (count_and_refill fields) ≡ counted (a_number ∷ a_plain_address ∷ [], a_number ∷ []) fields
+unfolding count_and_refill
+count_and_refill-fault [] = refl
+count_and_refill-fault (a ∷ more) = pair-fault (plain_number a) (refill_and_flags more) a_number a (a_plain_address ∷ []) (a_number ∷ []) more
+    (number-fault a) (refill_and_flags-fault more)
+
+index_word-fault : (fields : List (List ℕ)) →
+    fault_in (index_word fields) ≡ counted (a_plain_address ∷ a_number ∷ a_plain_address ∷ [], a_number ∷ []) fields
+unfolding index_word
+index_word-fault [] = refl
+index_word-fault (a ∷ more) = pair-fault (expression a) (count_and_refill more) a_plain_address a (a_number ∷ a_plain_address ∷ []) (a_number ∷ []) more
+    (plain_address-fault a) (count_and_refill-fault more)
+
+without_fields-fault : (statement : Statement) (fields : List (List ℕ)) → fault_in (without_fields statement fields) ≡ counted ([], []) fields
+unfolding without_fields
+without_fields-fault statement [] = refl
+without_fields-fault statement (a ∷ more) = too-many ([], []) (a ∷ more) (omega arith)
+
+-- an index word put to a list
+listed-fault : (a b : Result ℕ Fault) (i r : Bool) → fault_in a ≡ first-of false false i false → fault_in b ≡ first-of false false r false →
+    fault_in (with_selected a b) ≡ first-of false false (i || r) false
+listed-fault (Ok j) (Ok list) false false first rest = refl
+listed-fault (Ok j) (Ok list) false true first rest = let no : ⊥ = cc in absurd no
+listed-fault (Ok j) b true r first rest = let no : ⊥ = cc in absurd no
+listed-fault (Ok j) (Err e) false true first rest = refl
+listed-fault (Ok j) (Err e) false false first rest = let no : ⊥ = cc in absurd no
+listed-fault (Err e) b true r first rest = refl
+listed-fault (Err e) b false r first rest = let no : ⊥ = cc in absurd no
+
+abbrev none-such : List (List ℕ) → Bool
+none-such fields = list_any (λ field. is_none (row_of field index_fields)) fields
+
+selected-fault : (fields : List (List ℕ)) → fault_in (selected fields) ≡ first-of false false (none-such fields) false
+selected-fault [] = refl
+selected-fault (field ∷ more) = listed-fault (index_field field) (selected more) (is_none (row_of field index_fields)) (none-such more)
+    (index-fault field) (selected-fault more)
+
+-- the earliest fault of index words
+index_words-fault : (n : ℕ) (fields : List (List ℕ)) → length fields ≤ n →
+    fields-fault (zip (replicate n an_index_word) fields) ≡ first-of false false (none-such fields) false
+index_words-fault zero [] few = refl
+index_words-fault (suc n) [] few = refl
+index_words-fault zero (field ∷ more) few = let no : ⊥ = omega (arith, few) in absurd no
+index_words-fault (suc n) (field ∷ more) few =
+    ap (λ x. earliest (field-fault an_index_word field) x) (index_words-fault n more (omega (arith, few)))
+    ∙ first-joined false false (is_none (row_of field index_fields)) false false false (none-such more) false
+
+-- fields of which there are neither too few nor too many
+right-count : (wanted : List Wanted × List Wanted) (fields : List (List ℕ)) → miscounts wanted fields ≡ false →
+    fields-fault (zip (wanted.0 ++ wanted.1) fields) ≡ counted wanted fields
+right-count wanted fields right =
+    any-fault (zip (wanted.0 ++ wanted.1) fields)
+    ∙ ap (λ c. first-of c (any_field lacks_expression wanted fields) (any_field lacks_index wanted fields) (any_field is_past wanted fields)) (sym right)
+
+few-listed : (n : ℕ) → nat_le n 14 ≡ true → (nat_lt (suc n) 1 || nat_lt 15 (suc n)) ≡ false
+few-listed n few =
+    let some : nat_lt (suc n) 1 ≡ false = grind (arith, nat_tests) in
+    let room : nat_lt 15 (suc n) ≡ false = grind (arith, nat_tests) in
+    rw (some, room) refl
+
+index_and_list-fault : (fields : List (List ℕ)) →
+    fault_in (index_and_list fields) ≡ counted (replicate 2 an_index_word, replicate 14 an_index_word) fields
+unfolding index_and_list
+index_and_list-fault [] = refl
+index_and_list-fault (j ∷ []) = refl
+index_and_list-fault (j ∷ k ∷ ks) =
+    let wanted : List Wanted × List Wanted = (replicate 2 an_index_word, replicate 14 an_index_word) in
+    let step : (b : Bool) → nat_le (length ks) 14 ≡ b →
+    fault_in (if b then both_of (index_field j) (selected (k ∷ ks)) else Err BadFieldCount) ≡ counted wanted (j ∷ k ∷ ks) =
+    λ b. elim b as (λ v. nat_le (length ks) 14 ≡ v →
+    fault_in (if v then both_of (index_field j) (selected (k ∷ ks)) else Err BadFieldCount) ≡ counted wanted (j ∷ k ∷ ks)) [
+      | true ↦ λ few. pair-fault (index_field j) (selected (k ∷ ks)) an_index_word j (an_index_word ∷ []) (replicate 14 an_index_word) (k ∷ ks)
+          (index-fault j)
+          (selected-fault (k ∷ ks)
+          ∙ (sym (index_words-fault 15 (k ∷ ks) (grind (arith, nat_tests)))
+          ∙ right-count (an_index_word ∷ [], replicate 14 an_index_word) (k ∷ ks) (few-listed (length ks) few)))
+      | false ↦ λ many. too-many wanted (j ∷ k ∷ ks) (grind (arith, nat_tests))
+    ] in
+    step (nat_le (length ks) 14) refl
+
+-- ---- the whole card
+
+fields-of-fault : (op : Operation) (form : Form) (fields : List (List ℕ)) → fault_in (with_fields op form fields) ≡ counted (wanted_by op form) fields
+unfolding with_fields
+fields-of-fault (Half op) form fields = fault-mapped _ (index_and_spot fields) ∙ index_and_spot-fault fields
+fields-of-fault Sum form fields = fault-mapped _ (index_and_list fields) ∙ index_and_list-fault fields
+fields-of-fault Refill form fields = fault-mapped _ (index_alone fields) ∙ index_alone-fault fields
+fields-of-fault Execute form fields = fault-mapped _ (spot_alone fields) ∙ spot_alone-fault fields
+fields-of-fault (Branch op) form fields = fault-mapped _ (spot_alone fields) ∙ spot_alone-fault fields
+fields-of-fault (Bare op) form fields = without_fields-fault _ fields
+fields-of-fault (Floating number) form fields = fault-mapped _ (spot_alone fields) ∙ spot_alone-fault fields
+fields-of-fault (Vfl op negated) form fields = fault-mapped _ (operand form fields) ∙ operand-fault form fields
+fields-of-fault (Connect kind table) form fields = fault-mapped _ (operand form fields) ∙ operand-fault form fields
+fields-of-fault (Move swap) form fields = fault-mapped _ (two_addresses_and_number fields) ∙ two_addresses_and_number-fault fields
+fields-of-fault (BitBranch sense change) form fields = fault-mapped _ (two_addresses fields) ∙ two_addresses-fault fields
+fields-of-fault (IndBranch sense off) form fields = fault-mapped _ (two_addresses fields) ∙ two_addresses-fault fields
+fields-of-fault StoreCounter form fields = fault-mapped _ (two_addresses fields) ∙ two_addresses-fault fields
+fields-of-fault (Transfer write) form fields = fault-mapped _ (spot_and_number fields) ∙ spot_and_number-fault fields
+fields-of-fault Data form fields = fault-mapped _ (number_alone fields) ∙ number_alone-fault fields
+fields-of-fault IndexWord form fields = fault-mapped _ (index_word fields) ∙ index_word-fault fields
+fields-of-fault Synonym form fields = fault-mapped _ (expression_alone fields) ∙ expression_alone-fault fields
+fields-of-fault SetLocation form fields = fault-mapped _ (expression_alone fields) ∙ expression_alone-fault fields
+fields-of-fault Reserve form fields = fault-mapped _ (expression_alone fields) ∙ expression_alone-fault fields
+fields-of-fault End form fields = fault-mapped _ (expression_alone fields) ∙ expression_alone-fault fields
+
+progressed-fault : (p : Option Form) (op : Operation) (fields : List (List ℕ)) →
+    fault_in (judged BadProgressive p (λ f. with_fields op f fields))
+    ≡ first_fault ((is_none p, BadProgressive) ∷ field_faults (option_map (λ f. wanted_by op f) p) fields)
+progressed-fault None op fields = refl
+progressed-fault (Some form) op fields = fields-of-fault op form fields
+
+described-fault : (m : Option (Operation × Form)) (text : List ℕ) →
+    fault_in (judged BadDataDescription m (λ d. formed d.0 d.1 (behind_description text)))
+    ≡ first_fault ((is_none m, BadDataDescription) ∷ (has_bad_progressive text m, BadProgressive) ∷ field_faults (wanted_in text m) (fields_in text))
+unfolding formed
+described-fault None text = refl
+described-fault (Some d) text = progressed-fault (progressed_in text d) d.0 (fields_in text)
+
+said-fault : (op : Operation) (text : List ℕ) → fault_in (said op text) ≡ first_fault (faults_behind (Some op) text)
+unfolding said
+said-fault op text = described-fault (described_in text op) text
+
+named-fault : (b : Bool) (o : Option Operation) (text : List ℕ) →
+    fault_in (if b then Err BadName else judged UnknownOperation o (λ op. said op text))
+    ≡ first_fault ((b, BadName) ∷ (is_none o, UnknownOperation) ∷ faults_behind o text)
+named-fault true o text = refl
+named-fault false None text = refl
+named-fault false (Some op) text = said-fault op text
+
+-- the fault of a card is the first that it has
+pub card-fault : (name text : List ℕ) → fault_in (statement_of name text) ≡ first_fault (faults_on name text)
+unfolding clean_statement_of
+card-fault name text =
+    let op = named_in (clean text) in named-fault (is_misnamed name op) op (behind_word (clean text))

@@ -1,0 +1,156 @@
+-- The faults that a statement card has, each told by itself, and the list in which the first one counts.
+use Rattle.std.specs.Prelude.{ℕ, ◌||◌, Bool, true, false, nat_le, nat_lt, List, [], ◌∷◌, ◌++◌, length, drop, replicate, Option, None, Some, is_none, Result, Ok, Err, if◌then◌else◌}
+use Rattle.std.specs.List.{list_any, zip}
+use Rattle.std.specs.Option.{option_map, option_and_then, option_map_or}
+use Rattle.st_card.specs.Number.{is_filled, reading}
+use Rattle.st_card.specs.Tables.{row_of}
+use Rattle.st_card.specs.declared.faults.Fault.{Fault}
+use Rattle.st_card.specs.declared.faults.Fault.TheVariants.{BadName, UnknownOperation, BadDataDescription, BadProgressive, BadFieldCount, BadExpression, BadIndex, NumberTooLarge}
+use Rattle.st_card.specs.declared.numbers.Reading.{Reading}
+use Rattle.st_card.specs.declared.numbers.Reading.TheVariants.{Bad, Large, Good}
+use Rattle.st_expr.specs.Expression.{parts, any_bad, any_large}
+use Rattle.st_strap.specs.Text.{clean, begins_with, word_of, behind_word, behind_group, fields_of}
+use Rattle.st_strap.specs.Table.{operation_of}
+use Rattle.st_strap.specs.Describing.{description_of, described}
+use Rattle.st_strap.specs.Forming.{description_in, behind_description, progressed}
+use Rattle.st_strap.specs.Reading.{front, index_part, index_fields, index_parts}
+use Rattle.st_strap.specs.Saying.{is_misnamed}
+use Rattle.st_strap.specs.declared.statement.Form.{Form}
+use Rattle.st_strap.specs.declared.operations.Operation.{Operation}
+use Rattle.st_strap.specs.declared.operations.Operation.TheVariants.{Half, Sum, Refill, Execute, Branch, Bare, Floating, Vfl, Connect, Move, BitBranch, IndBranch, StoreCounter, Transfer, Data, IndexWord, Synonym, SetLocation, Reserve, End}
+
+-- what a field is to be: an index word, an address that may have an index part or must have one, an address
+-- without one, a number, or a number with a sign or none
+pub data Wanted : Type 0 where
+  an_index_word : Wanted
+  an_address : Bool → Wanted
+  a_plain_address : Wanted
+  a_number : Wanted
+  a_signed_number : Wanted
+
+-- the fields of an operation with its form: those that must stand, and behind them those that may
+abbrev pub wanted_by : Operation → Form → List Wanted × List Wanted
+wanted_by (Half op) form = (an_index_word ∷ an_address false ∷ [], [])
+wanted_by Sum form = (replicate 2 an_index_word, replicate 14 an_index_word)
+wanted_by Refill form = (an_index_word ∷ [], [])
+wanted_by Execute form = (an_address false ∷ [], [])
+wanted_by (Branch op) form = (an_address false ∷ [], [])
+wanted_by (Bare op) form = ([], [])
+wanted_by (Floating number) form = (an_address false ∷ [], [])
+wanted_by (Vfl op negated) form = (an_address (nat_le 2 form.p) ∷ [], a_number ∷ [])
+wanted_by (Connect kind table) form = (an_address (nat_le 2 form.p) ∷ [], a_number ∷ [])
+wanted_by (Move swap) form = (an_address false ∷ a_plain_address ∷ a_number ∷ [], [])
+wanted_by (BitBranch sense change) form = (an_address false ∷ a_plain_address ∷ [], [])
+wanted_by (IndBranch sense off) form = (an_address false ∷ a_plain_address ∷ [], [])
+wanted_by StoreCounter form = (an_address false ∷ a_plain_address ∷ [], [])
+wanted_by (Transfer write) form = (an_address false ∷ a_number ∷ [], [])
+wanted_by Data form = (a_signed_number ∷ [], [])
+wanted_by IndexWord form = (a_plain_address ∷ a_number ∷ a_plain_address ∷ [], a_number ∷ [])
+wanted_by Synonym form = (a_plain_address ∷ [], [])
+wanted_by SetLocation form = (a_plain_address ∷ [], [])
+wanted_by Reserve form = (a_plain_address ∷ [], [])
+wanted_by End form = (a_plain_address ∷ [], [])
+
+-- whether there are too few fields or too many
+abbrev pub miscounts : List Wanted × List Wanted → List (List ℕ) → Bool
+miscounts wanted fields =
+    nat_lt (length fields) (length wanted.0) || nat_lt (length (wanted.0 ++ wanted.1)) (length fields)
+
+-- what a text says as a plain number below 2^64, and without the sign before it
+abbrev pub plain : List ℕ → Reading
+plain text = reading 18446744073709551615 text
+
+abbrev pub without_sign : List ℕ → List ℕ
+without_sign text = if begins_with 45 text || begins_with 43 text then drop 1 text else text
+
+-- whether a text is no number, and whether it is one that is too large
+abbrev pub is_bad : Reading → Bool
+is_bad Bad = true
+is_bad Large = false
+is_bad (Good n) = false
+
+abbrev pub is_large : Reading → Bool
+is_large Bad = false
+is_large Large = true
+is_large (Good n) = false
+
+-- whether what is to be an expression or a number is none
+abbrev pub lacks_expression : Wanted → List ℕ → Bool
+lacks_expression an_index_word field = false
+lacks_expression (an_address must) field = any_bad (parts (front field))
+lacks_expression a_plain_address field = any_bad (parts (front field))
+lacks_expression a_number field = is_bad (plain (front field))
+lacks_expression a_signed_number field = is_bad (plain (without_sign (front field)))
+
+-- whether what is to be an index word is none, an index part is missing or none, or stands where none may
+abbrev pub lacks_index : Wanted → List ℕ → Bool
+lacks_index an_index_word field = is_none (row_of field index_fields)
+lacks_index (an_address must) field =
+    if is_filled (index_part field) then is_none (row_of (index_part field) index_parts) else must
+lacks_index _ field = is_filled (index_part field)
+
+-- whether a number is past the most that may stand in its place
+abbrev pub is_past : Wanted → List ℕ → Bool
+is_past an_index_word field = false
+is_past (an_address must) field = any_large (parts (front field))
+is_past a_plain_address field = any_large (parts (front field))
+is_past a_number field = is_large (plain (front field))
+is_past a_signed_number field = is_large (plain (without_sign (front field)))
+
+-- whether a test holds of one of the fields as it is wanted
+abbrev pub any_field : (Wanted → List ℕ → Bool) → List Wanted × List Wanted → List (List ℕ) → Bool
+any_field test wanted fields = list_any (λ p. test p.0 p.1) (zip (wanted.0 ++ wanted.1) fields)
+
+-- the operation of a statement; that and the form which the data description makes of it; and with the
+-- progressive form
+abbrev pub named_in : List ℕ → Option Operation
+named_in statement = operation_of (word_of statement)
+
+abbrev pub described_in : List ℕ → Operation → Option (Operation × Form)
+described_in text op = option_and_then (described op) (description_of (description_in text))
+
+abbrev pub progressed_in : List ℕ → Operation × Form → Option Form
+progressed_in text d = progressed d.0 d.1 (behind_description text)
+
+abbrev pub fields_in : List ℕ → List (List ℕ)
+fields_in text = fields_of (behind_group (behind_description text))
+
+-- the faults that a description has behind an operation
+abbrev pub has_bad_description : List ℕ → Option Operation → Bool
+has_bad_description text op = option_map_or (λ o. is_none (described_in text o)) op false
+
+-- the faults that a progressive form has behind that
+abbrev pub has_bad_progressive : List ℕ → Option (Operation × Form) → Bool
+has_bad_progressive text meant = option_map_or (λ d. is_none (progressed_in text d)) meant false
+
+-- the fields that are wanted behind both
+abbrev pub wanted_in : List ℕ → Option (Operation × Form) → Option (List Wanted × List Wanted)
+wanted_in text meant =
+    option_and_then (λ d. option_map (λ form. wanted_by d.0 form) (progressed_in text d)) meant
+
+-- the faults of fields, in the order in which they count
+abbrev pub field_faults : Option (List Wanted × List Wanted) → List (List ℕ) → List (Bool × Fault)
+field_faults wanted fields =
+    (option_map_or (λ w. miscounts w fields) wanted false, BadFieldCount)
+    ∷ (option_map_or (λ w. any_field lacks_expression w fields) wanted false, BadExpression)
+    ∷ (option_map_or (λ w. any_field lacks_index w fields) wanted false, BadIndex)
+    ∷ (option_map_or (λ w. any_field is_past w fields) wanted false, NumberTooLarge) ∷ []
+
+-- the faults of an operation with the text behind it
+abbrev pub faults_behind : Option Operation → List ℕ → List (Bool × Fault)
+faults_behind op text = let meant = option_and_then (described_in text) op in
+    (has_bad_description text op, BadDataDescription)
+    ∷ (has_bad_progressive text meant, BadProgressive)
+    ∷ field_faults (wanted_in text meant) (fields_in text)
+
+-- all faults of a card with a name and a text: whether it has each, in the order in which they count
+abbrev pub faults_on : List ℕ → List ℕ → List (Bool × Fault)
+faults_on name text = let statement = clean text in let op = named_in statement in
+    (is_misnamed name op, BadName)
+    ∷ (is_none op, UnknownOperation)
+    ∷ faults_behind op (behind_word statement)
+
+-- the fault that a reading ends with
+abbrev pub fault_in : {A : Type 0} → Result A Fault → Option Fault
+fault_in (Ok a) = None
+fault_in (Err fault) = Some fault
