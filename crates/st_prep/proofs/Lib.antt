@@ -11,3 +11,4 @@ pub mod PlanLemmas
 pub mod ReadingLemmas
 pub mod AlikeLemmas
 pub mod CountLemmas
+pub mod GivenLemmas
