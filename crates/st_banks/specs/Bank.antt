@@ -1,11 +1,23 @@
 -- The banks of storage: which words are in each, and until when it is busy.
-use Rattle.std.specs.Prelude.{ℕ, ◌≡◌, ◌+◌, ◌%◌, nat_lt, nat_le, if◌then◌else◌, List, length, replicate, slice_index, slice_set, Option, None, Some}
-use Rattle.st_banks.specs.Delay.{IsDelayList, delay}
-use Rattle.st_banks.specs.declared.banks.TheConstants.{BANKS}
+use Rattle.std.specs.Prelude.{ℕ, ◌≡◌, ◌+◌, ◌%◌, max, nat_lt, nat_le, if◌then◌else◌, List, length, replicate, slice_index, slice_set, Option, None, Some}
+use Rattle.st_banks.specs.Delay.{IsDelayList, answer_tick}
+use Rattle.st_banks.specs.declared.answers.TheConstants.{BANKS}
 
 -- the bank of a word: the first 65,536 words lie in four banks in turn, the others in two
 unfoldable pub bank_of : ℕ → ℕ
 bank_of w = if nat_lt w 65536 then w % 4 else 4 + w % 2
+
+-- of the last answers of all banks, by their numbers, that of the bank that the word is in
+abbrev pub last_of : List ℕ → ℕ → ℕ
+last_of answers w = slice_index answers (bank_of w)
+
+-- the tick at which a read of the word is accepted that can be made from the tick on and is wanted from the want on
+abbrev pub accept_tick : List ℕ → ℕ → ℕ → ℕ → ℕ
+accept_tick answers w tick want = max (max tick want) (last_of answers w)
+
+-- the last answers after a read of the word that is answered at the tick
+abbrev pub answered_at : List ℕ → ℕ → ℕ → List ℕ
+answered_at answers w tick = slice_set answers (bank_of w) tick
 
 -- the delay list, and the tick at which each bank gives or gave its last answer, 0 before its first read
 pub record BankTimes : Type 0 where
@@ -23,13 +35,13 @@ unread list = record { delays = list; answers = replicate BANKS 0 }
 
 -- the last answer of the bank that the word is in
 abbrev pub last_answer : BankTimes → ℕ → ℕ
-last_answer m w = slice_index m.answers (bank_of w)
+last_answer m w = last_of m.answers w
 
 -- the tick at which a read of the word is answered, if its bank accepts it at the tick: that is, if it is no longer busy
 abbrev pub accepted : BankTimes → ℕ → ℕ → Option ℕ
-accepted m w tick = if nat_le (last_answer m w) tick then Some (tick + delay m.delays tick) else None
+accepted m w tick = if nat_le (last_answer m w) tick then Some (answer_tick m.delays tick) else None
 
 -- the banks after that: an answer is the last one of the bank, and where there is none nothing has changed
 abbrev pub after_read : BankTimes → ℕ → Option ℕ → BankTimes
-after_read m w (Some answer) = record m { answers = slice_set m.answers (bank_of w) answer }
+after_read m w (Some answer) = record m { answers = answered_at m.answers w answer }
 after_read m w None = m

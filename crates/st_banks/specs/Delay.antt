@@ -1,5 +1,5 @@
 -- How long a read takes.
-use Rattle.std.specs.Prelude.{ℕ, ◌≡◌, ◌≤◌, ◌%◌, ◌==◌, List, length, All, slice_index, Option, None, Some, Result, Ok, Err}
+use Rattle.std.specs.Prelude.{ℕ, ◌≡◌, ◌≤◌, ◌+◌, ◌%◌, ◌==◌, List, length, All, slice_index, Option, None, Some, Result, Ok, Err}
 use Rattle.std.specs.List.{position}
 use Rattle.st_banks.specs.declared.delays.DelayError.{DelayError}
 use Rattle.st_banks.specs.declared.delays.DelayError.TheVariants.{ZeroDelay, NoMemory}
@@ -16,6 +16,10 @@ pub record IsDelayList (list : List ℕ) : Type 0 where
 -- the delay of a read that is accepted at the tick: the list is gone round, one entry a tick
 abbrev pub delay : List ℕ → ℕ → ℕ
 delay list tick = slice_index list (tick % length list)
+
+-- the tick at which such a read is answered
+abbrev pub answer_tick : List ℕ → ℕ → ℕ
+answer_tick list tick = tick + delay list tick
 
 -- the place of the first entry that is zero
 abbrev pub first_zero : List ℕ → Option ℕ

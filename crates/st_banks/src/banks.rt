@@ -1,34 +1,28 @@
 ghost use Rattle.std.specs.Prelude.{◌≡◌, ◌+◌, ◌≤◌, ◌<◌, ◌^◌, IfSome};
 ghost use Rattle.st_bits.specs.Storage.{words_of_storage};
-ghost use Rattle.st_banks.specs.Bank.{bank_of as bank_of_word};
 
+use crate::answers::LastAnswers;
 use crate::delays::Delays;
 use std::marker::Model;
-
-/// The number of banks.
-pub const BANKS: usize = 6;
-
-/// The number of words that lie in the first four banks.
-const LOW_WORDS: u32 = 65_536;
 
 /// The banks of storage with the delays of their reads. Contracts see the list of delays, and for each bank the tick
 /// of its last answer, 0 before its first read.
 #[derive(Drop)]
 pub struct Banks {
     delays: Delays,
-    answers: [u64; BANKS],
+    answers: LastAnswers,
 }
 
 impl Model for Banks {
     ghost use Rattle.std.specs.Prelude.{◌≡◌, length};
     ghost use Rattle.st_banks.specs.Bank.{BankTimes};
-    ghost use Rattle.st_banks.specs.declared.banks.TheConstants.{BANKS};
+    ghost use Rattle.st_banks.specs.declared.answers.TheConstants.{BANKS};
 
     ghost Value = { BankTimes };
 
-    ghost view = { λ a. record { delays = a.delays; answers = a.answers } };
+    ghost view = { λ a. record { delays = a.delays; answers = a.answers.ticks } };
 
-    ghost invariant = { λ a. length a.answers ≡ BANKS };
+    ghost invariant = { λ a. length a.answers.ticks ≡ BANKS };
 }
 
 impl Banks {
@@ -40,7 +34,7 @@ impl Banks {
     {
         Banks {
             delays,
-            answers: [0; BANKS],
+            answers: LastAnswers::new(),
         }
     }
 
@@ -55,7 +49,7 @@ impl Banks {
     pub fn last_answer(&self, w: u32) -> u64
         ensures { result ≡ last_answer_of self.now w }
     {
-        self.answers[bank_of(w)]
+        self.answers.of(w)
     }
 
     /// Reads the word `w`, a word address from 32 to 98,303, at `tick`, which is below 2^63. The result is the tick at which the bank answers;
@@ -71,21 +65,8 @@ impl Banks {
         if self.last_answer(w) > tick {
             return None;
         }
-        let answer = tick + u64::from(self.delays.at(tick));
-        self.answers[bank_of(w)] = answer;
+        let answer = self.delays.answer(tick);
+        self.answers = self.answers.after(w, answer);
         Some(answer)
-    }
-}
-
-/// The bank of the word `w`.
-#[tactic(auto, unfolding(crate::specs::Bank::bank_of))]
-fn bank_of(w: u32) -> usize
-    ensures value { result ≡ bank_of_word w }
-    ensures bound { result < BANKS }
-{
-    if w < LOW_WORDS {
-        (w % 4) as usize
-    } else {
-        4 + (w % 2) as usize
     }
 }

@@ -1,4 +1,4 @@
-ghost use Rattle.std.specs.Prelude.{◌≡◌, ◌<◌, ◌≤◌, length, All, IfSome, IfNone};
+ghost use Rattle.std.specs.Prelude.{◌≡◌, ◌+◌, ◌<◌, ◌≤◌, ◌^◌, length, All, IfSome, IfNone};
 ghost use Rattle.st_banks.specs.Delay.{delay, first_zero as place_of_zero};
 
 use std::alloc::Global;
@@ -31,7 +31,7 @@ impl Model for Delays {
 }
 
 impl Delays {
-    ghost use Rattle.st_banks.specs.Delay.{IsAnswer, IsDelayList};
+    ghost use Rattle.st_banks.specs.Delay.{IsAnswer, IsDelayList, answer_tick};
 
     /// The delays of the list, which has 1 to 4,096 entries. A list with a zero is refused before memory is asked for.
     pub fn new(alloc: Global, list: &[u8]) -> Result<Delays, DelayError>
@@ -64,6 +64,16 @@ impl Delays {
         ensures most { result ≤ 255 }
     {
         self.list[(tick % self.list.len() as u64) as usize]
+    }
+
+    /// The tick, 1 to 255 later, at which a read is answered that is accepted at `tick`, which is below 2^63.
+    pub fn answer(&self, tick: u64) -> u64
+        requires early { tick < 2 ^ 63 }
+        ensures value { result ≡ answer_tick self.now tick }
+        ensures later { tick < result }
+        ensures most { result ≤ tick + 255 }
+    {
+        tick + u64::from(self.at(tick))
     }
 }
 

@@ -2,13 +2,18 @@
 //! `docs/timetable.md` has the rules.
 #![tactic(auto, using(st_bits::specs::Storage::words_of_storage_is))]
 
+mod answers;
 mod banks;
 mod delays;
 mod laws;
 
-pub use banks::{BANKS, Banks};
+pub use answers::{BANKS, LastAnswers};
+pub use banks::Banks;
 pub use delays::{DelayError, Delays};
-pub use laws::{delays_are_bounded, reads_keep_their_bank_busy, words_lie_in_banks};
+pub use laws::{
+    delays_are_bounded, reads_are_accepted_at_their_tick, reads_keep_their_bank_busy,
+    words_lie_in_banks,
+};
 
 #[cfg(test)]
 mod tests;

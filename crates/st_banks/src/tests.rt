@@ -80,3 +80,20 @@ fn reads_over_the_six_banks(rt: HostRuntime) -> Result<(), Fail> {
     );
     Ok(())
 }
+
+/// The first read is accepted at once, the second one waits for its bank, the third one for its want.
+#[test]
+fn reads_are_accepted_at_the_greatest_of_three_ticks(rt: HostRuntime) -> Result<(), Fail> {
+    let delays = three_and_five(rt.alloc())?;
+    let none = LastAnswers::new();
+    assert_eq!(rt; (none.accept_tick(32, 0, 0), delays.answer(0)), (0, 3));
+    let first = none.after(32, 3);
+    assert_eq!(rt; (first.accept_tick(36, 1, 0), delays.answer(3)), (3, 8));
+    let second = first.after(36, 8);
+    assert_eq!(rt;
+        (second.accept_tick(33, 4, 7), second.accept_tick(33, 9, 7)),
+        (7, 9)
+    );
+    assert_eq!(rt; (second.of(32), second.of(33)), (8, 0));
+    Ok(())
+}

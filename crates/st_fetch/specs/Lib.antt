@@ -1,2 +1,3 @@
 pub mod HeldWords
+pub mod Planned
 pub mod Queue

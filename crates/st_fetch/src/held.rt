@@ -1,7 +1,9 @@
-ghost use Rattle.std.specs.Prelude.{◌≡◌, ◌≤◌, [], length, false, true};
+ghost use Rattle.std.specs.Prelude.{◌≡◌, ◌≤◌, [], length, false, true, if◌then◌else◌, ◌==◌, Some};
 ghost use Rattle.st_fetch.specs.HeldWords.{is_held, requested, answered, answer_of, found, patched};
+ghost use Rattle.st_fetch.specs.Planned.{with_its_content};
 
-use arrayvec::ArrayVec;
+use crate::contents::Contents;
+use crate::fetched::{Fetched, HeldWords};
 use std::marker::Model;
 
 /// A held instruction word.
@@ -13,59 +15,36 @@ pub struct Held {
     pub answer: Option<(u64, u64)>,
 }
 
-impl Held {
-    ghost use Rattle.st_fetch.specs.HeldWords.{changed_at, with_answer, with_content};
-
-    /// The same with an answer, if it is the word `w`.
-    fn answered(self, w: u32, word: u64, tick: u64) -> Held
-        ensures { result ≡ changed_at w (with_answer word tick) self }
-    {
-        if self.w == w {
-            Held {
-                w,
-                answer: Some((word, tick)),
-            }
-        } else {
-            self
-        }
-    }
-
-    /// The same with new content, if it is the word `w` and answered.
-    fn patched(self, w: u32, word: u64) -> Held
-        ensures { result ≡ changed_at w (with_content word) self }
-    {
-        match self.answer {
-            Some((_, tick)) if self.w == w => Held {
-                w,
-                answer: Some((word, tick)),
-            },
-            _ => self,
-        }
-    }
-}
-
 /// The instruction words that were asked for last, at most four. Contracts see their list, the oldest request first.
 #[derive(Drop)]
 pub struct Hold {
-    words: ArrayVec<Held, 4>,
+    words: HeldWords,
+    contents: Contents,
+    len: usize,
 }
 
 impl Model for Hold {
-    ghost use Rattle.std.specs.Prelude.{List};
+    ghost use Rattle.std.specs.Prelude.{List, ◌≡◌, ◌≤◌, length};
     ghost use Rattle.st_fetch.specs.declared.held.Held.{Held};
+    ghost use Rattle.st_fetch.specs.Planned.{oldest_first};
 
     ghost Value = { List Held };
 
-    ghost view = { λ a. a.words.items };
+    ghost view = { λ a. oldest_first a.len a.words.words a.contents.of };
+
+    ghost invariant = { λ a. (a.len ≤ 4) × (length a.words.words ≡ 4) × (length a.contents.of ≡ 4) };
 }
 
 impl Hold {
     /// No word is held.
+    #[tactic(auto, unfolding(crate::specs::Planned::oldest_first))]
     pub fn new() -> Hold
         ensures { result ≡ [] }
     {
         Hold {
-            words: ArrayVec::new(),
+            words: HeldWords::new(),
+            contents: Contents::new(),
+            len: 0,
         }
     }
 
@@ -73,14 +52,14 @@ impl Hold {
     pub fn shape(&self)
         ensures { length self.now ≤ 4 }
     {
-        let _ = self.words.is_full();
+        let _ = &self.words;
     }
 
     /// Whether the word `w` is held.
     pub fn held(&self, w: u32) -> bool
         ensures { result ≡ is_held self.now w }
     {
-        self.words.iter().any(|held| held.w == w)
+        self.find(w).is_some()
     }
 
     /// Holds the word `w`, which is not held, from now on, without an answer. The word that was asked for longest
@@ -89,10 +68,9 @@ impl Hold {
         requires { is_held self.old w ≡ false }
         ensures { self.new ≡ requested self.old w }
     {
-        if self.words.is_full() {
-            self.words.remove(0);
-        }
-        self.words.push(Held { w, answer: None });
+        self.words = self.words.requested(w, 0);
+        self.contents = self.contents.requested();
+        self.len = (self.len + 1).min(4);
     }
 
     /// The held word `w` is answered at `tick` with the content `word`.
@@ -100,9 +78,8 @@ impl Hold {
         requires { is_held self.old w ≡ true }
         ensures { self.new ≡ answered self.old w word tick }
     {
-        for held in self.words.as_mut_slice() {
-            *held = held.answered(w, word, tick);
-        }
+        self.words = self.words.answered(w, tick);
+        self.contents = self.contents.answered(self.words, w, word);
     }
 
     /// The content of the word `w` and the tick of its answer; None exactly where it is not held or not answered yet.
@@ -116,7 +93,11 @@ impl Hold {
     fn find(&self, w: u32) -> Option<Held>
         ensures { result ≡ found self.now w }
     {
-        self.words.iter().find(|held| held.w == w).copied()
+        let mut here = None;
+        for place in 0..self.len {
+            here = found_next(w, self.words.words[place], self.contents.of[place], here);
+        }
+        here
     }
 
     /// The content `word` is stored into the word `w`: where `w` is held and answered, that is its content from now on. The
@@ -124,15 +105,30 @@ impl Hold {
     pub fn patch(&mut self, w: u32, word: u64)
         ensures { self.new ≡ patched self.old w word }
     {
-        for held in self.words.as_mut_slice() {
-            *held = held.patched(w, word);
-        }
+        self.contents = self.contents.patched(self.words, w, word);
     }
 
     /// Holds no word any more.
+    #[tactic(auto, unfolding(crate::specs::Planned::oldest_first))]
     pub fn forget(&mut self)
         ensures { self.new ≡ [] }
     {
-        self.words.clear();
+        self.len = 0;
     }
+}
+
+/// The word with the content beside it, if it is the word `w`, else what was found before.
+fn found_next(w: u32, fetched: Fetched, content: Option<u64>, before: Option<Held>) -> Option<Held>
+    ensures { result ≡ (if fetched.w == w then Some (with_its_content (fetched, content)) else before) }
+{
+    if fetched.w != w {
+        return before;
+    }
+    Some(match content {
+        Some(word) => Held {
+            w,
+            answer: Some((word, fetched.tick)),
+        },
+        None => Held { w, answer: None },
+    })
 }

@@ -2,10 +2,14 @@
 //! reads that are still to be made. `docs/timetable.md` has the rules.
 #![tactic(auto)]
 
+mod contents;
+mod fetched;
 mod held;
 mod laws;
 mod wants;
 
+pub use contents::Contents;
+pub use fetched::{Fetched, HeldWords};
 pub use held::{Held, Hold};
 pub use laws::{answers_are_known, requests_hold_four, stores_change_content_alone};
 pub use wants::{WANTS, Want, Wants};

@@ -53,6 +53,32 @@ fn a_store_changes_an_answered_word_and_no_tick(rt: HostRuntime) {
     assert_eq!(rt; (hold.word(42), hold.held(43)), (None, false));
 }
 
+/// A plan knows when a word is answered as soon as it is asked for; contents stand beside the words.
+#[test]
+fn planned_words_have_their_ticks_before_their_contents(rt: HostRuntime) {
+    let four = HeldWords::new()
+        .requested(40, 5)
+        .requested(41, 9)
+        .requested(42, 7)
+        .requested(43, 12);
+    let five = four.requested(44, 13);
+    assert_eq!(rt;
+        (four.tick_of(40), four.tick_of(42), four.tick_of(44)),
+        (Some(5), Some(7), None)
+    );
+    assert_eq!(rt;
+        (five.tick_of(40), five.tick_of(42), five.tick_of(44)),
+        (None, Some(7), Some(13))
+    );
+    let answered = Contents::new().answered(four, 42, 70);
+    assert_eq!(rt; answered.of, [None, Some(70), None, None]);
+    let later = answered
+        .requested()
+        .patched(five, 42, 71)
+        .patched(five, 44, 72);
+    assert_eq!(rt; later.of, [None, None, Some(71), None]);
+}
+
 /// The read of the word `w`.
 fn read(w: u32) -> Want {
     Want {

@@ -11,3 +11,5 @@ pub mod PlanLemmas
 pub mod ReadingLemmas
 pub mod AlikeLemmas
 pub mod CountLemmas
+pub mod BesideLemmas
+pub mod FewLemmas

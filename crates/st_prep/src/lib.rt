@@ -9,6 +9,7 @@ mod faults;
 mod fetching;
 mod laws;
 mod outcome;
+mod overlap_laws;
 mod preparation;
 mod runs;
 
@@ -19,6 +20,7 @@ pub use laws::{
     index_side_words_change_index_words_alone, indicators_are_not_seen,
     instruction_words_come_one_by_one, looks_agree, plans_are_in_range,
 };
+pub use overlap_laws::{operands_are_few, orders_are_not_seen};
 pub use preparation::{look, plan, prepare, side_word};
 pub use runs::reads_field;
 

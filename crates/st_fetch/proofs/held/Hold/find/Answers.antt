@@ -1,14 +1,13 @@
-use Rattle.std.proofs.Common.{List, ◌==◌, ap, ◌∙◌, rules, tests}
-use Rattle.std.proofs.lemmas.Iterator.{YieldsList-from_slice}
-use Rattle.std.proofs.lemmas.Iterator.Search.{find_from_yields_List}
-use Rattle.st_fetch.specs.HeldWords.{found}
-use Rattle.st_fetch.specs.declared.held.Held.{Held}
+use Rattle.std.proofs.Common.{refl}
+use Rattle.st_fetch.specs.Planned.{oldest_first}
+use Rattle.st_fetch.proofs.OldestFirst.{found-next}
 use Rattle.st_fetch.proofs.held.Hold.find.Goals as goal
 
--- the items of the vector are those that the chain goes over
-pub returns : goal.returns
-returns c =
-    c.copied.ensures
-    ∙ find_from_yields_List (λ (h : Held). h.w == c.args.w) _ _ c.find.result c.find.ensures.ran
-    (YieldsList-from_slice c.deref.result.now cc) (λ x b q k. search (rules, tests))
-    ∙ ap (λ (hold : List Held). found hold c.args.w) (c.deref.ensures.0 ∙ c.self.view_is)
+pub loop-place-init : goal.loop-place-init
+unfolding oldest_first
+loop-place-init c = refl
+
+pub loop-place-preserved : goal.loop-place-preserved
+loop-place-preserved c =
+    let q = c.self.inside in
+    found-next c.args.w c.loop-place.place q.words.words q.contents.of c.loop-place.here _ c.found_next-here.ensures c.loop-place.invariant

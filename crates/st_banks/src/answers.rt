@@ -1,0 +1,63 @@
+ghost use Rattle.std.specs.Prelude.{◌≡◌, ◌<◌, replicate};
+ghost use Rattle.st_banks.specs.Bank.{bank_of as bank_of_word};
+
+/// The number of banks.
+pub const BANKS: usize = 6;
+
+/// The number of words that lie in the first four banks.
+const LOW_WORDS: u32 = 65_536;
+
+/// The tick of each bank's last answer, 0 before its first read. Contracts see the list of them.
+#[derive(Clone, Copy, Debug, PartialEq, Eq)]
+pub struct LastAnswers {
+    /// The tick of each bank, by its number.
+    pub ticks: [u64; BANKS],
+}
+
+impl LastAnswers {
+    ghost use Rattle.st_banks.specs.Bank.{last_of, accept_tick as accept_tick_of, answered_at};
+
+    /// The last answers before the first read.
+    pub fn new() -> LastAnswers
+        ensures { result.ticks ≡ replicate BANKS 0 }
+    {
+        LastAnswers { ticks: [0; BANKS] }
+    }
+
+    /// The tick of the last answer of the bank that the word `w` is in.
+    pub fn of(self, w: u32) -> u64
+        ensures { result ≡ last_of self.ticks w }
+    {
+        self.ticks[bank_of(w)]
+    }
+
+    /// The tick at which a read of the word `w` is accepted that can be made from `tick` on and is wanted from `want` on: the
+    /// greatest of these two and of its bank's last answer.
+    pub fn accept_tick(self, w: u32, tick: u64, want: u64) -> u64
+        ensures { result ≡ accept_tick_of self.ticks w tick want }
+    {
+        tick.max(want).max(self.of(w))
+    }
+
+    /// The last answers after a read of the word `w` that is answered at `tick`.
+    pub fn after(self, w: u32, tick: u64) -> LastAnswers
+        ensures { result.ticks ≡ answered_at self.ticks w tick }
+    {
+        let mut ticks = self.ticks;
+        ticks[bank_of(w)] = tick;
+        LastAnswers { ticks }
+    }
+}
+
+/// The bank of the word `w`.
+#[tactic(auto, unfolding(crate::specs::Bank::bank_of))]
+fn bank_of(w: u32) -> usize
+    ensures value { result ≡ bank_of_word w }
+    ensures bound { result < BANKS }
+{
+    if w < LOW_WORDS {
+        (w % 4) as usize
+    } else {
+        4 + (w % 2) as usize
+    }
+}

@@ -1,0 +1,7 @@
+use Rattle.std.specs.Option.{is_some}
+use Rattle.std.proofs.Common.{sym, ap, ◌∙◌}
+use Rattle.st_fetch.proofs.OldestFirst.{is_held-found}
+use Rattle.st_fetch.proofs.held.Hold.held.Goals as goal
+
+pub returns : goal.returns
+returns c = c.is_some.ensures ∙ ap is_some c.find.ensures ∙ sym (is_held-found c.args.self.now c.args.w)
