@@ -1,3 +1,4 @@
 pub mod LaidParts
 pub mod LaidDigits
 pub mod LaidFields
+pub mod AgreementLemmas

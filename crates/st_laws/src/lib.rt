@@ -1,6 +1,12 @@
-//! Laws that tie crates which do not know each other: what the assembler lays is what the machine reads.
+//! Laws that tie crates which do not know each other: what the assembler lays is what the machine reads, and a rule that
+//! stands in two crates is one rule.
 #![tactic(auto)]
 
+mod agreement;
 mod numbers;
 
+pub use agreement::{
+    counts_agree, digits_agree, end_blanks_agree, indicators_agree, numbers_agree,
+    sizes_of_storage_agree,
+};
 pub use numbers::laid_numbers_are_read;

@@ -1,0 +1,60 @@
+//! What holds of rules that stand in two crates: they are one rule.
+ghost use Rattle.std.specs.Prelude.{◌≡◌, ◌≤◌, ◌<◌, ◌+◌, ◌*◌, ◌^◌, ◌==◌, ◌&&◌, ◌||◌, nat_le, nat_lt, All, ℕ, List, length, sum, decimal};
+ghost use Rattle.st_text.specs.Blanks.{without_end_blanks};
+ghost use Rattle.st_bits.specs.Bits.{part};
+ghost use Rattle.st_bits.specs.Registers.{fixed};
+ghost use Rattle.st_bits.specs.Storage.{words_of_storage};
+ghost use Rattle.st_bin.specs.Digits.{value_of, digits_of};
+ghost use Rattle.st_bin.specs.Indicators.{is_on as is_on_in_operands};
+ghost use Rattle.st_dec.specs.DigitLists.{bytes, joined, value, decimal as digits};
+ghost use Rattle.st_conn.specs.Connective.{leading_zeros};
+ghost use Rattle.st_state.specs.Interrupts.{is_on};
+ghost use Rattle.st_exec.specs.Outcome.{counts_of};
+ghost use Rattle.st_card.specs.Controls.{number_in as number_on_card};
+ghost use Rattle.st_card.specs.Limits.{is_part};
+ghost use Rattle.st_object.specs.Meaning.{number_in as number_on_line};
+ghost use Rattle.st_asm.specs.Lines.{without_end};
+ghost use Rattle.st_asm.specs.Checks.{in_storage};
+
+/// The digits of a number and their value are the same in binary operations, which see one number of codes of four bits, and
+/// in decimal ones, which see a list of codes.
+pub fn digits_agree()
+    ensures value { (n x : ℕ) → value_of n x ≡ value (bytes 4 n x) }
+    ensures digits { (n v : ℕ) → digits_of n v ≡ joined 4 (digits n v) }
+{}
+
+/// The counts that a connective leaves stand in word 7 where that register keeps bits, each in its place.
+pub fn counts_agree()
+    ensures zeros { (bs : List ℕ) → length bs ≤ 64 → sum bs ≤ 64
+        → part (counts_of bs) 17 7 ≡ leading_zeros bs }
+    ensures ones { (bs : List ℕ) → length bs ≤ 64 → sum bs ≤ 64
+        → part (counts_of bs) 44 7 ≡ sum bs }
+    ensures kept { (bs : List ℕ) → length bs ≤ 64 → sum bs ≤ 64
+        → fixed 7 (counts_of bs) ≡ counts_of bs }
+{}
+
+/// An indicator is on for an operation where it is on for an interrupt.
+pub fn indicators_agree()
+    ensures { (x n : ℕ) → n < 64 → is_on_in_operands x n ≡ is_on x n }
+{}
+
+/// The blanks at the end of a name are those at the end of a printed line.
+pub fn end_blanks_agree()
+    ensures { (text : List ℕ) → without_end text ≡ without_end_blanks text }
+{}
+
+/// What is laid, and what is shown of storage, ends where storage does.
+pub fn sizes_of_storage_agree()
+    ensures shown { (p : ℕ × ℕ) → is_part p ≡ (nat_le p.0 p.1 && nat_lt p.1 words_of_storage) }
+    ensures laid { (place bits : ℕ) → in_storage place bits
+        ≡ (bits == 0 || (nat_le (64 * 32) place && nat_le (place + bits) (64 * words_of_storage))) }
+{}
+
+/// The numbers of control cards are those of the lines of an object text, as far as the one spelling goes that a line has;
+/// with leading zeros too, where they have 12 digits at most.
+pub fn numbers_agree()
+    ensures short { (text : List ℕ) → length text ≤ 12
+        → number_on_card text ≡ number_on_line text }
+    ensures spelled { (n : ℕ) → n < 2 ^ 64
+        → number_on_card (decimal n) ≡ number_on_line (decimal n) }
+{}
