@@ -115,11 +115,11 @@ fn settle(outcome: &Outcome, a: u32, n: u8, state: &mut State)
 
 /// Does a deed.
 #[tactic(auto, unfolding(crate::specs::Deed::done))]
-pub fn carry_out(deed: Deed, state: &mut State)
-    requires { CanBeDone deed }
-    ensures { state.new ≡ done deed state.old }
+pub fn carry_out(deed: &Deed, state: &mut State)
+    requires { CanBeDone deed.now }
+    ensures { state.new ≡ done deed.now state.old }
 {
-    match deed {
+    match *deed {
         Deed::Rest => (),
         Deed::Put { at, length, bits } => state.put_field(at, length, bits),
         Deed::Copy { from, to, count } => copy(from, to, count, state),

@@ -34,7 +34,7 @@ pub enum Fetching {
 }
 
 /// What an entry needs before it can be prepared.
-#[derive(Clone, Copy, Debug, PartialEq, Eq)]
+#[derive(Clone, Copy, Debug, Default, PartialEq, Eq)]
 pub struct Needs {
     /// The word address of its index-side word: the one that changes, or is compared with, an index word.
     pub index_read: Option<u32>,
@@ -53,6 +53,27 @@ pub struct Words {
     pub first2: u32,
     /// The number of its words, 0 to 16.
     pub len2: u8,
+}
+
+/// What an entry is aimed at, found once and then passed on.
+#[derive(Clone, Copy, Debug, PartialEq, Eq)]
+pub struct Aim {
+    /// The instruction that is executed: of EX the target, where it could be fetched.
+    pub instr: Instr,
+    /// The effective address, a bit address below 2^24.
+    pub e: u32,
+    /// The number of half-words that the entry takes: of EX its own, whatever its target.
+    pub halves: u8,
+    /// The index-side word.
+    pub side: Option<u32>,
+    /// The operand words that it reads.
+    pub reads: Words,
+    /// The words that it writes.
+    pub writes: Words,
+    /// The indicator of the first check that it fails.
+    pub fault: Option<u8>,
+    /// Whether it is done alone even where it is suppressed.
+    pub alone: bool,
 }
 
 /// A change of an index word.

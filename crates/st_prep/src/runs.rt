@@ -104,13 +104,13 @@ pub fn reads_field(op: VflOp) -> bool
 
 /// The words that an instruction with the effective address `e` reads, in order.
 #[tactic(auto, unfolding(crate::specs::Entry::reads))]
-pub fn reads(instr: Instr, e: u32) -> Words
-    requires shape { HasFields instr }
+pub fn reads(instr: &Instr, e: u32) -> Words
+    requires shape { HasFields instr.now }
     requires address { e < 2 ^ 24 }
-    ensures value { result ≡ reads_of instr e }
+    ensures value { result ≡ reads_of instr.now e }
     ensures runs { IsRuns result }
 {
-    match instr {
+    match *instr {
         Instr::Vfl { op, p, length, .. } if reads_field(op) => operand_words(p, e, length),
         Instr::Connect { p, length, .. } => operand_words(p, e, length),
         Instr::Move {
@@ -126,13 +126,13 @@ pub fn reads(instr: Instr, e: u32) -> Words
 
 /// The words that an instruction with the effective address `e` writes, in order.
 #[tactic(auto, unfolding(crate::specs::Entry::writes))]
-pub fn writes(instr: Instr, e: u32) -> Words
-    requires shape { HasFields instr }
+pub fn writes(instr: &Instr, e: u32) -> Words
+    requires shape { HasFields instr.now }
     requires address { e < 2 ^ 24 }
-    ensures value { result ≡ writes_of instr e }
+    ensures value { result ≡ writes_of instr.now e }
     ensures runs { IsRuns result }
 {
-    match instr {
+    match *instr {
         Instr::Half { op, .. } if is_index_store(op) => one_run(e / 64, 1),
         Instr::Vfl { op, length, .. } if writes_field(FullOp::Variable(op)) => field_words(
             e, length,
