@@ -1,0 +1,4 @@
+pub mod Fields
+pub mod Counted
+pub mod Spelled
+pub mod Lengths

@@ -1,0 +1,12 @@
+//! The disassembler: a program in storage as a deck that assembles to it. `docs/disassembly.md` has the rules.
+#![tactic(auto)]
+
+mod counting;
+mod disassembling;
+mod names;
+mod pieces;
+mod spelling;
+mod texts;
+mod writing;
+
+pub use disassembling::{DisError, disassemble};
