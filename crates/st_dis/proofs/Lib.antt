@@ -2,3 +2,4 @@ pub mod Fields
 pub mod Counted
 pub mod Spelled
 pub mod Lengths
+pub mod WordRead

@@ -3,3 +3,4 @@ pub mod Texts
 pub mod Spelling
 pub mod Deck
 pub mod Answers
+pub mod Read

@@ -3,6 +3,7 @@
 
 mod counting;
 mod disassembling;
+mod laws;
 mod names;
 mod pieces;
 mod spelling;
@@ -10,3 +11,4 @@ mod texts;
 mod writing;
 
 pub use disassembling::{DisError, disassemble};
+pub use laws::statements_lay_their_word;

@@ -2,3 +2,5 @@ pub mod TableBounds
 pub mod FieldLemmas
 pub mod ReadLemmas
 pub mod StatementLemmas
+pub mod Digits
+pub mod NumberCards

@@ -5,11 +5,13 @@ mod descriptions;
 mod field;
 mod fields;
 mod forms;
+mod laws;
 mod operations;
 mod parts;
 mod reading;
 mod shapes;
 mod statement;
 
+pub use laws::numbers_of_words_are_read;
 pub use reading::read_statement;
 pub use statement::{Form, Spot, Statement};

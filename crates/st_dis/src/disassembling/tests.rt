@@ -1,4 +1,5 @@
 use super::*;
+use itoa::Buffer;
 use st_object::read_object;
 use std::test::Fail;
 
@@ -128,13 +129,27 @@ fn programs_have_their_decks(rt: HostRuntime) -> Result<(), Fail> {
     Ok(())
 }
 
-// How many cards a program is refused with whose first words, so many, are 1: 0 where it has a deck.
-fn cards_refused(alloc: Global, filled: usize) -> Result<u32, Fail> {
-    let mut image = read_object(alloc, PROGRAM)?;
-    for word in image.words.iter_mut().skip(32).take(filled) {
-        *word = 1;
+// The object text of a program whose first words, so many, are 1.
+fn text_of_ones(alloc: Global, filled: u32) -> Result<Vec<u8>, Fail> {
+    let mut text = Vec::new(alloc);
+    text.extend_from_slice(b"OBJECT\nSTART 40.0\n")?;
+    for w in 0..filled {
+        text.extend_from_slice(b"W ")?;
+        text.extend_from_slice(Buffer::new().format(32 + u64::from(w)).as_bytes())?;
+        text.extend_from_slice(b" 0000000000000001\n")?;
     }
-    match disassemble(alloc, image.words.as_slice(), 80, &image.controls) {
+    text.extend_from_slice(b"BUDGET 1\nDELAY 2\nFIN\n")?;
+    Ok(text)
+}
+
+// How many cards that program is refused with: 0 where it has a deck.
+fn cards_refused(alloc: Global, filled: u32) -> Result<u32, Fail> {
+    let text = text_of_ones(alloc, filled)?;
+    if text.len() > 4_000_000 {
+        return Ok(1);
+    }
+    let image = read_object(alloc, text.as_slice())?;
+    match disassemble(alloc, image.words.as_slice(), image.start, &image.controls) {
         Ok(_) => Ok(0),
         Err(DisError::TooManyCards { cards }) => Ok(cards),
         Err(DisError::NoMemory) => Ok(1),

@@ -1,4 +1,4 @@
-use Rattle.std.proofs.Common.{◌≡◌, ◌∙◌, sym}
+use Rattle.std.proofs.Common.{◌∙◌, sym}
 use Rattle.st_strap.proofs.StatementLemmas.{read-is}
 use Rattle.st_asm.proofs.alone.laid_alone.Goals as goal
 

@@ -1,5 +1,4 @@
-use Rattle.std.proofs.Common.{◌≡◌, ◌∙◌, sym, None}
-use Rattle.st_asm.specs.Checks.{value_fault}
+use Rattle.std.proofs.Common.{◌∙◌, sym}
 use Rattle.st_asm.proofs.FaultLemmas.{faultless, first-below, second-below}
 use Rattle.st_asm.proofs.alone.laid_with.Goals as goal
 
