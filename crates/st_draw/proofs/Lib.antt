@@ -2,3 +2,4 @@ pub mod Axes
 pub mod Elements
 pub mod Lines
 pub mod Statuses
+pub mod WellFormedElements

@@ -9,3 +9,4 @@ pub mod Report
 pub mod Terminal
 pub mod Timetable
 pub mod Words
+pub mod WellFormed

@@ -7,6 +7,7 @@ mod drawing;
 mod element;
 mod escape;
 mod label;
+mod laws;
 mod program;
 mod report;
 mod status;
@@ -14,5 +15,6 @@ mod terminal;
 mod timetable;
 mod words;
 
+pub use laws::{elements_are_closed, texts_stay_in_their_elements};
 pub use program::draw;
 pub use status::Status;

@@ -1,0 +1,43 @@
+-- Texts that stay in their elements, and elements that are closed.
+use Rattle.std.proofs.Common.{◌≡◌, inl, inr, ◌<◌, ◌≤◌, ◌∙◌, ℕ, ◌==◌, ◌&&◌, nat_le, Bool, true, false, List, [], ◌∷◌, ◌++◌, if◌then◌else◌, codes, refl, ap, arith, append_assoc}
+use Rattle.std.specs.List.{list_all}
+use Rattle.std.proofs.lemmas.List.Folds.{list_all-append}
+use Rattle.st_draw.specs.Element.{Element, Box, Line, Text, element_text, front, corner, size, ends, content, attribute}
+use Rattle.st_draw.specs.Escape.{escaped, escaped_byte}
+use Rattle.st_draw.specs.WellFormed.{is_inner, are_inner, IsEmpty, IsFull, IsClosed}
+
+-- a byte as it stands in a picture, by the tests on it
+byte_inner : (c : ℕ) (less more also printable : Bool) → (c == 60) ≡ less → (c == 62) ≡ more → (c == 38) ≡ also
+    → (nat_le 32 c && nat_le c 126) ≡ printable → are_inner (escaped_byte c) ≡ true
+byte_inner c true more also printable a b d e = rw a refl
+byte_inner c false true also printable a b d e = rw (a, b) refl
+byte_inner c false false true printable a b d e = rw (a, b, d) refl
+byte_inner c false false false true a b d e = grind (arith, a, b, d, e)
+byte_inner c false false false false a b d e = rw (a, b, d, e) refl
+
+-- a text as it stands in a picture
+pub escaped_inner : (text : List ℕ) → are_inner (escaped text) ≡ true
+escaped_inner [] = refl
+escaped_inner (c ∷ cs) =
+    let here = byte_inner c (c == 60) (c == 62) (c == 38) (nat_le 32 c && nat_le c 126) refl refl refl refl in
+    let there = escaped_inner cs in
+    let both = list_all-append is_inner (escaped_byte c) (escaped cs) in
+    rw (both, here, there) refl
+
+-- each element is closed
+pub element_closed : (e : Element) → IsClosed (element_text e)
+unfolding element_text front content
+element_closed (Box class x y width height) = inl (record {
+  attributes = class ++ codes "\"" ++ corner x y ++ size width height;
+  parts = simp append_assoc refl;
+})
+element_closed (Line class x y x' y') = inr (inl (record {
+  attributes = class ++ codes "\"" ++ ends x y x' y';
+  parts = simp append_assoc refl;
+}))
+element_closed (Text class x y text) = inr (inr (record {
+  attributes = class ++ codes "\"" ++ corner x y;
+  inner = escaped text;
+  parts = grind (arith, append_assoc);
+  harmless = escaped_inner text;
+}))

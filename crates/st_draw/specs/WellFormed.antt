@@ -1,0 +1,27 @@
+-- What holds of every picture: its elements are known ones, each is closed, and no text breaks out of its element.
+use Rattle.std.specs.Prelude.{◌≡◌, ◌⊎◌, ℕ, ◌==◌, ◌&&◌, not, nat_le, Bool, true, List, ◌++◌, codes}
+use Rattle.std.specs.List.{list_all}
+
+-- whether a byte is a printable character that begins or ends no element
+abbrev pub is_inner : ℕ → Bool
+is_inner c = nat_le 32 c && nat_le c 126 && not (c == 60) && not (c == 62)
+
+-- whether a text has such bytes alone
+abbrev pub are_inner : List ℕ → Bool
+are_inner text = list_all is_inner text
+
+-- an element that closes itself
+pub record IsEmpty (name bytes : List ℕ) : Type 0 where
+  pub attributes : List ℕ
+  pub parts : bytes ≡ codes "<" ++ name ++ codes " class=\"" ++ attributes ++ codes "/>\n"
+
+-- an element that has a text, and is closed by its name
+pub record IsFull (name bytes : List ℕ) : Type 0 where
+  pub attributes : List ℕ
+  pub inner : List ℕ
+  pub parts : bytes ≡ codes "<" ++ name ++ codes " class=\"" ++ attributes ++ codes ">" ++ inner ++ codes "</" ++ name ++ codes ">\n"
+  pub harmless : are_inner inner ≡ true
+
+-- one of the known elements, closed
+abbrev pub IsClosed : List ℕ → Type 0
+IsClosed bytes = IsEmpty (codes "rect") bytes ⊎ IsEmpty (codes "line") bytes ⊎ IsFull (codes "text") bytes
