@@ -1,5 +1,5 @@
 -- What is written on the way from one scene to another, one thing after another.
-use Rattle.std.proofs.Common.{◌≡◌, ℕ, ◌+◌, List, [], ◌∷◌, ◌++◌, Bool, true, false, nat_le, length, refl, sym, ◌∙◌, ap, subst, append_assoc, arith, if◌then◌else◌}
+use Rattle.std.proofs.Common.{◌≡◌, ℕ, List, [], ◌∷◌, ◌++◌, Bool, true, false, nat_le, length, refl, sym, ◌∙◌, ap, subst, append_assoc, arith, if◌then◌else◌}
 use Rattle.std.proofs.lemmas.List.{append-nil}
 use Rattle.std.specs.Prelude.{Option, None, Some, is_none, IfSome, Result, Ok, Err, IsErr, MatchOption}
 use Rattle.st_card.specs.Controls.{Asked}

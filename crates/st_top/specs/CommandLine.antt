@@ -1,5 +1,6 @@
 -- The words of a command line as the arguments of a program.
 use Rattle.std.specs.Prelude.{ℕ, ◌==◌, Bool, true, false, not, codes, List, [], ◌∷◌, Option, None, Some, option_and_then}
+use Rattle.st_text.specs.Bytes.{minus_sign}
 use Rattle.clap.specs.Words.{App, new_app, new_rule, with_rule}
 use Rattle.clap.specs.Simple.{on_top}
 use Rattle.st_top.specs.Command.{command_named}
@@ -8,7 +9,7 @@ use Rattle.st_top.specs.declared.command.Command.{Command}
 -- whether a word may be an argument: it is not empty, and does not begin with `-`
 abbrev pub is_plain : List ℕ → Bool
 is_plain [] = false
-is_plain (c ∷ cs) = not (c == 45)
+is_plain (c ∷ cs) = not (c == minus_sign)
 
 -- a program that takes three words; the first of a command line is one of them, and not its name
 abbrev pub three_words : App

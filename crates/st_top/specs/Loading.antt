@@ -1,5 +1,6 @@
 -- What `load` takes: an object text that asks for nothing that is not built.
 use Rattle.std.specs.Prelude.{ℕ, ◌+◌, min, List, [], ◌∷◌, Option, None, Some, Result, Ok, Err, if◌then◌else◌}
+use Rattle.st_text.specs.Bytes.{line_end}
 use Rattle.st_asm.specs.Forming.{is_built}
 use Rattle.st_card.specs.Pieces.{parted}
 use Rattle.st_object.specs.Asking.{asked_in}
@@ -18,4 +19,4 @@ unless_unbuilt (Some n) (Err bad) = Err (min n bad)
 
 -- the program that a text gives, or the number of its first line that is bad or not built
 unfoldable pub loaded : List ℕ → Result Program ℕ
-loaded text = unless_unbuilt (first_unbuilt 1 (parted 10 text)) (read_text text)
+loaded text = unless_unbuilt (first_unbuilt 1 (parted line_end text)) (read_text text)

@@ -1,5 +1,7 @@
 ghost use Rattle.std.specs.Prelude.{◌+◌, ◌-◌, ◌<◌, ◌≤◌, [], ◌∷◌};
 ghost use Rattle.std.specs.List.{AllPass};
+ghost use Rattle.st_bits.specs.declared.limits.TheConstants.{WORDS};
+ghost use Rattle.st_bits.specs.declared.register.TheConstants.{FIRST_STORAGE_WORD};
 ghost use Rattle.st_card.specs.Limits.{is_part};
 ghost use Rattle.st_lines.specs.Lines.{WritesLines, lines_for};
 ghost use Rattle.st_report.specs.Line.{ic_line, en_line, dump_line};
@@ -20,7 +22,7 @@ pub fn put<K: Sink>(out: &mut K, line: &Line) -> Result<(), Failed>
 /// Writes the line of register `w`, where it is not zero.
 #[tactic(auto, using(st_lines::proofs::Progress::wrote_nothing, st_bits::specs::Storage::words_of_storage_is))]
 fn write_register<K: Sink>(out: &mut K, state: &State, w: u8) -> Result<(), Failed>
-    requires { w < 32 }
+    requires { w < FIRST_STORAGE_WORD }
     ensures { WritesLines (K.output out.old) (K.output out.new)
         (register_lines state.now w) result }
 {
@@ -45,7 +47,7 @@ fn write_registers<K: Sink>(out: &mut K, state: &State) -> Result<(), Failed>
 /// Writes the line of the word at `w`, where it is not zero.
 #[tactic(auto, using(st_lines::proofs::Progress::wrote_nothing, st_bits::specs::Storage::words_of_storage_is))]
 fn write_memory<K: Sink>(out: &mut K, state: &State, w: u32) -> Result<(), Failed>
-    requires { w < 98304 }
+    requires { w < WORDS }
     ensures { WritesLines (K.output out.old) (K.output out.new) (memory_lines state.now w) result }
 {
     let content = state.word(w);
@@ -58,7 +60,7 @@ fn write_memory<K: Sink>(out: &mut K, state: &State, w: u32) -> Result<(), Faile
 /// Writes the lines of the words from `first` to `last` that are not zero.
 fn write_words<K: Sink>(out: &mut K, state: &State, first: u32, last: u32) -> Result<(), Failed>
     requires order { first ≤ last }
-    requires within { last < 98304 }
+    requires within { last < WORDS }
     ensures { WritesLines (K.output out.old) (K.output out.new)
         (lines_for (memory_lines state.now) (last + 1 - first) first) result }
 {
@@ -78,7 +80,7 @@ fn write_range<K: Sink>(out: &mut K, first: u32, last: u32) -> Result<(), Failed
 /// Writes a dump: the words from `first` to `last`.
 fn write_dump<K: Sink>(out: &mut K, state: &State, first: u32, last: u32) -> Result<(), Failed>
     requires order { first ≤ last }
-    requires within { last < 98304 }
+    requires within { last < WORDS }
     ensures { WritesLines (K.output out.old) (K.output out.new)
         (dump_lines state.now first last) result }
 {

@@ -1,6 +1,7 @@
 //! A job that runs: the listing, where it is asked for, and then the report of the run.
 ghost use Rattle.std.specs.Prelude.{◌≡◌, ◌≤◌, ◌<◌, ◌^◌, None, Ok, All, OnOk, OnErr, [], ◌++◌, length};
 ghost use Rattle.std.specs.List.{AllPass};
+ghost use Rattle.st_bits.specs.declared.limits.TheConstants.{MOST_INSTRUCTIONS};
 ghost use Rattle.st_asm.specs.Assembly.{shown};
 ghost use Rattle.st_asm.specs.Sound.{IsSound, IsSymbol};
 ghost use Rattle.st_card.specs.Cards.{cards_of};
@@ -37,7 +38,7 @@ fn write_output<K: Sink>(
     requires cards { HasCards job.now program.now.listing.items cards.now }
     requires symbols { All IsSymbol program.now.symbols.items }
     requires fresh { scene.old.machine.done ≡ 0 }
-    requires limit { program.now.controls.budget ≤ 10000000 }
+    requires limit { program.now.controls.budget ≤ MOST_INSTRUCTIONS }
     requires parts { AllPass is_part program.now.controls.dumps }
     ensures { WritesEvents (K.output out.old) (K.output out.new)
         (at_moment 0 0 (listing job.now (shown program.now))
@@ -91,7 +92,7 @@ fn answer_run<K: Sink>(
     requires cards { HasCards job.now program.now.listing.items cards.now }
     requires symbols { All IsSymbol program.now.symbols.items }
     requires fresh { scene.old.machine.done ≡ 0 }
-    requires limit { program.now.controls.budget ≤ 10000000 }
+    requires limit { program.now.controls.budget ≤ MOST_INSTRUCTIONS }
     requires parts { AllPass is_part program.now.controls.dumps }
     ensures writes { Writes result.status (K.output out.old) (K.output out.new)
         (output_of_run (listing job.now (shown program.now)) program.now.controls
@@ -127,7 +128,7 @@ pub fn execute<K: Sink>(alloc: Global, job: &[u8], program: &Assembled, out: &mu
 /// Runs a program that was loaded with its report, and answers.
 fn answer_loaded<K: Sink>(out: &mut K, scene: &mut Scene, controls: &Controls) -> Answer
     requires fresh { scene.old.machine.done ≡ 0 }
-    requires limit { controls.now.budget ≤ 10000000 }
+    requires limit { controls.now.budget ≤ MOST_INSTRUCTIONS }
     requires parts { AllPass is_part controls.now.dumps }
     ensures writes { Writes result.status (K.output out.old) (K.output out.new)
         (output_of_run [] controls.now (run_from controls.now.budget scene.old)) result }

@@ -1,5 +1,6 @@
 //! Reading an object text that asks for nothing that is not built.
 ghost use Rattle.std.specs.Prelude.{◌≡◌, ◌≤◌, IfOk, length};
+ghost use Rattle.st_text.specs.Bytes.{line_end};
 ghost use Rattle.st_asm.specs.Forming.{is_built as is_built_of};
 ghost use Rattle.st_card.specs.Pieces.{parted};
 ghost use Rattle.st_card.specs.declared.faults.Fault.TheVariants.{BadObjectCard};
@@ -26,7 +27,7 @@ fn is_line_built(alloc: Global, line: &[u8]) -> Result<bool, NoMemory>
 /// The number of the first line of a text, counted from 1, that asks for what is not built.
 fn first_unbuilt(alloc: Global, text: &[u8]) -> Result<Option<u32>, NoMemory>
     requires { length text.now ≤ 2000000 }
-    ensures { IfOk result (λ number. number ≡ first_unbuilt_of 1 (parted 10 text.now)) }
+    ensures { IfOk result (λ number. number ≡ first_unbuilt_of 1 (parted line_end text.now)) }
 {
     let mut card = 1;
     let mut rest = text;

@@ -1,6 +1,7 @@
 //! A whole run, and its report.
 ghost use Rattle.std.specs.Prelude.{◌≡◌, ◌≤◌, ◌<◌, ◌^◌, false, [], ◌∷◌, None};
 ghost use Rattle.std.specs.List.{AllPass};
+ghost use Rattle.st_bits.specs.declared.limits.TheConstants.{MOST_INSTRUCTIONS};
 ghost use Rattle.st_card.specs.Limits.{is_part};
 ghost use Rattle.st_lines.specs.Lines.{WritesLines};
 ghost use Rattle.st_exec.specs.Run.{Interrupts, Ends, run as run_of};
@@ -195,7 +196,7 @@ fn budget(controls: &Controls) -> u64
 /// written.
 pub fn run<K: Sink>(out: &mut K, scene: &mut Scene, controls: &Controls) -> Result<(), Failed>
     requires fresh { scene.old.machine.done ≡ 0 }
-    requires limit { controls.now.budget ≤ 10000000 }
+    requires limit { controls.now.budget ≤ MOST_INSTRUCTIONS }
     requires parts { AllPass is_part controls.now.dumps }
     ensures { RunWrites (K.output out.old) (K.output out.new) controls.now
         (run_of controls.now.budget scene.old) scene.new.machine result }
