@@ -51,7 +51,7 @@ module _ (most : ℕ) (ds : List ℕ) (are : AreDelays most ds) where
 
   -- ---- an instruction word
 
-  near-requested_if : (o : Option ℕ) (b : Bus) (w want : ℕ) → IsNear most b → IsNear most (requested_if o ds b w want)
+  pub near-requested_if : (o : Option ℕ) (b : Bus) (w want : ℕ) → IsNear most b → IsNear most (requested_if o ds b w want)
   unfolding after_read
   near-requested_if (Some t) b w want is = is
   near-requested_if None b w want is =

@@ -1,3 +1,4 @@
+pub mod Asked
 pub mod BusTimes
 pub mod Entries
 pub mod Levels

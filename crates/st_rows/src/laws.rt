@@ -1,11 +1,12 @@
 //! What holds of the ticks of all entries.
-ghost use Rattle.std.specs.Prelude.{◌≡◌, ℕ, List, [], ◌∷◌, ◌+◌, ◌*◌, ◌<◌, ◌≤◌, ◌||◌, true};
-ghost use Rattle.st_rows.specs.Ranges.{AreDelays, IsEntry, IsTight};
+ghost use Rattle.std.specs.Prelude.{◌≡◌, ℕ, List, [], ◌∷◌, ◌+◌, ◌*◌, ◌<◌, ◌≤◌, ◌||◌, true, length};
+ghost use Rattle.st_rows.specs.Ranges.{AreDelays, IsEntry, IsNear, IsTight};
 ghost use Rattle.st_rows.specs.Entries.{latest_done};
 ghost use Rattle.st_rows.specs.Rows.{opening, fetched, done_before, row, after};
 ghost use Rattle.std.specs.List.{AllZip};
 ghost use Rattle.st_banks.specs.declared.answers.LastAnswers.{LastAnswers};
-ghost use Rattle.st_rows.specs.BusTimes.{after_read, answer_at, requested, answer_of};
+ghost use Rattle.st_rows.specs.Asked.{Read, asked, served, after_one, made_before};
+ghost use Rattle.st_rows.specs.BusTimes.{accept_at, after_read, answer_at, requested, answer_of};
 ghost use Rattle.st_rows.specs.Levels.{AreEqual, IsBusSooner, IsFrontSooner, IsRowSooner, AreInOrder, IsCalm, AreCalm, AreCovered, rows};
 ghost use Rattle.st_rows.specs.declared.bus.Bus.{Bus};
 ghost use Rattle.st_rows.specs.declared.entry.Entry.{Entry};
@@ -61,4 +62,27 @@ pub fn more_levels_are_no_later()
     ensures { (d m n start : ℕ) (ds : List ℕ) (banks : LastAnswers) (es : List Entry) → AreEqual d ds → n ≤ m →
         AreCalm [] es →
         AllZip IsRowSooner (rows ds m (opening banks start) es) (rows ds n (opening banks start) es) }
+{}
+
+/// The reads that are asked for an entry, made one after the other, give the bus behind it. They are at most as many as its words,
+/// one index-side word and two following ones.
+pub fn rows_make_their_reads()
+    ensures bus { (ds : List ℕ) (n : ℕ) (f : Front) (e : Entry) → served ds (asked ds n f e) f.bus ≡ (after ds n f e).bus }
+    ensures few { (ds : List ℕ) (n : ℕ) (f : Front) (e : Entry) → length (asked ds n f e)
+        ≤ e.own.len + e.target.len + 1 + e.reads.one.len + e.reads.two.len + 2 }
+{}
+
+/// Each read is accepted when it is wanted and the bus is free, which is one tick after the read before it, and is answered later.
+pub fn reads_come_in_order()
+    ensures { (most : ℕ) (ds : List ℕ) (b : Bus) (r : Read) → AreDelays most ds →
+        (r.want ≤ accept_at b r.w r.want) × (b.free ≤ accept_at b r.w r.want)
+        × ((after_one ds b r).free ≡ accept_at b r.w r.want + 1)
+        × (accept_at b r.w r.want < answer_at ds b r.w r.want)
+        × (answer_at ds b r.w r.want ≤ accept_at b r.w r.want + most) }
+{}
+
+/// The reads that are accepted before a tick leave a bus that is free at that tick, and what they ask for is answered soon after it.
+pub fn made_reads_are_answered_soon()
+    ensures { (most t : ℕ) (ds : List ℕ) (reads : List Read) (b : Bus) → AreDelays most ds → IsNear most b → b.free ≤ t →
+        IsNear most (made_before ds t reads b) × ((made_before ds t reads b).free ≤ t) }
 {}

@@ -15,8 +15,9 @@ pub use entry::{Entry, Run, Runs};
 pub use fetching::Fetching;
 pub use front::{Front, Row};
 pub use laws::{
-    completions_are_bounded, entries_are_no_later, more_levels_are_no_later, reads_are_no_later,
-    rows_are_in_order,
+    completions_are_bounded, entries_are_no_later, made_reads_are_answered_soon,
+    more_levels_are_no_later, reads_are_no_later, reads_come_in_order, rows_are_in_order,
+    rows_make_their_reads,
 };
 pub use past::Past;
 pub use reading::Reading;

@@ -1,0 +1,197 @@
+-- The reads of an entry, made one after the other, give the bus behind it.
+use Rattle.std.specs.Prelude.{if◌then◌else◌, nat_lt, Bool}
+use Rattle.std.proofs.Common.{◌≡◌, ℕ, zero, suc, ◌+◌, ◌<◌, ◌≤◌, max, true, false, List, [], ◌∷◌, ◌++◌, length, Option, None, Some, refl, ap, ◌∙◌, inl, inr, ◌⊎◌, length-append, arith}
+use Rattle.std.proofs.lemmas.Bool.{cases_Bool, ltb-true}
+use Rattle.st_bits.specs.Storage.{words_of_storage}
+use Rattle.st_fetch.specs.Planned.{tick_of}
+use Rattle.st_rows.specs.Asked.{Read, word_asked, words_asked, data_asked, side_asked, operands_asked, inside_asked, following_asked, fetches_asked, asked, after_one, served, made_before}
+use Rattle.st_rows.specs.BusTimes.{accept_at, answer_at, after_read, requested_if, requested}
+use Rattle.st_rows.specs.Ranges.{AreDelays, IsNear}
+use Rattle.st_rows.specs.Rows.{fetch_word, fetch_words, wanted_from, fetched, is_forwarded, bus_sided, read_word, read_words, operands_read, request_inside, bus_followed, tick_a, bus_a, tick_p, operands, after}
+use Rattle.st_rows.specs.declared.bus.Bus.{Bus}
+use Rattle.st_rows.specs.declared.entry.Entry.{Entry}
+use Rattle.st_rows.specs.declared.past.Past.{Past}
+use Rattle.st_rows.specs.declared.fetching.Fetching.{Fetching}
+use Rattle.st_rows.specs.declared.reading.Reading.{Reading}
+use Rattle.st_rows.specs.declared.front.Front.{Front}
+use Rattle.st_rows.proofs.Tight.{near-read, near-requested_if}
+
+module _ (ds : List ℕ) where
+  served-none : (b : Bus) → served ds [] b ≡ b
+  unfolding served
+  served-none b = refl
+
+  pub served-append : (xs ys : List Read) (b : Bus) → served ds (xs ++ ys) b ≡ served ds ys (served ds xs b)
+  unfolding served
+  served-append [] ys b = refl
+  served-append (x ∷ xs) ys b = served-append xs ys (after_one ds b x)
+
+  served-word : (o : Option ℕ) (w want : ℕ) (b : Bus) → served ds (word_asked o w want) b ≡ requested_if o ds b w want
+  unfolding served
+  served-word (Some t) w want b = refl
+  served-word None w want b = refl
+
+  served-words : (past : List Past) (from : ℕ) (s : Fetching) (w n : ℕ)
+      → served ds (words_asked ds past s from w n) s.bus ≡ (fetch_words ds past s from w n).bus
+  unfolding words_asked fetch_words fetch_word requested
+  served-words past from s w zero = served-none s.bus
+  served-words past from s w (suc n) =
+      served-append (word_asked (tick_of s.bus.held.words w) w (max (max from s.answered) s.awaited)) (words_asked ds past (fetch_word ds past s w from) from (w + 1) n) s.bus
+      ∙ ap (served ds (words_asked ds past (fetch_word ds past s w from) from (w + 1) n)) (served-word (tick_of s.bus.held.words w) w (max (max from s.answered) s.awaited) s.bus)
+      ∙ served-words past from (fetch_word ds past s w from) (w + 1) n
+
+  data_if : (late : Bool) (w tick : ℕ) (b : Bus)
+      → served ds (if late then [] else record { w = w; want = tick; fetch = false } ∷ []) b ≡ (if late then b else after_read ds b w tick)
+  unfolding served
+  data_if true w tick b = refl
+  data_if false w tick b = refl
+
+  served-side : (past : List Past) (side : Option ℕ) (a : ℕ) (b : Bus) → served ds (side_asked past side a) b ≡ bus_sided ds past b side a
+  unfolding side_asked bus_sided
+  served-side past None a b = served-none b
+  served-side past (Some w) a b = data_if (is_forwarded past w a) w a b
+
+  bus_if : (late : Bool) (s : Reading) (w p : ℕ)
+      → (if late then s.bus else after_read ds s.bus w p)
+      ≡ (if late then s else record { bus = after_read ds s.bus w p; answered = max s.answered (answer_at ds s.bus w p) }).bus
+  bus_if true s w p = refl
+  bus_if false s w p = refl
+
+  served-operands : (past : List Past) (p : ℕ) (s : Reading) (w n : ℕ)
+      → served ds (operands_asked past p w n) s.bus ≡ (read_words ds past s p w n).bus
+  unfolding operands_asked read_words read_word
+  served-operands past p s w zero = served-none s.bus
+  served-operands past p s w (suc n) =
+      served-append (data_asked past w p) (operands_asked past p (w + 1) n) s.bus
+      ∙ ap (served ds (operands_asked past p (w + 1) n)) (data_if (is_forwarded past w p) w p s.bus ∙ bus_if (is_forwarded past w p) s w p)
+      ∙ served-operands past p (read_word ds past s w p) (w + 1) n
+
+  inside_if : (inside : Bool) (b : Bus) (w p : ℕ)
+      → served ds (if inside then word_asked (tick_of b.held.words w) w p else []) b ≡ (if inside then requested ds b w p else b)
+  unfolding requested
+  inside_if true b w p = served-word (tick_of b.held.words w) w p b
+  inside_if false b w p = served-none b
+
+  follow_if : (follows : Bool) (b : Bus) (w p : ℕ)
+      → served ds (if follows then inside_asked b w p ++ inside_asked (request_inside ds b w p) (w + 1) p else []) b
+      ≡ (if follows then request_inside ds (request_inside ds b w p) (w + 1) p else b)
+  follow_if false b w p = served-none b
+  follow_if true b w p =
+      served-append (inside_asked b w p) (inside_asked (request_inside ds b w p) (w + 1) p) b
+      ∙ ap (served ds (inside_asked (request_inside ds b w p) (w + 1) p)) (inside_if (nat_lt w words_of_storage) b w p)
+      ∙ inside_if (nat_lt (w + 1) words_of_storage) (request_inside ds b w p) (w + 1) p
+
+  served-fetches : (f : Front) (e : Entry) → served ds (fetches_asked ds f e) f.bus ≡ (fetched ds f e).bus
+  unfolding fetches_asked fetched
+  served-fetches f e =
+      let start : Fetching = record { bus = f.bus; answered = 0; awaited = 0 } in
+      let own = fetch_words ds f.past start (wanted_from f) e.own.first e.own.len in
+      let target = words_asked ds f.past own (max (wanted_from f) f.c) e.target.first e.target.len in
+      served-append (words_asked ds f.past start (wanted_from f) e.own.first e.own.len) target f.bus
+      ∙ ap (served ds target) (served-words f.past (wanted_from f) start e.own.first e.own.len)
+      ∙ served-words f.past (max (wanted_from f) f.c) own e.target.first e.target.len
+
+  pub served-asked : (n : ℕ) (f : Front) (e : Entry) → served ds (asked ds n f e) f.bus ≡ (after ds n f e).bus
+  unfolding asked after bus_a operands operands_read following_asked bus_followed
+  served-asked n f e =
+      let p = tick_p ds n f e in
+      let one = operands_asked f.past p e.reads.one.first e.reads.one.len in
+      let two = operands_asked f.past p e.reads.two.first e.reads.two.len in
+      let side = side_asked f.past e.side (tick_a ds f e) in
+      let next = following_asked ds (operands ds n f e).bus e p in
+      let start : Reading = record { bus = bus_a ds f e; answered = p } in
+      let first = read_words ds f.past start p e.reads.one.first e.reads.one.len in
+      let all = fetches_asked ds f e in
+      served-append (all ++ side ++ one ++ two) next f.bus
+      ∙ ap (served ds next)
+      (served-append (all ++ side ++ one) two f.bus
+      ∙ ap (served ds two)
+      (served-append (all ++ side) one f.bus
+      ∙ ap (served ds one)
+      (served-append all side f.bus ∙ ap (served ds side) (served-fetches f e) ∙ served-side f.past e.side (tick_a ds f e) (fetched ds f e).bus)
+      ∙ served-operands f.past p start e.reads.one.first e.reads.one.len)
+      ∙ served-operands f.past p first e.reads.two.first e.reads.two.len)
+      ∙ follow_if e.follows (operands ds n f e).bus (e.own.first + e.own.len) p
+
+-- ---- how many there are
+
+few-word : (o : Option ℕ) (w want : ℕ) → length (word_asked o w want) ≤ 1
+few-word (Some t) w want = omega arith
+few-word None w want = omega arith
+
+few-words : (ds : List ℕ) (past : List Past) (from : ℕ) (s : Fetching) (w n : ℕ) → length (words_asked ds past s from w n) ≤ n
+unfolding words_asked
+few-words ds past from s w zero = omega arith
+few-words ds past from s w (suc n) =
+    let want = max (max from s.answered) s.awaited in
+    simp length-append (omega (arith, few-word (tick_of s.bus.held.words w) w want, few-words ds past from (fetch_word ds past s w from) (w + 1) n))
+
+few-data : (late : Bool) (w tick : ℕ) → length {A = Read} (if late then [] else record { w = w; want = tick; fetch = false } ∷ []) ≤ 1
+few-data true w tick = omega arith
+few-data false w tick = omega arith
+
+few-side : (past : List Past) (side : Option ℕ) (a : ℕ) → length (side_asked past side a) ≤ 1
+unfolding side_asked
+few-side past None a = omega arith
+few-side past (Some w) a = few-data (is_forwarded past w a) w a
+
+few-operands : (past : List Past) (p w n : ℕ) → length (operands_asked past p w n) ≤ n
+unfolding operands_asked
+few-operands past p w zero = omega arith
+few-operands past p w (suc n) = simp length-append (omega (arith, few-data (is_forwarded past w p) w p, few-operands past p (w + 1) n))
+
+few-inside : (inside : Bool) (o : Option ℕ) (w p : ℕ) → length (if inside then word_asked o w p else []) ≤ 1
+few-inside true o w p = few-word o w p
+few-inside false o w p = omega arith
+
+few-following : (follows : Bool) (ds : List ℕ) (b : Bus) (w p : ℕ)
+    → length (if follows then inside_asked b w p ++ inside_asked (request_inside ds b w p) (w + 1) p else []) ≤ 2
+few-following false ds b w p = omega arith
+few-following true ds b w p =
+    let next = request_inside ds b w p in
+    simp length-append (omega (
+      arith,
+      few-inside (nat_lt w words_of_storage) (tick_of b.held.words w) w p,
+      few-inside (nat_lt (w + 1) words_of_storage) (tick_of next.held.words (w + 1)) (w + 1) p,
+    ))
+
+pub few-asked : (ds : List ℕ) (n : ℕ) (f : Front) (e : Entry)
+    → length (asked ds n f e) ≤ e.own.len + e.target.len + 1 + e.reads.one.len + e.reads.two.len + 2
+unfolding asked fetches_asked following_asked
+few-asked ds n f e =
+    let start : Fetching = record { bus = f.bus; answered = 0; awaited = 0 } in
+    let own = fetch_words ds f.past start (wanted_from f) e.own.first e.own.len in
+    let p = tick_p ds n f e in
+    simp length-append (omega (
+      arith,
+      few-words ds f.past (wanted_from f) start e.own.first e.own.len,
+      few-words ds f.past (max (wanted_from f) f.c) own e.target.first e.target.len,
+      few-side f.past e.side (tick_a ds f e),
+      few-operands f.past p e.reads.one.first e.reads.one.len,
+      few-operands f.past p e.reads.two.first e.reads.two.len,
+      few-following e.follows ds (operands ds n f e).bus (e.own.first + e.own.len) p,
+    ))
+
+-- ---- the reads that are made before a tick
+
+ltb_cases : (a b : ℕ) → ((nat_lt a b ≡ true) × (a < b)) ⊎ (nat_lt a b ≡ false)
+ltb_cases a b = elim (cases_Bool (nat_lt a b)) [ inl t ↦ inl (t, ltb-true a b t) | inr n ↦ inr n ]
+
+pub free-one_if : (ds : List ℕ) (fetch : Bool) (b : Bus) (w want : ℕ) → (if fetch then requested_if None ds b w want else after_read ds b w want).free ≡ accept_at b w want + 1
+unfolding after_read
+free-one_if ds true b w want = refl
+free-one_if ds false b w want = refl
+
+module _ (most : ℕ) (ds : List ℕ) (are : AreDelays most ds) (t : ℕ) where
+  near-one_if : (fetch : Bool) (b : Bus) (w want : ℕ) → IsNear most b → IsNear most (if fetch then requested_if None ds b w want else after_read ds b w want)
+  near-one_if true b w want is = near-requested_if most ds are None b w want is
+  near-one_if false b w want is = near-read most ds are b w want is
+
+  pub made-bounds : (reads : List Read) (b : Bus) → IsNear most b → b.free ≤ t
+      → IsNear most (made_before ds t reads b) × ((made_before ds t reads b).free ≤ t)
+  unfolding made_before
+  made-bounds [] b is early = (is, early)
+  made-bounds (r ∷ reads) b is early = elim (ltb_cases (accept_at b r.w r.want) t) [
+    | inl early_one ↦ rw early_one.0 (made-bounds reads (after_one ds b r) (near-one_if r.fetch b r.w r.want is) (rw (free-one_if ds r.fetch b r.w r.want) (omega (arith, early_one.1))))
+    | inr late_one ↦ rw late_one (is, early)
+  ]

@@ -1,0 +1,82 @@
+-- The reads that are made for an entry, in their order, and what they make of the bus.
+use Rattle.std.specs.Prelude.{ℕ, zero, suc, ◌+◌, max, Bool, true, false, nat_lt, if◌then◌else◌, List, [], ◌∷◌, ◌++◌, Option, None, Some}
+use Rattle.st_bits.specs.Storage.{words_of_storage}
+use Rattle.st_fetch.specs.Planned.{tick_of}
+use Rattle.st_rows.specs.BusTimes.{accept_at, after_read, requested_if}
+use Rattle.st_rows.specs.Rows.{fetch_word, fetch_words, wanted_from, is_forwarded, request_inside, tick_a, tick_p, operands}
+use Rattle.st_rows.specs.declared.bus.Bus.{Bus}
+use Rattle.st_rows.specs.declared.entry.Entry.{Entry}
+use Rattle.st_rows.specs.declared.past.Past.{Past}
+use Rattle.st_rows.specs.declared.fetching.Fetching.{Fetching}
+use Rattle.st_rows.specs.declared.front.Front.{Front}
+
+-- a read: its word, the tick from which on it is wanted, and whether the word is held from then on, as instruction words are
+pub record Read : Type 0 where
+  pub w : ℕ
+  pub want : ℕ
+  pub fetch : Bool
+
+-- an instruction word, given the tick of its answer if it is held: then no read is made
+abbrev pub word_asked : Option ℕ → ℕ → ℕ → List Read
+word_asked (Some tick) w want = []
+word_asked None w want = record { w = w; want = want; fetch = true } ∷ []
+
+-- n instruction words from the word w on
+unfoldable pub words_asked : List ℕ → List Past → Fetching → ℕ → ℕ → ℕ → List Read
+words_asked ds past s from w zero = []
+words_asked ds past s from w (suc n) =
+    word_asked (tick_of s.bus.held.words w) w (max (max from s.answered) s.awaited)
+    ++ words_asked ds past (fetch_word ds past s w from) from (w + 1) n
+
+-- the index-side word or an operand word, unless it comes from its writer
+abbrev pub data_asked : List Past → ℕ → ℕ → List Read
+data_asked past w tick = if is_forwarded past w tick then [] else record { w = w; want = tick; fetch = false } ∷ []
+
+unfoldable pub side_asked : List Past → Option ℕ → ℕ → List Read
+side_asked past None a = []
+side_asked past (Some w) a = data_asked past w a
+
+-- n operand words from the word w on
+unfoldable pub operands_asked : List Past → ℕ → ℕ → ℕ → List Read
+operands_asked past p w zero = []
+operands_asked past p w (suc n) = data_asked past w p ++ operands_asked past p (w + 1) n
+
+-- the following words
+abbrev pub inside_asked : Bus → ℕ → ℕ → List Read
+inside_asked b w p = if nat_lt w words_of_storage then word_asked (tick_of b.held.words w) w p else []
+
+unfoldable pub following_asked : List ℕ → Bus → Entry → ℕ → List Read
+following_asked ds b e p =
+    if e.follows
+    then inside_asked b (e.own.first + e.own.len) p
+    ++ inside_asked (request_inside ds b (e.own.first + e.own.len) p) (e.own.first + e.own.len + 1) p
+    else []
+
+-- all reads of the entry e behind the front f
+unfoldable pub fetches_asked : List ℕ → Front → Entry → List Read
+fetches_asked ds f e =
+    words_asked ds f.past (record { bus = f.bus; answered = 0; awaited = 0 }) (wanted_from f) e.own.first e.own.len
+    ++ words_asked ds f.past
+    (fetch_words ds f.past (record { bus = f.bus; answered = 0; awaited = 0 }) (wanted_from f) e.own.first e.own.len)
+    (max (wanted_from f) f.c) e.target.first e.target.len
+
+unfoldable pub asked : List ℕ → ℕ → Front → Entry → List Read
+asked ds n f e =
+    fetches_asked ds f e
+    ++ side_asked f.past e.side (tick_a ds f e)
+    ++ operands_asked f.past (tick_p ds n f e) e.reads.one.first e.reads.one.len
+    ++ operands_asked f.past (tick_p ds n f e) e.reads.two.first e.reads.two.len
+    ++ following_asked ds (operands ds n f e).bus e (tick_p ds n f e)
+
+-- the bus after a read, after the reads of a list, and after those of them that are accepted before the tick t
+abbrev pub after_one : List ℕ → Bus → Read → Bus
+after_one ds b r = if r.fetch then requested_if None ds b r.w r.want else after_read ds b r.w r.want
+
+unfoldable pub served : List ℕ → List Read → Bus → Bus
+served ds [] b = b
+served ds (r ∷ reads) b = served ds reads (after_one ds b r)
+
+unfoldable pub made_before : List ℕ → ℕ → List Read → Bus → Bus
+made_before ds t [] b = b
+made_before ds t (r ∷ reads) b =
+    if nat_lt (accept_at b r.w r.want) t then made_before ds t reads (after_one ds b r) else b
