@@ -6,5 +6,5 @@ pub const WORDS: u32 = 98_304;
 pub const LAST_WORD: u32 = 98_303;
 /// The most instructions that a job can ask for, and the highest number of instructions done that it can name.
 pub const MOST_INSTRUCTIONS: u64 = 10_000_000;
-/// The most delays, and the most signals, that a job can give.
-pub const MOST_ENTRIES: usize = 4_096;
+/// How long a list of delays, or of signals, can be that a job gives.
+pub const LONGEST_LIST: usize = 4_096;

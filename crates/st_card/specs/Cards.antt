@@ -2,6 +2,7 @@
 use Rattle.std.specs.Prelude.{◌≡◌, ◌≤◌, ℕ, ◌+◌, ◌==◌, ◌&&◌, ◌||◌, Bool, true, not, nat_le, nat_lt, min, List, [], ◌∷◌, length, take, drop, Option, Some, None, if◌then◌else◌}
 use Rattle.std.specs.List.{list_all}
 use Rattle.std.specs.Str.Lines.{strip_carriage_return}
+use Rattle.st_text.specs.Bytes.{line_end, blank, asterisk, slash, tilde}
 use Rattle.st_card.specs.Pieces.{parted}
 use Rattle.st_card.specs.declared.faults.Fault.{Fault}
 use Rattle.st_card.specs.declared.faults.Fault.TheVariants.{NotAscii, CardTooLong, BadName, TooManyCards}
@@ -11,7 +12,7 @@ use Rattle.st_card.specs.declared.cards.Card.{Card}
 
 -- column 1, blank where the card has none
 abbrev pub first_column : List ℕ → ℕ
-first_column [] = 32
+first_column [] = blank
 first_column (c ∷ cs) = c
 
 -- the columns that are read
@@ -20,21 +21,21 @@ columns text = take 72 text
 
 -- whether a text has nothing but blanks
 abbrev pub is_blank : List ℕ → Bool
-is_blank text = list_all (λ c. c == 32) text
+is_blank text = list_all (λ c. c == blank) text
 
 -- whether a text has only blanks and visible characters of ASCII
 abbrev pub is_printable : List ℕ → Bool
-is_printable text = list_all (λ c. nat_le 32 c && nat_le c 126) text
+is_printable text = list_all (λ c. nat_le blank c && nat_le c tilde) text
 
 -- the kind of a card: `*` or blank columns make a comment, `/` a control card
 abbrev pub kind_of : List ℕ → CardKind
 kind_of text =
-    if first_column text == 42 || is_blank (columns text) then Comment
-    else (if first_column text == 47 then Control else Statement)
+    if first_column text == asterisk || is_blank (columns text) then Comment
+    else (if first_column text == slash then Control else Statement)
 
 -- whether column 1 is blank, `*` or `/`
 abbrev pub is_column_1 : ℕ → Bool
-is_column_1 c = c == 32 || c == 42 || c == 47
+is_column_1 c = c == blank || c == asterisk || c == slash
 
 -- the first fault whose test holds
 abbrev pub first_fault : List (Bool × Fault) → Option Fault
@@ -70,7 +71,7 @@ cards_from n place (line ∷ next ∷ more) =
 
 -- the cards of a job, up to the 20,001st
 abbrev pub cards_of : List ℕ → List Card
-cards_of job = take 20001 (cards_from 1 0 (parted 10 job))
+cards_of job = take 20001 (cards_from 1 0 (parted line_end job))
 
 -- the text of a card
 abbrev pub text_in : List ℕ → Card → List ℕ

@@ -2,6 +2,9 @@
 use Rattle.std.specs.Prelude.{ℕ, ◌+◌, ◌-◌, ◌==◌, ◌&&◌, Bool, true, false, nat_le, nat_lt, List, [], ◌∷◌, ◌++◌, length, slice_get, codes, Option, Some, None, if◌then◌else◌}
 use Rattle.std.specs.List.{list_all}
 use Rattle.std.specs.Option.{option_and_then, option_map_or}
+use Rattle.st_bits.specs.declared.limits.TheConstants.{LAST_WORD, MOST_INSTRUCTIONS, LONGEST_LIST}
+use Rattle.st_bits.specs.declared.indicators.TheConstants.{CHANNEL_SIGNAL}
+use Rattle.st_card.specs.declared.limits.TheConstants.{MOST_DELAY, MOST_DUMPS, MOST_SNAPS, MOST_BACK, MOST_NUMBER}
 use Rattle.st_card.specs.Number.{reading}
 use Rattle.st_card.specs.Pieces.{words}
 use Rattle.st_card.specs.Cards.{columns}
@@ -55,7 +58,7 @@ good Bad = None
 
 -- the number that a word of a control card is: 1 to 12 digits
 abbrev pub number_in : List ℕ → Option ℕ
-number_in word = if nat_lt 12 (length word) then None else good (reading 999999999999 word)
+number_in word = if nat_lt 12 (length word) then None else good (reading MOST_NUMBER word)
 
 -- a number before numbers, where there are both
 abbrev pub before : Option ℕ → Option (List ℕ) → Option (List ℕ)
@@ -79,20 +82,20 @@ last_passes test items = option_map_or test (slice_get items (length items - 1))
 -- `/BUDGET n`, once, n from 1 to 10,000,000
 abbrev pub with_budget : Asked → List ℕ → Option Asked
 with_budget kept (n ∷ []) =
-    if kept.budget == 0 && is_among 1 10000000 n then Some (record kept { budget = n }) else None
+    if kept.budget == 0 && is_among 1 MOST_INSTRUCTIONS n then Some (record kept { budget = n }) else None
 with_budget kept _ = None
 
 -- `/DELAYS d d`, one delay or more, each from 1 to 255, at most 4,096 over all cards
 abbrev pub with_delays : Asked → List ℕ → Option Asked
 with_delays kept [] = None
 with_delays kept (n ∷ ns) =
-    if nat_le (length kept.delays + length (n ∷ ns)) 4096 && list_all (is_among 1 255) (n ∷ ns)
+    if nat_le (length kept.delays + length (n ∷ ns)) LONGEST_LIST && list_all (is_among 1 MOST_DELAY) (n ∷ ns)
     then Some (record kept { delays = kept.delays ++ n ∷ ns }) else None
 
 -- `/SIGNAL count indicator`, at most 4,096, counts up to 10,000,000 and not falling, indicators 0 to 13
 abbrev pub with_signal : Asked → List ℕ → Option Asked
 with_signal kept (n ∷ i ∷ []) =
-    if nat_lt (length kept.signals) 4096 && nat_le n 10000000 && nat_le i 13
+    if nat_lt (length kept.signals) LONGEST_LIST && nat_le n MOST_INSTRUCTIONS && nat_le i CHANNEL_SIGNAL
     && last_passes (λ s. nat_le s.count n) kept.signals
     then Some (record kept { signals = kept.signals ++ record { count = n; indicator = i } ∷ [] }) else None
 with_signal kept _ = None
@@ -100,21 +103,21 @@ with_signal kept _ = None
 -- `/DUMP from to`, at most 16, from <= to <= 98,303
 abbrev pub with_dump : Asked → List ℕ → Option Asked
 with_dump kept (first ∷ last ∷ []) =
-    if nat_lt (length kept.dumps) 16 && nat_le first last && nat_le last 98303
+    if nat_lt (length kept.dumps) MOST_DUMPS && nat_le first last && nat_le last LAST_WORD
     then Some (record kept { dumps = kept.dumps ++ (first, last) ∷ [] }) else None
 with_dump kept _ = None
 
 -- `/SNAP tick`, at most 64, rising
 abbrev pub with_snap : Asked → List ℕ → Option Asked
 with_snap kept (n ∷ []) =
-    if nat_lt (length kept.snaps) 64 && last_passes (λ tick. nat_lt tick n) kept.snaps
+    if nat_lt (length kept.snaps) MOST_SNAPS && last_passes (λ tick. nat_lt tick n) kept.snaps
     then Some (record kept { snaps = kept.snaps ++ n ∷ [] }) else None
 with_snap kept _ = None
 
 -- `/BACK k`, once, k from 1 to 64
 abbrev pub with_back : Asked → List ℕ → Option Asked
 with_back kept (k ∷ []) =
-    if kept.back == 0 && is_among 1 64 k then Some (record kept { back = k }) else None
+    if kept.back == 0 && is_among 1 MOST_BACK k then Some (record kept { back = k }) else None
 with_back kept _ = None
 
 -- `/LIST`, `/TRACE`, `/TIME` and `/CHART`, each once and alone

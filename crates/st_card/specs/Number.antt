@@ -2,6 +2,7 @@
 use Rattle.std.specs.Prelude.{ℕ, ◌+◌, ◌*◌, ◌-◌, ◌==◌, ◌&&◌, ◌≤◌, Bool, not, nat_le, List, [], ◌∷◌, length, if◌then◌else◌}
 use Rattle.std.specs.Char.{is_ascii_digit}
 use Rattle.std.specs.List.{list_all}
+use Rattle.st_text.specs.Bytes.{digit_zero}
 use Rattle.st_card.specs.declared.numbers.Reading.{Reading}
 use Rattle.st_card.specs.declared.numbers.Reading.TheVariants.{Bad, Large, Good}
 
@@ -16,7 +17,7 @@ is_number text = is_filled text && list_all is_ascii_digit text
 -- the value of digits that stand behind digits of a value
 abbrev pub value_after : ℕ → List ℕ → ℕ
 value_after n [] = n
-value_after n (c ∷ cs) = value_after (n * 10 + (c - 48)) cs
+value_after n (c ∷ cs) = value_after (n * 10 + (c - digit_zero)) cs
 
 -- the value of digits
 abbrev pub value : List ℕ → ℕ

@@ -1,6 +1,7 @@
 -- A text cut into pieces at a byte.
 use Rattle.std.specs.Prelude.{◌≡◌, ◌≤◌, ◌-◌, ℕ, ◌==◌, Bool, not, List, [], ◌∷◌, length, take, drop, filter, if◌then◌else◌}
 use Rattle.std.specs.List.{list_all}
+use Rattle.st_text.specs.Bytes.{blank}
 use Rattle.st_card.specs.Number.{is_filled}
 
 -- a byte put in front of the first piece
@@ -29,4 +30,4 @@ pub record IsBehind (back text : List ℕ) : Type 0 where
 
 -- the words of a text: what stands between blanks
 abbrev pub words : List ℕ → List (List ℕ)
-words text = filter is_filled (parted 32 text)
+words text = filter is_filled (parted blank text)

@@ -11,12 +11,11 @@ ghost use Rattle.st_card.specs.Answers.{Settles, Appends, Marks, Explains};
 use crate::cards::columns;
 use crate::faults::Fault;
 use crate::keywords::{Keyword, Outcome, keyword_of, read_numbers};
-use crate::limits::{
-    LAST_WORD, MOST_BACK, MOST_BUDGET, MOST_COUNT, MOST_DELAY, MOST_DELAYS, MOST_INDICATOR,
-    MOST_SIGNALS,
-};
+use crate::limits::{MOST_BACK, MOST_DELAY, MOST_DUMPS, MOST_SNAPS};
 use crate::words::first_word;
 use arrayvec::ArrayVec;
+use st_bits::indicators::CHANNEL_SIGNAL;
+use st_bits::limits::{LAST_WORD, LONGEST_LIST, MOST_INSTRUCTIONS};
 use std::alloc::Global;
 use std::marker::Model;
 
@@ -48,9 +47,9 @@ pub struct Controls {
     /// The signals, at most 4,096, with counts that do not fall.
     pub signals: Vec<Signal>,
     /// The word addresses, first and last, up to 98,303, of the parts of storage that are to be printed, at most 16.
-    pub dumps: ArrayVec<(u32, u32), 16>,
+    pub dumps: ArrayVec<(u32, u32), MOST_DUMPS>,
     /// The ticks, rising and of at most 12 digits, at which the machine is to be shown, at most 64.
-    pub snaps: ArrayVec<u64, 64>,
+    pub snaps: ArrayVec<u64, MOST_SNAPS>,
     /// Whether the listing is asked for.
     pub list: bool,
     /// Whether a line for each instruction is asked for.
@@ -166,7 +165,7 @@ impl Controls {
         ensures { Settles self.old self.new (spec.with_budget self.old numbers.now) result }
     {
         match numbers {
-            [budget] if self.budget == 0 && (1..=MOST_BUDGET).contains(budget) => {
+            [budget] if self.budget == 0 && (1..=MOST_INSTRUCTIONS).contains(budget) => {
                 self.budget = *budget;
                 Outcome::Added
             }
@@ -178,7 +177,7 @@ impl Controls {
         requires { length numbers.now ≤ 36 }
         ensures { Settles self.old self.new (spec.with_delays self.old numbers.now) result }
     {
-        if numbers.is_empty() || self.delays.len() + numbers.len() > MOST_DELAYS {
+        if numbers.is_empty() || self.delays.len() + numbers.len() > LONGEST_LIST {
             return Outcome::Refused;
         }
         match delays_in(numbers) {
@@ -192,9 +191,9 @@ impl Controls {
     {
         match numbers {
             [count, indicator]
-                if self.signals.len() < MOST_SIGNALS
-                    && *count <= MOST_COUNT
-                    && *indicator <= MOST_INDICATOR
+                if self.signals.len() < LONGEST_LIST
+                    && *count <= MOST_INSTRUCTIONS
+                    && *indicator <= u64::from(CHANNEL_SIGNAL)
                     && self.signals.last().is_none_or(|last| last.count <= *count) => {
                 let signal = Signal {
                     count: *count,
@@ -210,7 +209,8 @@ impl Controls {
         ensures { Settles self.old self.new (spec.with_dump self.old numbers.now) result }
     {
         match numbers {
-            [first, last] if !self.dumps.is_full() && first <= last && *last <= LAST_WORD => {
+            [first, last]
+                if !self.dumps.is_full() && first <= last && *last <= u64::from(LAST_WORD) => {
                 self.dumps.push((*first as u32, *last as u32));
                 Outcome::Added
             }
@@ -258,7 +258,7 @@ fn set_mark(mark: &mut bool, numbers: &[u64]) -> Outcome
 fn delays_in(numbers: &[u64]) -> Option<ArrayVec<u8, 36>>
     requires { length numbers.now ≤ 36 }
     ensures { option_map (λ v. v.items) result
-        ≡ (if list_all (spec.is_among 1 255) numbers.now then Some numbers.now else None) }
+        ≡ (if list_all (spec.is_among 1 MOST_DELAY) numbers.now then Some numbers.now else None) }
 {
     let mut delays = ArrayVec::new();
     let mut rest = numbers;

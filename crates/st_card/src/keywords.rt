@@ -6,6 +6,7 @@ ghost use Rattle.st_card.specs.Tables.{row_of as row_in};
 ghost use Rattle.st_card.specs.Pieces.{words};
 ghost use Rattle.st_card.specs.Controls.{keywords, number_in, numbers_in};
 
+use crate::limits::MOST_NUMBER;
 use crate::numbers::{Reading, read_number};
 use crate::tables::row_of;
 use crate::words::first_word;
@@ -77,7 +78,7 @@ fn number_in(word: &[u8]) -> Option<u64>
     if word.len() > 12 {
         return None;
     }
-    match read_number(word, 999_999_999_999) {
+    match read_number(word, MOST_NUMBER) {
         Reading::Good(number) => Some(number),
         Reading::Large | Reading::Bad => None,
     }

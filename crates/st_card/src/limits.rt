@@ -1,25 +1,16 @@
-//! The limits of what the control cards of a job ask for.
-
-/// The most instructions that `/BUDGET` gives.
-pub const MOST_BUDGET: u64 = 10_000_000;
+//! The limits of what the control cards of a job ask for, but for those that `st_bits` has.
 
 /// The longest delay, in ticks.
 pub const MOST_DELAY: u64 = 255;
 
-/// How many delays there may be.
-pub const MOST_DELAYS: usize = 4_096;
+/// How many parts of storage may be dumped.
+pub const MOST_DUMPS: usize = 16;
 
-/// The latest count of a signal, in instructions done.
-pub const MOST_COUNT: u64 = 10_000_000;
-
-/// The last indicator that a signal turns on.
-pub const MOST_INDICATOR: u64 = 13;
-
-/// How many signals there may be.
-pub const MOST_SIGNALS: usize = 4_096;
-
-/// The address of the last word of storage.
-pub const LAST_WORD: u64 = 98_303;
+/// How many snaps there may be.
+pub const MOST_SNAPS: usize = 64;
 
 /// The most instructions that `/BACK` steps back.
 pub const MOST_BACK: u64 = 64;
+
+/// The greatest number on a control card.
+pub const MOST_NUMBER: u64 = 999_999_999_999;

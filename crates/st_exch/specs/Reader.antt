@@ -1,6 +1,7 @@
 -- The cards that stand in the card reader, and the words that it reads of each.
 use Rattle.std.specs.Prelude.{ℕ, ◌+◌, ◌-◌, ◌*◌, ◌^◌, Bool, true, false, List, [], ◌∷◌, map, filter, slice_index_or, if◌then◌else◌}
 use Rattle.std.specs.List.{list_any}
+use Rattle.st_text.specs.Bytes.{blank}
 use Rattle.st_card.specs.Cards.{cards_of, text_in}
 use Rattle.st_card.specs.declared.cards.CardKind.{CardKind}
 use Rattle.st_card.specs.declared.cards.CardKind.TheVariants.{Comment, Control, Statement}
@@ -8,7 +9,7 @@ use Rattle.st_card.specs.declared.cards.Card.{Card}
 
 -- column c of a card, counted from 1, a blank where the card has none
 abbrev pub column : List ℕ → ℕ → ℕ
-column text c = slice_index_or text (c - 1) 32
+column text c = slice_index_or text (c - 1) blank
 
 -- the word that eight columns make from column c on, eight bits each
 unfoldable pub word_from : List ℕ → ℕ → ℕ

@@ -1,6 +1,7 @@
 -- An expression: terms joined by `+` and `-`, with an optional first sign.
 use Rattle.std.specs.Prelude.{ℕ, ◌==◌, Bool, true, false, List, [], ◌∷◌, Option, Some, None, Result, Ok, Err, if◌then◌else◌}
 use Rattle.std.specs.List.{list_any, filter_map}
+use Rattle.st_text.specs.Bytes.{plus_sign, minus_sign}
 use Rattle.arrayvec.specs.ArrayVec.{ArrayVec}
 use Rattle.st_card.specs.declared.faults.Fault.{Fault}
 use Rattle.st_card.specs.declared.faults.Fault.TheVariants.{BadExpression, NumberTooLarge}
@@ -18,15 +19,15 @@ onto_part c (part ∷ parts) = (part.0, c ∷ part.1) ∷ parts
 abbrev pub parts_after : Bool → List ℕ → List (Bool × List ℕ)
 parts_after minus [] = (minus, []) ∷ []
 parts_after minus (c ∷ cs) =
-    if c == 43 then (minus, []) ∷ parts_after false cs
-    else (if c == 45 then (minus, []) ∷ parts_after true cs else onto_part c (parts_after minus cs))
+    if c == plus_sign then (minus, []) ∷ parts_after false cs
+    else (if c == minus_sign then (minus, []) ∷ parts_after true cs else onto_part c (parts_after minus cs))
 
 -- the parts of an expression: a sign in front belongs to the first
 abbrev pub parts : List ℕ → List (Bool × List ℕ)
 parts [] = parts_after false []
 parts (c ∷ cs) =
-    if c == 43 then parts_after false cs
-    else (if c == 45 then parts_after true cs else parts_after false (c ∷ cs))
+    if c == plus_sign then parts_after false cs
+    else (if c == minus_sign then parts_after true cs else parts_after false (c ∷ cs))
 
 -- the term that a part says
 abbrev pub term_in : Bool → AtomReading → Option Term

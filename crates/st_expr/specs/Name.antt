@@ -2,6 +2,7 @@
 use Rattle.std.specs.Prelude.{ℕ, ◌-◌, ◌==◌, ◌&&◌, ◌||◌, Bool, false, nat_le, List, [], ◌∷◌, ◌++◌, length, replicate}
 use Rattle.std.specs.Char.{is_ascii_digit, is_ascii_uppercase}
 use Rattle.std.specs.List.{list_all}
+use Rattle.st_text.specs.Bytes.{blank, dollar}
 use Rattle.st_card.specs.Number.{is_filled}
 
 -- whether a byte may stand in a name
@@ -16,8 +17,8 @@ is_name (c ∷ cs) = is_ascii_uppercase c && list_all is_name_byte cs && nat_le 
 -- whether a text is a word for the system: `$` and 1 to 7 bytes of names
 abbrev pub is_system_word : List ℕ → Bool
 is_system_word [] = false
-is_system_word (c ∷ cs) = c == 36 && is_filled cs && list_all is_name_byte cs && nat_le (length cs) 7
+is_system_word (c ∷ cs) = c == dollar && is_filled cs && list_all is_name_byte cs && nat_le (length cs) 7
 
 -- a name filled with blanks to eight bytes
 abbrev pub padded : List ℕ → List ℕ
-padded name = name ++ replicate (8 - length name) 32
+padded name = name ++ replicate (8 - length name) blank

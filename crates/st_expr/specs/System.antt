@@ -1,38 +1,70 @@
 -- The system symbols: words of `$` whose values are fixed.
-use Rattle.std.specs.Prelude.{ℕ, List, [], ◌∷◌, ◌++◌, codes}
+use Rattle.std.specs.Prelude.{ℕ, ◌+◌, ◌*◌, List, [], ◌∷◌, ◌++◌, codes}
+use Rattle.st_bits.specs.declared.register.TheConstants.{ZERO, INTERRUPT_ADDRESS, BOUNDS, COUNTS, LEFT_HALF, RIGHT_HALF, SIGN_BYTE, INDICATORS, MASK, REMAINDER, FACTOR, TRANSIT, FIRST_INDEX_WORD}
+use Rattle.st_bits.specs.declared.indicators.TheConstants.{MACHINE_CHECK, INSTRUCTION_CHECK, INSTRUCTION_REJECT, EXCHANGE_CONTROL_CHECK, TIME_SIGNAL, PROCESSOR_SIGNAL, EXCHANGE_CHECK_REJECT, UNIT_NOT_READY_REJECT, CHANNEL_BUSY_REJECT, EXCHANGE_PROGRAM_CHECK, UNIT_CHECK, END_EXCEPTION, END_OF_OPERATION, CHANNEL_SIGNAL, OPERATION_INVALID, ADDRESS_INVALID, UNENDED_SEQUENCE, EXECUTE_EXCEPTION, DATA_STORE, DATA_FETCH, INSTRUCTION_FETCH, LOST_CARRY, PARTIAL_FIELD, ZERO_DIVISOR, FLAG_T, FLAG_U, FLAG_V, INDEX_FLAG, BINARY_TRANSIT, DECIMAL_TRANSIT, FIRST_PROGRAM_INDICATOR, INDEX_COUNT_ZERO, INDEX_VALUE_LESS, INDEX_VALUE_ZERO, INDEX_VALUE_GREATER, INDEX_LOW, INDEX_EQUAL, INDEX_HIGH, TO_MEMORY_OPERATION, RESULT_LESS, RESULT_ZERO, RESULT_GREATER, RESULT_NEGATIVE, ACCUMULATOR_LOW, ACCUMULATOR_EQUAL, ACCUMULATOR_HIGH}
 
--- parts of register words, as bit addresses: 64 times the word and the bit
+-- bit b of word w as a bit address
+abbrev pub bit : ℕ → ℕ → ℕ
+bit w b = 64 * w + b
+
+-- an index word as a bit address
+abbrev pub index_word : ℕ → ℕ
+index_word j = bit (FIRST_INDEX_WORD + j) 0
+
+-- an indicator as a bit address
+abbrev pub indicator : ℕ → ℕ
+indicator n = bit INDICATORS n
+
+-- parts of register words
 abbrev pub registers : List (List ℕ × ℕ)
 registers =
-    (codes "$Z", 0) ∷ (codes "$IA", 128) ∷ (codes "$UB", 192) ∷ (codes "$LB", 224)
-    ∷ (codes "$BC", 249) ∷ (codes "$LZC", 465) ∷ (codes "$AOC", 492) ∷ (codes "$L", 512)
-    ∷ (codes "$R", 576) ∷ (codes "$SB", 640) ∷ (codes "$IND", 704) ∷ (codes "$MASK", 768)
-    ∷ (codes "$RM", 832) ∷ (codes "$FT", 896) ∷ (codes "$TR", 960) ∷ []
+    (codes "$Z", bit ZERO 0) ∷ (codes "$IA", bit INTERRUPT_ADDRESS 0) ∷ (codes "$UB", bit BOUNDS 0)
+    ∷ (codes "$LB", bit BOUNDS 32) ∷ (codes "$BC", bit BOUNDS 57) ∷ (codes "$LZC", bit COUNTS 17)
+    ∷ (codes "$AOC", bit COUNTS 44) ∷ (codes "$L", bit LEFT_HALF 0) ∷ (codes "$R", bit RIGHT_HALF 0)
+    ∷ (codes "$SB", bit SIGN_BYTE 0) ∷ (codes "$IND", bit INDICATORS 0) ∷ (codes "$MASK", bit MASK 0)
+    ∷ (codes "$RM", bit REMAINDER 0) ∷ (codes "$FT", bit FACTOR 0) ∷ (codes "$TR", bit TRANSIT 0) ∷ []
 
--- the index words 16 to 31
+-- the index words
 abbrev pub index_words : List (List ℕ × ℕ)
 index_words =
-    (codes "$X0", 1024) ∷ (codes "$X1", 1088) ∷ (codes "$X2", 1152) ∷ (codes "$X3", 1216)
-    ∷ (codes "$X4", 1280) ∷ (codes "$X5", 1344) ∷ (codes "$X6", 1408) ∷ (codes "$X7", 1472)
-    ∷ (codes "$X8", 1536) ∷ (codes "$X9", 1600) ∷ (codes "$X10", 1664) ∷ (codes "$X11", 1728)
-    ∷ (codes "$X12", 1792) ∷ (codes "$X13", 1856) ∷ (codes "$X14", 1920) ∷ (codes "$X15", 1984) ∷ []
+    (codes "$X0", index_word 0) ∷ (codes "$X1", index_word 1) ∷ (codes "$X2", index_word 2)
+    ∷ (codes "$X3", index_word 3) ∷ (codes "$X4", index_word 4) ∷ (codes "$X5", index_word 5)
+    ∷ (codes "$X6", index_word 6) ∷ (codes "$X7", index_word 7) ∷ (codes "$X8", index_word 8)
+    ∷ (codes "$X9", index_word 9) ∷ (codes "$X10", index_word 10) ∷ (codes "$X11", index_word 11)
+    ∷ (codes "$X12", index_word 12) ∷ (codes "$X13", index_word 13) ∷ (codes "$X14", index_word 14)
+    ∷ (codes "$X15", index_word 15) ∷ []
 
--- the indicators: indicator n is bit n of word 11
+-- the indicators
 abbrev pub indicators : List (List ℕ × ℕ)
 indicators =
-    (codes "$MK", 704) ∷ (codes "$IK", 705) ∷ (codes "$IJ", 706) ∷ (codes "$EK", 707)
-    ∷ (codes "$TS", 708) ∷ (codes "$CPUS", 709) ∷ (codes "$EKJ", 710) ∷ (codes "$UNRJ", 711)
-    ∷ (codes "$CBJ", 712) ∷ (codes "$EPGK", 713) ∷ (codes "$UK", 714) ∷ (codes "$EE", 715)
-    ∷ (codes "$EOP", 716) ∷ (codes "$CS", 717) ∷ (codes "$OP", 719) ∷ (codes "$AD", 720)
-    ∷ (codes "$USA", 721) ∷ (codes "$EXE", 722) ∷ (codes "$DS", 723) ∷ (codes "$DF", 724)
-    ∷ (codes "$IF", 725) ∷ (codes "$LC", 726) ∷ (codes "$PF", 727) ∷ (codes "$ZD", 728)
-    ∷ (codes "$TF", 739) ∷ (codes "$UF", 740) ∷ (codes "$VF", 741) ∷ (codes "$XF", 742)
-    ∷ (codes "$BTR", 743) ∷ (codes "$DTR", 744) ∷ (codes "$PG0", 745) ∷ (codes "$PG1", 746)
-    ∷ (codes "$PG2", 747) ∷ (codes "$PG3", 748) ∷ (codes "$PG4", 749) ∷ (codes "$PG5", 750)
-    ∷ (codes "$PG6", 751) ∷ (codes "$XCZ", 752) ∷ (codes "$XVLZ", 753) ∷ (codes "$XVZ", 754)
-    ∷ (codes "$XVGZ", 755) ∷ (codes "$XL", 756) ∷ (codes "$XE", 757) ∷ (codes "$XH", 758)
-    ∷ (codes "$MOP", 759) ∷ (codes "$RLZ", 760) ∷ (codes "$RZ", 761) ∷ (codes "$RGZ", 762)
-    ∷ (codes "$RN", 763) ∷ (codes "$AL", 764) ∷ (codes "$AE", 765) ∷ (codes "$AH", 766) ∷ []
+    (codes "$MK", indicator MACHINE_CHECK) ∷ (codes "$IK", indicator INSTRUCTION_CHECK)
+    ∷ (codes "$IJ", indicator INSTRUCTION_REJECT) ∷ (codes "$EK", indicator EXCHANGE_CONTROL_CHECK)
+    ∷ (codes "$TS", indicator TIME_SIGNAL) ∷ (codes "$CPUS", indicator PROCESSOR_SIGNAL)
+    ∷ (codes "$EKJ", indicator EXCHANGE_CHECK_REJECT) ∷ (codes "$UNRJ", indicator UNIT_NOT_READY_REJECT)
+    ∷ (codes "$CBJ", indicator CHANNEL_BUSY_REJECT) ∷ (codes "$EPGK", indicator EXCHANGE_PROGRAM_CHECK)
+    ∷ (codes "$UK", indicator UNIT_CHECK) ∷ (codes "$EE", indicator END_EXCEPTION)
+    ∷ (codes "$EOP", indicator END_OF_OPERATION) ∷ (codes "$CS", indicator CHANNEL_SIGNAL)
+    ∷ (codes "$OP", indicator OPERATION_INVALID) ∷ (codes "$AD", indicator ADDRESS_INVALID)
+    ∷ (codes "$USA", indicator UNENDED_SEQUENCE) ∷ (codes "$EXE", indicator EXECUTE_EXCEPTION)
+    ∷ (codes "$DS", indicator DATA_STORE) ∷ (codes "$DF", indicator DATA_FETCH)
+    ∷ (codes "$IF", indicator INSTRUCTION_FETCH) ∷ (codes "$LC", indicator LOST_CARRY)
+    ∷ (codes "$PF", indicator PARTIAL_FIELD) ∷ (codes "$ZD", indicator ZERO_DIVISOR)
+    ∷ (codes "$TF", indicator FLAG_T) ∷ (codes "$UF", indicator FLAG_U) ∷ (codes "$VF", indicator FLAG_V)
+    ∷ (codes "$XF", indicator INDEX_FLAG) ∷ (codes "$BTR", indicator BINARY_TRANSIT)
+    ∷ (codes "$DTR", indicator DECIMAL_TRANSIT) ∷ (codes "$PG0", indicator FIRST_PROGRAM_INDICATOR)
+    ∷ (codes "$PG1", indicator (FIRST_PROGRAM_INDICATOR + 1))
+    ∷ (codes "$PG2", indicator (FIRST_PROGRAM_INDICATOR + 2))
+    ∷ (codes "$PG3", indicator (FIRST_PROGRAM_INDICATOR + 3))
+    ∷ (codes "$PG4", indicator (FIRST_PROGRAM_INDICATOR + 4))
+    ∷ (codes "$PG5", indicator (FIRST_PROGRAM_INDICATOR + 5))
+    ∷ (codes "$PG6", indicator (FIRST_PROGRAM_INDICATOR + 6)) ∷ (codes "$XCZ", indicator INDEX_COUNT_ZERO)
+    ∷ (codes "$XVLZ", indicator INDEX_VALUE_LESS) ∷ (codes "$XVZ", indicator INDEX_VALUE_ZERO)
+    ∷ (codes "$XVGZ", indicator INDEX_VALUE_GREATER) ∷ (codes "$XL", indicator INDEX_LOW)
+    ∷ (codes "$XE", indicator INDEX_EQUAL) ∷ (codes "$XH", indicator INDEX_HIGH)
+    ∷ (codes "$MOP", indicator TO_MEMORY_OPERATION) ∷ (codes "$RLZ", indicator RESULT_LESS)
+    ∷ (codes "$RZ", indicator RESULT_ZERO) ∷ (codes "$RGZ", indicator RESULT_GREATER)
+    ∷ (codes "$RN", indicator RESULT_NEGATIVE) ∷ (codes "$AL", indicator ACCUMULATOR_LOW)
+    ∷ (codes "$AE", indicator ACCUMULATOR_EQUAL) ∷ (codes "$AH", indicator ACCUMULATOR_HIGH) ∷ []
 
 -- the system symbols with their values, bit addresses
 unfoldable pub system_symbols : List (List ℕ × ℕ)

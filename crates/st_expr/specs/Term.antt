@@ -1,6 +1,8 @@
 -- The terms of an expression.
 use Rattle.std.specs.Prelude.{◌≡◌, ℕ, ◌+◌, ◌*◌, false, List, [], ◌∷◌, if◌then◌else◌}
 use Rattle.std.specs.Option.{option_map_or}
+use Rattle.st_expr.specs.declared.terms.TheConstants.{LAST_ADDRESS, LAST_BIT}
+use Rattle.st_text.specs.Bytes.{period}
 use Rattle.st_card.specs.Number.{reading}
 use Rattle.st_card.specs.Pieces.{parted}
 use Rattle.st_card.specs.Tables.{row_of}
@@ -26,8 +28,8 @@ bit_address Bad b = BadAtom
 
 -- what the pieces of `w` or `w.b` say
 abbrev pub place_of : List (List ℕ) → AtomReading
-place_of (w ∷ []) = bit_address (reading 262143 w) (Good 0)
-place_of (w ∷ b ∷ []) = bit_address (reading 262143 w) (reading 63 b)
+place_of (w ∷ []) = bit_address (reading LAST_ADDRESS w) (Good 0)
+place_of (w ∷ b ∷ []) = bit_address (reading LAST_ADDRESS w) (reading LAST_BIT b)
 place_of _ = BadAtom
 
 -- what a word for the system says: a system symbol is its number, any other a name
@@ -38,7 +40,7 @@ system_atom word = option_map_or (λ n. Number n) (row_of word system_symbols) (
 abbrev pub atom_of : List ℕ → AtomReading
 atom_of word =
     if is_name word then GoodAtom (Name (padded word))
-    else (if is_system_word word then GoodAtom (system_atom word) else place_of (parted 46 word))
+    else (if is_system_word word then GoodAtom (system_atom word) else place_of (parted period word))
 
 -- a term that adds nothing
 abbrev pub IsZero : Term → Type 0

@@ -1,6 +1,7 @@
 //! The terms of an expression.
 
 ghost use Rattle.std.specs.Prelude.{◌≡◌, ◌≤◌, length};
+ghost use Rattle.st_text.specs.Bytes.{period};
 ghost use Rattle.st_card.specs.Number.{IsWithin};
 ghost use Rattle.st_card.specs.Pieces.{parted};
 ghost use Rattle.st_expr.specs.Term as spec;
@@ -10,7 +11,7 @@ use crate::system::system_value;
 use st_card::{Reading, cut, read_number};
 
 // The last word address, also past storage, and the last bit of a word.
-const LAST_WORD: u64 = 262_143;
+const LAST_ADDRESS: u64 = 262_143;
 
 const LAST_BIT: u64 = 63;
 
@@ -77,12 +78,12 @@ fn system_atom(word: &[u8]) -> Atom
 
 // What a text says where `w` or `w.b` is wanted.
 fn read_place(word: &[u8]) -> AtomReading
-    ensures { result ≡ spec.place_of (parted 46 word.now) }
+    ensures { result ≡ spec.place_of (parted period word.now) }
 {
     match cut(word, b'.') {
-        None => bit_address(read_number(word, LAST_WORD), Reading::Good(0)),
+        None => bit_address(read_number(word, LAST_ADDRESS), Reading::Good(0)),
         Some((w, b)) => match cut(b, b'.') {
-            None => bit_address(read_number(w, LAST_WORD), read_number(b, LAST_BIT)),
+            None => bit_address(read_number(w, LAST_ADDRESS), read_number(b, LAST_BIT)),
             Some(_) => AtomReading::Bad,
         },
     }
@@ -90,8 +91,8 @@ fn read_place(word: &[u8]) -> AtomReading
 
 // The bit address that a word's number and a bit's make.
 fn bit_address(word: Reading, bit: Reading) -> AtomReading
-    requires word_within { IsWithin 262143 word }
-    requires bit_within { IsWithin 63 bit }
+    requires word_within { IsWithin LAST_ADDRESS word }
+    requires bit_within { IsWithin LAST_BIT bit }
     ensures { result ≡ spec.bit_address word bit }
 {
     match (word, bit) {

@@ -1,5 +1,5 @@
 -- What is fetched is in its ranges.
-use Rattle.std.proofs.Common.{ℕ, ◌+◌, ◌/◌, ◌^◌, ◌<◌, ◌==◌, if◌then◌else◌, Option, None, Some, is_none, arith}
+use Rattle.std.proofs.Common.{ℕ, ◌+◌, ◌/◌, ◌^◌, ◌<◌, Bool, true, false, ◌==◌, if◌then◌else◌, List, Option, None, Some, is_none, arith}
 use Rattle.std.specs.Prelude.{IfSome}
 use Rattle.st_format.specs.declared.instruction.Instr.{Instr}
 use Rattle.st_format.specs.declared.instruction.Instr.TheVariants.{Half, Branch, Floating, Vfl, Connect, Move, BitBranch, IndBranch, StoreCounter, Transfer, Invalid}
@@ -7,12 +7,13 @@ use Rattle.st_format.specs.declared.instruction.Decoded.{Decoded}
 use Rattle.st_format.specs.Formats.{IsShape, decoded}
 use Rattle.st_format.proofs.Shapes.{shape-instruction_of}
 use Rattle.st_state.specs.Machine.{Machine, word}
-use Rattle.st_state.specs.Boundary.{forbidden, forbidden_by, is_invalid, is_protected}
+use Rattle.st_state.specs.Boundary.{forbidden_by, is_invalid, is_protected}
 use Rattle.st_state.specs.declared.protection.Access.TheVariants.{Fetch}
 use Rattle.st_prep.specs.declared.entries.Place.{Place}
 use Rattle.st_prep.specs.declared.fetching.Found.{Found}
 use Rattle.st_prep.specs.EarlyChange.{effective}
-use Rattle.st_prep.specs.Fetch.{index_words, half_at, found_whole, found_after, found, is_execute, with_target, alone, with_own, fetched}
+use Rattle.st_prep.specs.Reading.{Reading, Finds, Reads, outcome, half_of, Use, with_second, with_first, read_after, instruction_at, is_execute, with_target, alone, own_use, reading}
+use Rattle.st_prep.specs.Fetch.{fetched}
 use Rattle.st_prep.specs.Ranges.{HasFields, IsFound, IsFetched}
 use Rattle.st_prep.proofs.Choices.{of_choice}
 
@@ -33,53 +34,81 @@ fields-shape (Invalid first second full) s = tt
 fields-decoded : (f s : ℕ) → f < 2 ^ 32 → s < 2 ^ 32 → HasFields (decoded f s).instr
 fields-decoded f s first second = fields-shape _ (shape-instruction_of f s first second)
 
-half_at-below : (s : Machine) (h : ℕ) → half_at s h < 2 ^ 32
-unfolding half_at
-half_at-below s h = omega arith
+half-below : (content h : ℕ) → half_of content h < 2 ^ 32
+half-below content h = omega arith
 
-fetch_fault : (s : Machine) (w : ℕ) → IfSome (forbidden s Fetch w) (λ i. i < 64)
+fetch_fault : (b : ℕ) (en : Bool) (w : ℕ) → IfSome (forbidden_by b en Fetch w) (λ i. i < 64)
 unfolding forbidden_by
-fetch_fault s w =
+fetch_fault b en w =
     let P : Option ℕ → Type 0 = λ o. IfSome o (λ i. i < 64) in
-    of_choice P (is_invalid Fetch w) (Some 16) (if is_protected (word s 3) s.enabled w then Some 21 else None) (omega arith)
-    (of_choice P (is_protected (word s 3) s.enabled w) (Some 21) None (omega arith) tt)
+    of_choice P (is_invalid Fetch w) (Some 16) (if is_protected b en w then Some 21 else None) (omega arith)
+    (of_choice P (is_protected b en w) (Some 21) None (omega arith) tt)
 
-found_whole-fits : (f : Option ℕ) (s : Machine) (first h : ℕ) → first < 2 ^ 32 → IfSome f (λ i. i < 64)
-    → IsFound (found_whole f s first h)
-found_whole-fits (Some i) s first h below some =
-    record { shape = fields-decoded first 0 below (omega arith); fault = some }
-found_whole-fits None s first h below some =
-    record { shape = fields-decoded first (half_at s h) below (half_at-below s h); fault = tt }
+-- whatever it finds is in its ranges
+abbrev pub Fits : Reading → Type 0
+Fits r = (c : ℕ → ℕ) → IsFetched (outcome r c)
 
-found_after-fits : (f : Option ℕ) (s : Machine) (h : ℕ) → IfSome f (λ i. i < 64) → IsFound (found_after f s h)
-found_after-fits (Some i) s h some = record { shape = tt; fault = some }
-found_after-fits None s h some =
-    let own : Decoded = decoded (half_at s h) 0 in
-    of_choice IsFound (own.halves == 2)
-    (found_whole (forbidden s Fetch ((h + 1) / 2)) s (half_at s h) (h + 1)) (record { decoded = own; fault = None })
-    (found_whole-fits _ s (half_at s h) (h + 1) (half_at-below s h) (fetch_fault s ((h + 1) / 2)))
-    (record { shape = fields-decoded (half_at s h) 0 (half_at-below s h) (omega arith); fault = tt })
+-- a use to which all that is found is of use
+abbrev pub UseFits : Use → Type 0
+UseFits k = (f : Found) → IsFound f → Fits (k f)
 
-pub found-fits : (s : Machine) (h : ℕ) → IsFound (found s h)
-unfolding found
-found-fits s h = found_after-fits (forbidden s Fetch (h / 2)) s h (fetch_fault s (h / 2))
+fits-read : (t : Bool) (w : ℕ) (r : ℕ → Reading) → ((c : ℕ) → Fits (r c)) → Fits (Reads t w r)
+unfolding outcome
+fits-read t w r h c = h (c w) c
 
-with_target-fits : (ex : Decoded) (target : Found) → HasFields ex.instr → IsFound target → IsFetched (with_target ex target)
-with_target-fits ex target own some = record {
+with_second-fits : (f : Option ℕ) (t : Bool) (first h v content : ℕ) (k : Use) → first < 2 ^ 32
+    → IfSome f (λ i. i < 64) → UseFits k → Fits (with_second f t first h v content k)
+with_second-fits (Some i) t first h v content k below some fits =
+    fits _ (record { shape = fields-decoded first 0 below (omega arith); fault = some })
+with_second-fits None t first h v content k below some fits =
+    of_choice Fits (h / 2 == v) _ _
+    (fits _ (record { shape = fields-decoded first (half_of content h) below (half-below content h); fault = tt }))
+    (fits-read t (h / 2) _
+    (λ c. fits _ (record { shape = fields-decoded first (half_of c h) below (half-below c h); fault = tt })))
+
+with_first-fits : (t : Bool) (b : ℕ) (en : Bool) (h content : ℕ) (k : Use) → UseFits k
+    → Fits (with_first t b en h content k)
+unfolding with_first
+with_first-fits t b en h content k fits =
+    let first : ℕ = half_of content h in
+    of_choice Fits ((decoded first 0).halves == 2) _ _
+    (with_second-fits _ t first (h + 1) (h / 2) content k (half-below content h) (fetch_fault b en ((h + 1) / 2)) fits)
+    (fits _ (record { shape = fields-decoded first 0 (half-below content h) (omega arith); fault = tt }))
+
+read_after-fits : (f : Option ℕ) (t : Bool) (b : ℕ) (en : Bool) (h : ℕ) (k : Use) → IfSome f (λ i. i < 64) → UseFits k
+    → Fits (read_after f t b en h k)
+read_after-fits (Some i) t b en h k some fits = fits _ (record { shape = tt; fault = some })
+read_after-fits None t b en h k some fits = fits-read t (h / 2) _ (λ c. with_first-fits t b en h c k fits)
+
+instruction-fits : (t : Bool) (b : ℕ) (en : Bool) (h : ℕ) (k : Use) → UseFits k → Fits (instruction_at t b en h k)
+unfolding instruction_at
+instruction-fits t b en h k fits = read_after-fits _ t b en h k (fetch_fault b en (h / 2)) fits
+
+with_target-fits : (ex : Decoded) → HasFields ex.instr → UseFits (λ target. Finds (with_target ex target))
+unfolding outcome
+with_target-fits ex own target some c = record {
   own = own;
   target =
       of_choice (λ o. IfSome o (λ d. HasFields d.instr)) (is_none target.fault) (Some target.decoded) None some.shape tt;
   fault = some.fault;
 }
 
-with_own-fits : (s : Machine) (own : Found) → IsFound own → IsFetched (with_own s own)
-with_own-fits s own some =
-    let target : Found = found s (effective (index_words s) own.decoded.instr / 32) in
-    of_choice IsFetched (is_execute own.decoded.instr) (with_target own.decoded target) (alone own)
-    (with_target-fits own.decoded target some.shape (found-fits s _))
-    (record { own = some.shape; target = tt; fault = some.fault })
+alone-fits : (own : Found) → IsFound own → Fits (Finds (alone own))
+unfolding outcome
+alone-fits own some c = record { own = some.shape; target = tt; fault = some.fault }
+
+own_use-fits : (x : List ℕ) (b : ℕ) (en : Bool) → UseFits (own_use x b en)
+unfolding own_use
+own_use-fits x b en own some =
+    of_choice Fits (is_execute own.decoded.instr) _ _
+    (instruction-fits true b en (effective x own.decoded.instr / 32) _ (with_target-fits own.decoded some.shape))
+    (alone-fits own some)
+
+pub reading-fits : (x : List ℕ) (b : ℕ) (en : Bool) (place : Place) → Fits (reading x b en place)
+unfolding reading
+reading-fits x b en place = instruction-fits false b en place.address _ (own_use-fits x b en)
 
 -- whatever is fetched at a place
 pub fetched-fits : (s : Machine) (place : Place) → IsFetched (fetched s place)
 unfolding fetched
-fetched-fits s place = with_own-fits s (found s place.address) (found-fits s place.address)
+fetched-fits s place = reading-fits _ _ _ place (word s)

@@ -13,3 +13,4 @@ pub mod AlikeLemmas
 pub mod CountLemmas
 pub mod BesideLemmas
 pub mod FewLemmas
+pub mod GivenLemmas

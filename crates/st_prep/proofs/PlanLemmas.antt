@@ -1,5 +1,5 @@
 -- Entries of states.
-use Rattle.std.proofs.Common.{◌≡◌, ℕ, ◌+◌, ◌-◌, ◌/◌, ◌^◌, ◌<◌, ◌≤◌, Bool, true, false, ◌||◌, if◌then◌else◌, List, length, get_or, take, drop, Option, None, Some, is_some, refl, sym, ◌∙◌, ap, arith, bit_and, inl, inr}
+use Rattle.std.proofs.Common.{◌≡◌, ℕ, ◌+◌, ◌-◌, ◌/◌, ◌^◌, ◌<◌, ◌≤◌, Bool, true, false, ◌||◌, ◌==◌, if◌then◌else◌, List, length, get_or, take, drop, Option, None, Some, is_some, refl, sym, ◌∙◌, ap, arith, bit_and, inl, inr}
 use Rattle.std.specs.Prelude.{IfSome}
 use Rattle.std.proofs.lemmas.List.{get_or-take, get_or-drop, get_or_past, length-take}
 use Rattle.std.proofs.lemmas.Bool.Decides.{leb_tells}
@@ -12,12 +12,16 @@ use Rattle.st_state.specs.Interrupts.{turned}
 use Rattle.st_state.proofs.Kept.{is_machine-with_word}
 use Rattle.st_state.proofs.Turned.{turned_below, turned-masks}
 use Rattle.st_prep.specs.declared.entries.Place.{Place}
+use Rattle.st_format.specs.declared.instruction.Decoded.{Decoded}
+use Rattle.st_format.specs.Formats.{decoded}
 use Rattle.st_prep.specs.declared.entries.Fetched.{Fetched}
 use Rattle.st_prep.specs.declared.fetching.Found.{Found}
 use Rattle.st_prep.specs.EarlyChange.{effective}
-use Rattle.st_prep.specs.Fetch.{index_words, address_by, place_of, found, is_execute, with_target, alone, fetched}
+use Rattle.st_prep.specs.Reading.{Reading, Finds, outcome, half_of, Use, with_second, with_first, read_after, instruction_at, is_execute, with_target, alone, own_use, reading}
+use Rattle.st_prep.specs.Fetch.{index_words, address_by, place_of, fetched}
 use Rattle.st_prep.specs.Plan.{Sight, needs, prepared, sight, opened, side_word, side_of, plan, IsSeen}
 use Rattle.st_prep.specs.Ranges.{IsPlace, IsPrepared}
+use Rattle.st_prep.proofs.Choices.{of_choice}
 use Rattle.st_prep.proofs.FetchLemmas.{fetched-fits}
 use Rattle.st_prep.proofs.PreparedLemmas.{IsSight, is_prepared, alone-serial}
 
@@ -113,18 +117,57 @@ prepared-plan s v r h e =
 
 -- ---- EX
 
-target-executes : (b : Bool) (own : Found) (target : Found) → is_execute own.decoded.instr ≡ b
-    → is_some (if b then with_target own.decoded target else alone own).target ≡ true
-    → is_execute (if b then with_target own.decoded target else alone own).instr.instr ≡ true
-target-executes true own target e h = e
-target-executes false own target e h = absurd (cc)
+-- a reading whose finds with a target are EX
+abbrev pub TargetsExecute : Reading → (ℕ → ℕ) → Type 0
+TargetsExecute r c = is_some (outcome r c).target ≡ true → is_execute (outcome r c).instr.instr ≡ true
+
+with_second-executes : (f : Option ℕ) (t : Bool) (first h v content : ℕ) (k : Use) (c : ℕ → ℕ)
+    → ((f : Found) → TargetsExecute (k f) c) → TargetsExecute (with_second f t first h v content k) c
+unfolding outcome
+with_second-executes (Some i) t first h v content k c each = each _
+with_second-executes None t first h v content k c each =
+    of_choice (λ r. TargetsExecute r c) (h / 2 == v) _ _ (each _) (each _)
+
+read_after-executes : (f : Option ℕ) (t : Bool) (b : ℕ) (en : Bool) (h : ℕ) (k : Use) (c : ℕ → ℕ)
+    → ((f : Found) → TargetsExecute (k f) c) → TargetsExecute (read_after f t b en h k) c
+unfolding outcome with_first
+read_after-executes (Some i) t b en h k c each = each _
+read_after-executes None t b en h k c each =
+    of_choice (λ r. TargetsExecute r c) ((decoded (half_of (c (h / 2)) h) 0).halves == 2) _ _
+    (with_second-executes _ t _ (h + 1) (h / 2) _ k c each) (each _)
+
+at-executes : (t : Bool) (b : ℕ) (en : Bool) (h : ℕ) (k : Use) (c : ℕ → ℕ) → ((f : Found) → TargetsExecute (k f) c)
+    → TargetsExecute (instruction_at t b en h k) c
+unfolding instruction_at
+at-executes t b en h k c each = read_after-executes _ t b en h k c each
+
+-- EX with whatever target
+with_target-executes : (ex : Decoded) (c : ℕ → ℕ) (target : Found) → is_execute ex.instr ≡ true
+    → TargetsExecute (Finds (with_target ex target)) c
+unfolding outcome
+with_target-executes ex c target e h = e
+
+alone-executes : (own : Found) (c : ℕ → ℕ) → TargetsExecute (Finds (alone own)) c
+unfolding outcome
+alone-executes own c h = cc
+
+own-executes : (e : Bool) (own : Found) (x : List ℕ) (b : ℕ) (en : Bool) (c : ℕ → ℕ) → is_execute own.decoded.instr ≡ e
+    → TargetsExecute
+    (if e then instruction_at true b en (effective x own.decoded.instr / 32) (λ target. Finds (with_target own.decoded target))
+    else Finds (alone own)) c
+own-executes true own x b en c e =
+    at-executes true b en (effective x own.decoded.instr / 32) _ c (λ target. with_target-executes own.decoded c target e)
+own-executes false own x b en c e = alone-executes own c
+
+own_use-executes : (x : List ℕ) (b : ℕ) (en : Bool) (c : ℕ → ℕ) (own : Found) → TargetsExecute (own_use x b en own) c
+unfolding own_use
+own_use-executes x b en c own = own-executes (is_execute own.decoded.instr) own x b en c refl
 
 -- what has a target is EX
 fetched-target : (s : Machine) (p : Place) → is_some (fetched s p).target ≡ true → is_execute (fetched s p).instr.instr ≡ true
-unfolding fetched
+unfolding fetched reading
 fetched-target s p h =
-    let own = found s p.address in
-    target-executes (is_execute own.decoded.instr) own (found s (effective (index_words s) own.decoded.instr / 32)) refl h
+    at-executes false (word s 3) s.enabled p.address _ (word s) (own_use-executes (index_words s) (word s 3) s.enabled (word s)) h
 
 or-second : (a b : Bool) → b ≡ true → (a || b) ≡ true
 or-second true b h = refl

@@ -11,7 +11,7 @@ use Rattle.st_prep.specs.declared.entries.Place.{Place}
 use Rattle.st_prep.specs.declared.entries.Fetched.{Fetched}
 use Rattle.st_prep.specs.EarlyChange.{effective, side}
 use Rattle.st_prep.specs.Entry.{reads, writes, next, acts_alone, has_register, is_register}
-use Rattle.st_prep.specs.Fetch.{is_execute}
+use Rattle.st_prep.specs.Reading.{is_execute}
 use Rattle.st_prep.specs.Checks.{executed, forbidden_side, forbidden_words, forbidden_area, operation_fault, operation_invalid, fault}
 use Rattle.st_prep.specs.Plan.{Sight, is_alone, is_serial, fault_of, needs_by, needs, suppressed, entry, prepared_by, prepared}
 use Rattle.st_prep.specs.Ranges.{HasFields, IsPlace, IsFetched, IsPrepared, IsNeeds}

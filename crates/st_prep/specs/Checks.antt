@@ -11,7 +11,7 @@ use Rattle.st_prep.specs.declared.entries.Fetched.{Fetched}
 use Rattle.st_prep.specs.declared.entries.Words.{Words}
 use Rattle.st_prep.specs.EarlyChange.{effective, side}
 use Rattle.st_prep.specs.Entry.{reads, writes}
-use Rattle.st_prep.specs.Fetch.{is_execute}
+use Rattle.st_prep.specs.Reading.{is_execute}
 
 -- the instruction that is executed: the target of EX, or else the instruction itself
 unfoldable pub executed : Fetched → Instr

@@ -9,7 +9,8 @@ use Rattle.st_prep.specs.declared.entries.Needs.{Needs}
 use Rattle.st_prep.specs.declared.entries.Prepared.{Prepared}
 use Rattle.st_prep.specs.EarlyChange.{effective, side, change}
 use Rattle.st_prep.specs.Entry.{no_words, reads, writes, next, after, value, cost, acts_alone, has_register, is_register}
-use Rattle.st_prep.specs.Fetch.{index_words, place_of, is_execute, fetched}
+use Rattle.st_prep.specs.Reading.{is_execute}
+use Rattle.st_prep.specs.Fetch.{index_words, place_of, fetched}
 use Rattle.st_prep.specs.Checks.{executed, fault}
 
 -- what preparation sees of a state: the place of the entry, what is fetched there, the sixteen index words, word 3,

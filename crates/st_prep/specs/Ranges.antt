@@ -8,7 +8,11 @@ use Rattle.st_format.specs.declared.instruction.Instr.TheVariants.{Half, StoreCo
 use Rattle.st_format.specs.Formats.{IsShape, is_valid}
 use Rattle.st_prep.specs.declared.entries.Place.{Place}
 use Rattle.st_prep.specs.declared.entries.Fetched.{Fetched}
+use Rattle.st_prep.specs.declared.entries.Fetching.{Fetching}
+use Rattle.st_prep.specs.declared.entries.Fetching.TheVariants.{Next, Found as FoundAll}
 use Rattle.st_prep.specs.declared.fetching.Found.{Found}
+use Rattle.st_prep.specs.declared.fetching.Part.{Part}
+use Rattle.st_prep.specs.declared.fetching.Part.TheVariants.{Wants, Has}
 use Rattle.st_prep.specs.declared.entries.Needs.{Needs}
 use Rattle.st_prep.specs.declared.entries.Words.{Words}
 use Rattle.st_prep.specs.declared.entries.IndexChange.{IndexChange}
@@ -31,11 +35,21 @@ pub record IsFound (f : Found) : Type 0 where
   pub shape : HasFields f.decoded.instr
   pub fault : IfSome f.fault (λ i. i < 64)
 
+-- so much is known of an instruction by n words at most
+abbrev pub IsPart : ℕ → Part → Type 0
+IsPart n (Wants w) = w < words_of_storage
+IsPart n (Has found used) = (used ≤ n) × IsFound found
+
 -- the instructions have their fields, and the indicator is one
 pub record IsFetched (f : Fetched) : Type 0 where
   pub own : HasFields f.instr.instr
   pub target : IfSome f.target (λ d. HasFields d.instr)
   pub fault : IfSome f.fault (λ i. i < 64)
+
+-- the next word lies in storage, or what is fetched is in its ranges
+abbrev pub IsFetching : Fetching → Type 0
+IsFetching (Next w target) = w < words_of_storage
+IsFetching (FoundAll f) = IsFetched f
 
 -- two runs of at most sixteen words, which start at word addresses
 pub record IsRuns (w : Words) : Type 0 where

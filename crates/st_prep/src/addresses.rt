@@ -53,12 +53,12 @@ fn field_address(x: &[u64; 16], p: u8, address: u32, i: u8) -> u32
 
 /// The effective address of an instruction.
 #[tactic(auto, unfolding(crate::specs::EarlyChange::effective))]
-pub fn effective_address(instr: Instr, x: &[u64; 16]) -> u32
-    requires { HasFields instr }
-    ensures value { result ≡ effective_of x.now instr }
+pub fn effective_address(instr: &Instr, x: &[u64; 16]) -> u32
+    requires { HasFields instr.now }
+    ensures value { result ≡ effective_of x.now instr.now }
     ensures bound { result < 2 ^ 24 }
 {
-    match instr {
+    match *instr {
         Instr::Half { address, i, .. }
         | Instr::Branch { address, i, .. }
         | Instr::Floating { address, i, .. } => half_address(x, address, i),

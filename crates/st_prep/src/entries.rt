@@ -24,6 +24,15 @@ pub struct Fetched {
     pub fault: Option<u8>,
 }
 
+/// How far the fetching of an entry has come.
+#[derive(Clone, Copy, Debug, PartialEq, Eq)]
+pub enum Fetching {
+    /// The word at this word address is read next. It is the entry's own, or one of the target of EX.
+    Next { word: u32, target: bool },
+    /// This is what is fetched.
+    Found(Fetched),
+}
+
 /// What an entry needs before it can be prepared.
 #[derive(Clone, Copy, Debug, PartialEq, Eq)]
 pub struct Needs {

@@ -119,7 +119,7 @@ fn operation_fault(instr: Instr) -> Option<u8>
 {
     if !instr.is_valid() {
         Some(OPERATION_INVALID)
-    } else if is_execute(instr) {
+    } else if is_execute(&instr) {
         Some(EXECUTE_EXCEPTION)
     } else {
         None
@@ -134,7 +134,7 @@ pub fn fault(fetched: &Fetched, x: &[u64; 16], state: &State) -> Option<u8>
     ensures bound { IfSome result (λ i. i < 64) }
 {
     let instr = executed(fetched);
-    let e = effective_address(instr, x);
+    let e = effective_address(&instr, x);
     fetched
         .fault
         .or(operation_fault(instr))

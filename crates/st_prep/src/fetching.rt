@@ -1,12 +1,14 @@
-ghost use Rattle.std.specs.Prelude.{◌≡◌, ◌/◌, ◌<◌, ◌^◌, IfSome};
+ghost use Rattle.std.specs.Prelude.{◌≡◌, ◌+◌, ◌/◌, ◌<◌, ◌≤◌, ◌^◌, Bool, IfSome, length, drop, slice_index};
 ghost use Rattle.st_bits.specs.Storage.{words_of_storage};
-ghost use Rattle.st_state.specs.Boundary.{forbidden};
+ghost use Rattle.st_state.specs.Machine.{word};
+ghost use Rattle.st_state.specs.Boundary.{forbidden_by};
 ghost use Rattle.st_state.specs.declared.protection.Access.{Access};
-ghost use Rattle.st_prep.specs.Fetch.{index_words as index_words_of, half_at as half_of, place_of as place_by, address_by, found as found_of, found_whole as found_whole_of, is_execute as is_execute_of, with_target as with_target_of, nothing as nothing_of, fetched as fetched_at};
-ghost use Rattle.st_prep.specs.Ranges.{HasFields, IsPlace, IsFetched, IsFound};
+ghost use Rattle.st_prep.specs.Fetch.{index_words as index_words_of, place_of as place_by, address_by, fetched as fetched_at};
+ghost use Rattle.st_prep.specs.Reading.{Use, outcome, left_after, given, half_of as half_by, nothing as nothing_of, with_second as with_second_of, with_first as with_first_of, instruction_at, is_execute as is_execute_of, with_target as with_target_of, own_use, reading, given_by};
+ghost use Rattle.st_prep.specs.Ranges.{HasFields, IsPlace, IsPart, IsFound, IsFetched, IsFetching};
 
 use crate::addresses::effective_address;
-use crate::entries::{Fetched, Place};
+use crate::entries::{Fetched, Fetching, Place};
 use st_bits::{HalfOp, part};
 use st_format::{Decoded, Instr, decode};
 use st_state::{Access, State};
@@ -20,6 +22,15 @@ pub struct Found {
     pub fault: Option<u8>,
 }
 
+/// What is known of an instruction by the contents so far.
+#[derive(Clone, Copy, Debug, PartialEq, Eq)]
+pub enum Part {
+    /// This word has to be read.
+    Wants { word: u32 },
+    /// All of it, by so many of the contents.
+    Has { found: Found, used: usize },
+}
+
 /// The sixteen index words of a state.
 pub fn index_words(state: &State) -> [u64; 16]
     ensures { result ≡ index_words_of state.now }
@@ -30,16 +41,6 @@ pub fn index_words(state: &State) -> [u64; 16]
         x[j] = state.word(16 + j as u32);
     }
     x
-}
-
-/// The half-word at the half-word address `h`, whose word is within storage.
-#[tactic(auto, unfolding(crate::specs::Fetch::half_at), using(st_bits::specs::Storage::words_of_storage_is))]
-fn half_at(state: &State, h: u32) -> u32
-    requires { h / 2 < words_of_storage }
-    ensures value { result ≡ half_of state.now h }
-    ensures bound { result < 2 ^ 32 }
-{
-    part(state.word(h / 2), 32 * (h % 2), 32) as u32
 }
 
 /// The place of the next entry, or of the table instruction of an interrupt by the indicator in `table`.
@@ -70,6 +71,14 @@ fn address(state: &State, table: Option<u8>) -> u32
     }
 }
 
+/// The half at the half-word address `h` of a word with this content.
+fn half_of(content: u64, h: u32) -> u32
+    ensures value { result ≡ half_by content h }
+    ensures bound { result < 2 ^ 32 }
+{
+    part(content, 32 * (h % 2), 32) as u32
+}
+
 /// A half-word that may not be fetched.
 fn nothing() -> Decoded
     ensures { result ≡ nothing_of }
@@ -84,54 +93,82 @@ fn nothing() -> Decoded
     }
 }
 
-/// The instruction with this first half-word, whose second one is at `h`.
-fn find_whole(state: &State, first: u32, h: u32) -> Found
-    ensures value { result
-        ≡ found_whole_of (forbidden state.now Access.Fetch (h / 2)) state.now first h }
-    ensures shape { IsFound result }
+/// The instruction at the half-word address `h`, whose first half is `first`, of two half-words.
+fn with_second(first: u32, h: u32, contents: &[u64], state: &State) -> Part
+    requires address { h < 2 ^ 19 }
+    requires some { 1 ≤ length contents.now }
+    ensures value { (t : Bool) (k : Use) → given (left_after (with_second_of
+        (forbidden_by (word state.now 3) state.now.enabled Access.Fetch ((h + 1) / 2)) t first
+        (h + 1) (h / 2) (slice_index contents.now 0) k) (drop 1 contents.now))
+        ≡ given_by t result contents.now k }
+    ensures shape { IsPart (length contents.now) result }
 {
-    match state.may(Access::Fetch, h / 2) {
-        Some(i) => Found {
-            decoded: decode(first, 0),
-            fault: Some(i),
-        },
-        None => Found {
-            decoded: decode(first, half_at(state, h)),
-            fault: None,
-        },
+    let word = (h + 1) / 2;
+    if let Some(i) = state.may(Access::Fetch, word) {
+        return has(decode(first, 0), Some(i), 1);
+    }
+    if word == h / 2 {
+        return has(decode(first, half_of(contents[0], h + 1)), None, 1);
+    }
+    if contents.len() < 2 {
+        return Part::Wants { word };
+    }
+    has(decode(first, half_of(contents[1], h + 1)), None, 2)
+}
+
+/// An instruction that is known by `used` of the contents.
+fn has(decoded: Decoded, fault: Option<u8>, used: usize) -> Part
+    ensures { result ≡ Part.Has (record { decoded = decoded; fault = fault }) used }
+{
+    Part::Has {
+        found: Found { decoded, fault },
+        used,
     }
 }
 
-/// The instruction at the half-word address `h`.
-#[tactic(auto, unfolding(crate::specs::Fetch::found), using(st_bits::specs::Storage::words_of_storage_is))]
-fn find(state: &State, h: u32) -> Found
-    requires { h < 2 ^ 19 }
-    ensures value { result ≡ found_of state.now h }
-    ensures shape { IsFound result }
+/// The instruction at the half-word address `h`, whose first word is read.
+#[tactic(auto, unfolding(crate::specs::Reading::with_first))]
+fn with_first(h: u32, contents: &[u64], state: &State) -> Part
+    requires address { h < 2 ^ 19 }
+    requires some { 1 ≤ length contents.now }
+    ensures value { (t : Bool) (k : Use) → given (left_after (with_first_of t (word state.now 3)
+        state.now.enabled h (slice_index contents.now 0) k) (drop 1 contents.now))
+        ≡ given_by t result contents.now k }
+    ensures shape { IsPart (length contents.now) result }
 {
-    if let Some(i) = state.may(Access::Fetch, h / 2) {
-        return Found {
-            decoded: nothing(),
-            fault: Some(i),
-        };
-    }
-    let first = half_at(state, h);
+    let first = half_of(contents[0], h);
     let decoded = decode(first, 0);
     if decoded.halves == 2 {
-        return find_whole(state, first, h + 1);
+        with_second(first, h, contents, state)
+    } else {
+        has(decoded, None, 1)
     }
-    Found {
-        decoded,
-        fault: None,
+}
+
+/// The instruction at the half-word address `h`, as far as the contents tell.
+#[tactic(auto, unfolding(crate::specs::Reading::instruction_at))]
+fn part_at(h: u32, contents: &[u64], state: &State) -> Part
+    requires { h < 2 ^ 19 }
+    ensures value { (t : Bool) (k : Use) → given (left_after (instruction_at t (word state.now 3)
+        state.now.enabled h k) contents.now) ≡ given_by t result contents.now k }
+    ensures shape { IsPart (length contents.now) result }
+{
+    if let Some(i) = state.may(Access::Fetch, h / 2) {
+        return has(nothing(), Some(i), 0);
+    }
+    if contents.is_empty() {
+        Part::Wants { word: h / 2 }
+    } else {
+        with_first(h, contents, state)
     }
 }
 
 /// Whether an instruction is EX.
-#[tactic(auto, unfolding(crate::specs::Fetch::is_execute))]
-pub fn is_execute(instr: Instr) -> bool
-    ensures { result ≡ is_execute_of instr }
+#[tactic(auto, unfolding(crate::specs::Reading::is_execute))]
+pub fn is_execute(instr: &Instr) -> bool
+    ensures { result ≡ is_execute_of instr.now }
 {
-    matches!(instr, Instr::Half { op: HalfOp::Ex, .. })
+    matches!(*instr, Instr::Half { op: HalfOp::Ex, .. })
 }
 
 /// EX with the target that it points to.
@@ -152,6 +189,67 @@ fn with_target(ex: Decoded, target: Found) -> Fetched
     }
 }
 
+/// The entry with this own instruction, as far as the contents behind it tell.
+#[tactic(auto, unfolding(crate::specs::Reading::own_use))]
+fn own_or_target(own: Found, x: &[u64; 16], contents: &[u64], state: &State) -> Fetching
+    requires { IsFound own }
+    ensures value { result ≡ given (left_after (own_use x.now (word state.now 3) state.now.enabled
+        own) contents.now) }
+    ensures shape { IsFetching result }
+{
+    if !is_execute(&own.decoded.instr) {
+        return Fetching::Found(Fetched {
+            instr: own.decoded,
+            target: None,
+            fault: own.fault,
+        });
+    }
+    let e = effective_address(&own.decoded.instr, x);
+    match part_at(e / 32, contents, state) {
+        Part::Wants { word } => Fetching::Next { word, target: true },
+        Part::Has { found, .. } => Fetching::Found(with_target(own.decoded, found)),
+    }
+}
+
+/// How far an entry at a place is fetched once words with these contents were read for it, one after another: the word that
+/// is read next, or what is fetched. `x` are the index words, and of `state` only the boundary register and the mark for
+/// interrupts count.
+#[tactic(auto, unfolding(crate::specs::Reading::reading))]
+pub fn fetch_on(place: &Place, x: &[u64; 16], contents: &[u64], state: &State) -> Fetching
+    requires { IsPlace place.now }
+    ensures value { result ≡ given (left_after (reading x.now (word state.now 3) state.now.enabled
+        place.now) contents.now) }
+    ensures shape { IsFetching result }
+{
+    match part_at(place.address, contents, state) {
+        Part::Wants { word } => Fetching::Next {
+            word,
+            target: false,
+        },
+        Part::Has { found, used } => own_or_target(found, x, &contents[used..], state),
+    }
+}
+
+/// What is fetched at a place, all its words being read from the state.
+pub fn fetch_all(place: &Place, x: &[u64; 16], state: &State) -> Fetched
+    requires { IsPlace place.now }
+    ensures value { result
+        ≡ outcome (reading x.now (word state.now 3) state.now.enabled place.now) (word state.now) }
+    ensures shape { IsFetched result }
+{
+    let mut contents = [0; 4];
+    let mut n = 0;
+    loop {
+        match fetch_on(place, x, &contents[..n], state) {
+            Fetching::Next { word, .. } => {
+                contents[n] = state.word(word);
+                n += 1;
+            }
+            Fetching::Found(fetched) => return fetched,
+        }
+    }
+}
+
 /// What is fetched at a place: its instruction and, of EX, the target; and the indicator that forbids one of their
 /// words. The target is found by the index words of the state.
 #[tactic(auto, unfolding(crate::specs::Fetch::fetched))]
@@ -160,14 +258,5 @@ pub fn fetch(state: &State, place: &Place) -> Fetched
     ensures value { result ≡ fetched_at state.now place.now }
     ensures shape { IsFetched result }
 {
-    let own = find(state, place.address);
-    if is_execute(own.decoded.instr) {
-        let e = effective_address(own.decoded.instr, &index_words(state));
-        return with_target(own.decoded, find(state, e / 32));
-    }
-    Fetched {
-        instr: own.decoded,
-        target: None,
-        fault: own.fault,
-    }
+    fetch_all(place, &index_words(state), state)
 }

@@ -13,8 +13,8 @@ mod overlap_laws;
 mod preparation;
 mod runs;
 
-pub use entries::{Fetched, IndexChange, Needs, Place, Prepared, Words};
-pub use fetching::{fetch, index_words, place_of};
+pub use entries::{Fetched, Fetching, IndexChange, Needs, Place, Prepared, Words};
+pub use fetching::{fetch, fetch_on, index_words, place_of};
 pub use laws::{
     entries_read_36_words_at_most, entries_with_a_target_are_alone,
     index_side_words_change_index_words_alone, indicators_are_not_seen,

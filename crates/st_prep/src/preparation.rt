@@ -25,7 +25,7 @@ const INDICATORS: u32 = 11;
 fn is_alone(place: Place, fetched: &Fetched) -> bool
     ensures { result ≡ is_alone_of place fetched.now }
 {
-    place.table.is_some() || is_execute(fetched.instr.instr)
+    place.table.is_some() || is_execute(&fetched.instr.instr)
 }
 
 /// Whether an entry that is not suppressed is done alone.
@@ -35,7 +35,7 @@ fn is_serial(place: Place, fetched: &Fetched, x: &[u64; 16]) -> bool
     ensures { result ≡ is_serial_of place fetched.now x.now }
 {
     let instr = executed(fetched);
-    let e = effective_address(instr, x);
+    let e = effective_address(&instr, x);
     is_alone(place, fetched)
         || acts_alone(instr)
         || is_register(side(instr, x, e))
@@ -57,7 +57,7 @@ fn needs(place: Place, fetched: &Fetched, x: &[u64; 16], state: &State) -> Needs
     }
     let instr = executed(fetched);
     Needs {
-        index_read: side(instr, x, effective_address(instr, x)),
+        index_read: side(instr, x, effective_address(&instr, x)),
         serial: is_serial(place, fetched, x),
     }
 }
@@ -111,7 +111,7 @@ fn entry(place: Place, fetched: &Fetched, x: &[u64; 16], read: Option<u64>) -> P
     ensures { result ≡ entry_of place fetched.now x.now read }
 {
     let instr = executed(fetched);
-    let e = effective_address(instr, x);
+    let e = effective_address(&instr, x);
     let following = next(place, fetched.instr.halves);
     let early = change(instr, x, e, read);
     Prepared {

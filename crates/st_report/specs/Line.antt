@@ -1,13 +1,14 @@
 -- The bytes of each line of the report, its line end included.
-use Rattle.std.specs.Prelude.{ℕ, suc, zero, ◌+◌, ◌*◌, ◌/◌, ◌%◌, Bool, true, false, if◌then◌else◌, nat_lt, List, [], ◌∷◌, ◌++◌, codes, decimal, Option, Some, None}
+use Rattle.std.specs.Prelude.{ℕ, suc, zero, ◌+◌, ◌-◌, ◌*◌, ◌/◌, ◌%◌, Bool, true, false, if◌then◌else◌, nat_lt, List, [], ◌∷◌, ◌++◌, codes, decimal, Option, Some, None}
+use Rattle.st_text.specs.Bytes.{line_end, digit_zero, letter_a}
 
 -- the line end
 abbrev pub lf : List ℕ
-lf = 10 ∷ []
+lf = line_end ∷ []
 
 -- the upper-case hexadecimal digit of a number below 16
 abbrev pub hex_digit : ℕ → ℕ
-hex_digit d = if nat_lt d 10 then 48 + d else 55 + d
+hex_digit d = if nat_lt d 10 then digit_zero + d else letter_a - 10 + d
 
 -- the last n hexadecimal digits of x, the highest first
 unfoldable pub hex_text : ℕ → ℕ → List ℕ

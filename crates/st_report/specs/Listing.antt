@@ -1,12 +1,13 @@
 -- The bytes of the lines of the listing, their line ends included.
 use Rattle.std.specs.Prelude.{ℕ, ◌-◌, ◌*◌, ◌^◌, ◌≤◌, List, [], ◌++◌, length, replicate, IsAscii, codes, decimal, Option, Some, None}
 use Rattle.std.specs.Int.{div_ceil}
+use Rattle.st_text.specs.Bytes.{blank}
 use Rattle.st_text.specs.Blanks.{without_end_blanks}
 use Rattle.st_report.specs.Line.{lf, hex_text, bit_address}
 
 -- n blanks
 abbrev pub blanks : ℕ → List ℕ
-blanks n = replicate n 32
+blanks n = replicate n blank
 
 -- the text at the right of n places
 abbrev pub right_in : ℕ → List ℕ → List ℕ

@@ -1,9 +1,6 @@
 //! Jobs and the reports on them, worked out by hand or by an independent model of the machine.
 
 pub mod cards;
-pub mod examples;
-pub mod hostile;
-pub mod limits;
 pub mod operations;
 pub mod refused;
 pub mod runs;

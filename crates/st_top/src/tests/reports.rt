@@ -1,7 +1,6 @@
 //! Jobs that run, and their whole reports.
 use super::decks::Case;
 use super::decks::cards::CARDS;
-use super::decks::examples::EXAMPLES;
 use super::decks::operations::OPERATIONS;
 use super::decks::runs::RUNS;
 use super::run_surely;
@@ -32,9 +31,4 @@ fn a_job_gives_its_whole_report(rt: HostRuntime) -> Result<(), Fail> {
         assert_reports(&rt, cases)?;
     }
     Ok(())
-}
-
-#[test]
-fn each_example_gives_the_report_beside_it(rt: HostRuntime) -> Result<(), Fail> {
-    assert_reports(&rt, &EXAMPLES)
 }

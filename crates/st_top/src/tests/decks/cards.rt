@@ -42,6 +42,27 @@ REG 12 FFFFF00000000000
 REG 17 0019000000000000
 ";
 
+/// A counting loop that is traced.
+pub const TRACED: &str = "         LCI,$X1,2
+         CB,$X1,32.32
+         BEW
+         END,32.0
+/TRACE
+";
+
+/// Its report: four lines of trace, and the end.
+pub const TRACE: &str = "TRC 1 32.0
+TRC 2 32.32
+TRC 3 32.32
+TRC 4 33.0
+END WAIT
+DONE 4
+IC 33.32
+EN 1
+REG 11 000000000000A000
+REG 12 FFFFF00000000000
+";
+
 /// Cards, listing and trace.
 pub const CARDS: [Case; 7] = [
     Case {
@@ -92,22 +113,7 @@ REG 12 FFFFF00000000000
     },
     Case {
         shows: "a trace of a counting loop",
-        job: "         LCI,$X1,2
-         CB,$X1,32.32
-         BEW
-         END,32.0
-/TRACE
-",
-        report: "TRC 1 32.0
-TRC 2 32.32
-TRC 3 32.32
-TRC 4 33.0
-END WAIT
-DONE 4
-IC 33.32
-EN 1
-REG 11 000000000000A000
-REG 12 FFFFF00000000000
-",
+        job: TRACED,
+        report: TRACE,
     },
 ];

@@ -2,7 +2,7 @@
 use super::Case;
 
 /// Refused at a card, for a reason that stays.
-pub const REFUSED: [Case; 12] = [
+pub const REFUSED: [Case; 9] = [
     Case {
         shows: "the empty job has no END",
         job: "",
@@ -32,23 +32,6 @@ pub const REFUSED: [Case; 12] = [
          END,32.0
 ",
         report: "CARD 9 UNKNOWN OPERATION
-",
-    },
-    Case {
-        shows: "a name that no card defines",
-        job: "         B,FAR
-         END,32.0
-",
-        report: "CARD 1 UNDEFINED SYMBOL
-",
-    },
-    Case {
-        shows: "a fault of names comes before a value on an earlier card",
-        job: "         L(BU,1),0.1-0.2
-         B,FAR
-         END,32.0
-",
-        report: "CARD 2 UNDEFINED SYMBOL
 ",
     },
     Case {
@@ -102,15 +85,6 @@ pub const REFUSED: [Case; 12] = [
 /BACK 65
 ",
         report: "CARD 4 BAD CONTROL CARD
-",
-    },
-    Case {
-        shows: "a listing is not written of a job that is refused",
-        job: "         QQ
-         END,32.0
-/LIST
-",
-        report: "CARD 1 UNKNOWN OPERATION
 ",
     },
 ];

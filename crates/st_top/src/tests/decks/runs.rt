@@ -1,6 +1,5 @@
 //! Jobs about the run: budget, interrupts, signals, reader and printer.
 use super::Case;
-use super::examples::OWN_REPORT;
 
 /// The sum of a table, with an interrupt routine.
 pub const TABLE_SUM: &str = "* SUM OF A TABLE
@@ -92,8 +91,26 @@ REG 12 FFFFF00000000000
 REG 18 0032000000000000
 ";
 
+/// A line for the printer.
+pub const PRINTS: &str = "         WR,50.0,1
+         BI0Z,$EOP,33.0
+         BEW
+         SLC,50.0
+         DD(BU,16),18505
+         END,32.0
+";
+
+/// Its report: the printed line, and the end.
+pub const PRINTED: &str = "PRT HI
+END WAIT
+DONE 4
+IC 34.32
+EN 1
+REG 12 FFFFF00000000000
+";
+
 /// Budget, interrupts, signals, reader and printer.
-pub const RUNS: [Case; 16] = [
+pub const RUNS: [Case; 14] = [
     Case {
         shows: "the budget ends a run in the banks above the first four",
         job: "         B,65536.0
@@ -296,36 +313,6 @@ REG 12 FFFFF00000000000
         report: NOT_EXECUTED,
     },
     Case {
-        shows: "a loop that changes its own next instruction, with the slowest storage",
-        job: "* A LOOP THAT CHANGES ITS OWN NEXT INSTRUCTION
- START   LCI,$X1,3
- LOOP    M+1(BU,19),NEXT
- NEXT    LVI,$X2,100.0
-         CB,$X1,LOOP
-         BEW
-         END,START
-/TRACE
-/DUMP 33 33
-/DELAYS 255
-",
-        report: OWN_REPORT,
-    },
-    Case {
-        shows: "the same, with changing delays",
-        job: "* A LOOP THAT CHANGES ITS OWN NEXT INSTRUCTION
- START   LCI,$X1,3
- LOOP    M+1(BU,19),NEXT
- NEXT    LVI,$X2,100.0
-         CB,$X1,LOOP
-         BEW
-         END,START
-/TRACE
-/DUMP 33 33
-/DELAYS 1 255 3 17
-",
-        report: OWN_REPORT,
-    },
-    Case {
         shows: "a card comes from the reader into storage",
         job: "         RD,50.0,3
          BI0Z,$EOP,33.0
@@ -362,19 +349,7 @@ REG 12 FFFFF00000000000
     },
     Case {
         shows: "storage goes to the printer",
-        job: "         WR,50.0,1
-         BI0Z,$EOP,33.0
-         BEW
-         SLC,50.0
-         DD(BU,16),18505
-         END,32.0
-",
-        report: "PRT HI
-END WAIT
-DONE 4
-IC 34.32
-EN 1
-REG 12 FFFFF00000000000
-",
+        job: PRINTS,
+        report: PRINTED,
     },
 ];

@@ -1,0 +1,130 @@
+-- What is given by the contents so far, one instruction after the other.
+use Rattle.std.proofs.Common.{◌≡◌, ◌≢◌, ℕ, zero, suc, ◌/◌, ◌≤◌, Bool, true, false, ◌==◌, if◌then◌else◌, List, [], ◌∷◌, length, get_or, drop, Option, None, Some, refl, ◌∙◌, ap, arith}
+use Rattle.std.proofs.lemmas.Bool.{eqb-true}
+use Rattle.std.proofs.lemmas.Bool.Decides.{nat_tests}
+use Rattle.st_format.specs.declared.instruction.Decoded.{Decoded}
+use Rattle.st_format.specs.Formats.{decoded}
+use Rattle.st_prep.specs.declared.entries.Fetched.{Fetched}
+use Rattle.st_prep.specs.declared.entries.Fetching.{Fetching}
+use Rattle.st_prep.specs.declared.entries.Fetching.TheVariants.{Next, Found as FoundAll}
+use Rattle.st_prep.specs.declared.fetching.Found.{Found}
+use Rattle.st_prep.specs.declared.fetching.Part.TheVariants.{Has}
+use Rattle.st_prep.specs.Reading.{Reading, Finds, Reads, left_after, given, given_by, half_of, nothing, Use, with_second, with_first, read_after, with_target}
+
+abbrev pub of : Reading → List ℕ → Fetching
+of r contents = given (left_after r contents)
+
+-- contents that there are begin with one
+one_more : (cs : List ℕ) → 1 ≤ length cs → cs ≡ get_or cs 0 0 ∷ drop 1 cs
+one_more [] some = absurd (omega arith)
+one_more (c ∷ cs) some = refl
+
+-- a word that is read, and the rest of the contents
+reads_next : (t : Bool) (w : ℕ) (r : ℕ → Reading) (cs : List ℕ) → 1 ≤ length cs
+    → of (Reads t w r) cs ≡ of (r (get_or cs 0 0)) (drop 1 cs)
+unfolding left_after
+reads_next t w r [] some = absurd (omega arith)
+reads_next t w r (c ∷ cs) some = refl
+
+reads_none : (t : Bool) (w : ℕ) (r : ℕ → Reading) (cs : List ℕ) → length cs ≡ 0 → of (Reads t w r) cs ≡ Next w t
+unfolding left_after given
+reads_none t w r [] none = refl
+reads_none t w r (c ∷ cs) none = absurd (omega arith)
+
+pub at-forbidden : (f : Option ℕ) (i : ℕ) (t : Bool) (b : ℕ) (en : Bool) (h : ℕ) (k : Use) (cs : List ℕ) → f ≡ Some i
+    → of (read_after f t b en h k) cs ≡ given_by t (Has (record { decoded = nothing; fault = Some i }) 0) cs k
+at-forbidden None i t b en h k cs e = cc
+at-forbidden (Some j) i t b en h k cs e = ap (λ f. of (k (record { decoded = nothing; fault = f })) cs) e
+
+pub at-wants : (f : Option ℕ) (t : Bool) (b : ℕ) (en : Bool) (h : ℕ) (k : Use) (cs : List ℕ) → f ≡ None → length cs ≡ 0
+    → of (read_after f t b en h k) cs ≡ Next (h / 2) t
+at-wants None t b en h k cs e none = reads_none t (h / 2) _ cs none
+at-wants (Some j) t b en h k cs e none = cc
+
+pub at-first : (f : Option ℕ) (t : Bool) (b : ℕ) (en : Bool) (h : ℕ) (k : Use) (cs : List ℕ) → f ≡ None → 1 ≤ length cs
+    → of (read_after f t b en h k) cs ≡ of (with_first t b en h (get_or cs 0 0) k) (drop 1 cs)
+at-first None t b en h k cs e some = reads_next t (h / 2) _ cs some
+at-first (Some j) t b en h k cs e some = cc
+
+-- ---- a second half-word
+
+pub second-forbidden : (f : Option ℕ) (i : ℕ) (t : Bool) (first h v content : ℕ) (k : Use) (cs : List ℕ) → f ≡ Some i
+    → of (with_second f t first h v content k) (drop 1 cs)
+    ≡ given_by t (Has (record { decoded = decoded first 0; fault = Some i }) 1) cs k
+second-forbidden None i t first h v content k cs e = cc
+second-forbidden (Some j) i t first h v content k cs e =
+    ap (λ f. of (k (record { decoded = decoded first 0; fault = f })) (drop 1 cs)) e
+
+-- by the test whether it stands in the word of the first one
+second-here : (same : Bool) (t : Bool) (w : ℕ) (here : Reading) (r : ℕ → Reading) (cs : List ℕ) → same ≡ true
+    → of (if same then here else Reads t w r) cs ≡ of here cs
+second-here true t w here r cs e = refl
+second-here false t w here r cs e = cc
+
+second-there : (same : Bool) (t : Bool) (w : ℕ) (here : Reading) (r : ℕ → Reading) (cs : List ℕ) → same ≡ false
+    → of (if same then here else Reads t w r) cs ≡ of (Reads t w r) cs
+second-there true t w here r cs e = cc
+second-there false t w here r cs e = refl
+
+pub second-same : (f : Option ℕ) (t : Bool) (first h v content : ℕ) (k : Use) (cs : List ℕ) → f ≡ None
+    → (h / 2 == v) ≡ true
+    → of (with_second f t first h v content k) (drop 1 cs)
+    ≡ given_by t (Has (record { decoded = decoded first (half_of content h); fault = None }) 1) cs k
+second-same None t first h v content k cs e same = second-here (h / 2 == v) t (h / 2) _ _ (drop 1 cs) same
+second-same (Some j) t first h v content k cs e same = cc
+
+pub second-wants : (f : Option ℕ) (t : Bool) (first h v content : ℕ) (k : Use) (cs : List ℕ) → f ≡ None
+    → (h / 2 == v) ≡ false → length (drop 1 cs) ≡ 0
+    → of (with_second f t first h v content k) (drop 1 cs) ≡ Next (h / 2) t
+second-wants None t first h v content k cs e other none =
+    second-there (h / 2 == v) t (h / 2) _ _ (drop 1 cs) other ∙ reads_none t (h / 2) _ (drop 1 cs) none
+second-wants (Some j) t first h v content k cs e other none = cc
+
+-- the second of the contents is the first of the rest
+second_content : (cs : List ℕ) → get_or (drop 1 cs) 0 0 ≡ get_or cs 1 0
+second_content [] = refl
+second_content (c ∷ cs) = refl
+
+rest-rest : (cs : List ℕ) → drop 1 (drop 1 cs) ≡ drop 2 cs
+rest-rest [] = refl
+rest-rest (c ∷ []) = refl
+rest-rest (c ∷ d ∷ cs) = refl
+
+pub second-has : (f : Option ℕ) (t : Bool) (first h v content : ℕ) (k : Use) (cs : List ℕ) → f ≡ None
+    → (h / 2 == v) ≡ false → 1 ≤ length (drop 1 cs)
+    → of (with_second f t first h v content k) (drop 1 cs)
+    ≡ given_by t (Has (record { decoded = decoded first (half_of (get_or cs 1 0) h); fault = None }) 2) cs k
+second-has None t first h v content k cs e other some =
+    second-there (h / 2 == v) t (h / 2) _ _ (drop 1 cs) other
+    ∙ reads_next t (h / 2) _ (drop 1 cs) some
+    ∙ ap (λ c. of (k (record { decoded = decoded first (half_of c h); fault = None })) (drop 1 (drop 1 cs))) (second_content cs)
+    ∙ ap (of (k (record { decoded = decoded first (half_of (get_or cs 1 0) h); fault = None }))) (rest-rest cs)
+second-has (Some j) t first h v content k cs e other some = cc
+
+-- ---- the target of EX
+
+pub other-found : (e : Bool) (r : Reading) (f : Fetched) (cs : List ℕ) → e ≡ false
+    → of (if e then r else Finds f) cs ≡ FoundAll f
+unfolding left_after given
+other-found true r f cs h = cc
+other-found false r f cs h = refl
+
+pub target-given : (e : Bool) (r : Reading) (f : Fetched) (cs : List ℕ) → e ≡ true
+    → of (if e then r else Finds f) cs ≡ of r cs
+target-given true r f cs h = refl
+target-given false r f cs h = cc
+
+pub target-found : (ex : Decoded) (found : Found) (n : ℕ) (cs : List ℕ)
+    → given_by true (Has found n) cs (λ target. Finds (with_target ex target)) ≡ FoundAll (with_target ex found)
+unfolding left_after given
+target-found ex found n cs = refl
+
+pub is_none : (n : ℕ) → (n == 0) ≡ true → n ≡ 0
+is_none n h = eqb-true n 0 h
+
+pub is_some : (n : ℕ) → (n == 0) ≡ false → 1 ≤ n
+is_some zero h = cc
+is_some (suc n) h = omega arith
+
+pub differs : (a b : ℕ) → a ≢ b → (a == b) ≡ false
+differs a b h = grind (arith, nat_tests, h)

@@ -1,0 +1,51 @@
+-- The bytes that texts are cut at and made of, by their names.
+use Rattle.std.specs.Prelude.{ℕ}
+
+abbrev pub line_end : ℕ
+line_end = 10
+
+abbrev pub blank : ℕ
+blank = 32
+
+abbrev pub dollar : ℕ
+dollar = 36
+
+abbrev pub open_parenthesis : ℕ
+open_parenthesis = 40
+
+abbrev pub close_parenthesis : ℕ
+close_parenthesis = 41
+
+abbrev pub asterisk : ℕ
+asterisk = 42
+
+abbrev pub plus_sign : ℕ
+plus_sign = 43
+
+abbrev pub comma : ℕ
+comma = 44
+
+abbrev pub minus_sign : ℕ
+minus_sign = 45
+
+abbrev pub period : ℕ
+period = 46
+
+abbrev pub slash : ℕ
+slash = 47
+
+abbrev pub digit_zero : ℕ
+digit_zero = 48
+
+abbrev pub semicolon : ℕ
+semicolon = 59
+
+abbrev pub letter_a : ℕ
+letter_a = 65
+
+abbrev pub letter_n : ℕ
+letter_n = 78
+
+-- the last byte of ASCII that is visible
+abbrev pub tilde : ℕ
+tilde = 126
