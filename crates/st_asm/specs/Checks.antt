@@ -1,5 +1,8 @@
 -- The faults of the value pass.
 use Rattle.std.specs.Prelude.{ℕ, ℤ, pos, negsuc, ◌+◌, ◌*◌, ◌%◌, ◌^◌, ◌==◌, ◌&&◌, ◌||◌, Bool, true, false, not, nat_le, nat_lt, unsigned_abs, [], ◌∷◌, Option, if◌then◌else◌}
+use Rattle.st_asm.specs.declared.checks.TheConstants.{MOST_OFFSET, MOST_MOVED, MOST_WAITED, MOST_COUNT, MOST_FLAGS}
+use Rattle.st_bits.specs.declared.register.TheConstants.{FIRST_STORAGE_WORD}
+use Rattle.st_bits.specs.declared.limits.TheConstants.{WORDS}
 use Rattle.st_card.specs.Cards.{first_fault}
 use Rattle.st_card.specs.declared.faults.Fault.{Fault}
 use Rattle.st_card.specs.declared.faults.Fault.TheVariants.{AddressOutOfRange, ValueDoesNotFit, NotOnABoundary, LocationOutOfStorage}
@@ -29,14 +32,14 @@ in_range s v =
 -- whether the value, the count and the flags of an index word fit
 abbrev pub fits_index_word : ℤ → ℕ → ℕ → Bool
 fits_index_word value count flags =
-    nat_lt (unsigned_abs value) (2 ^ 24) && nat_le count 262143 && nat_le flags 7
+    nat_lt (unsigned_abs value) (2 ^ 24) && nat_le count MOST_COUNT && nat_le flags MOST_FLAGS
 
 -- whether each value fits its place
 unfoldable pub fits : Statement → Values → Bool
-fits (Vfl op negated form at offset) v = nat_le offset 127
-fits (Connect kind truth form at offset) v = nat_le offset 127
-fits (Move swap at second count) v = nat_le 1 count && nat_le count 16
-fits (Transfer write at count) v = nat_le 1 count && nat_le count 1000
+fits (Vfl op negated form at offset) v = nat_le offset MOST_OFFSET
+fits (Connect kind truth form at offset) v = nat_le offset MOST_OFFSET
+fits (Move swap at second count) v = nat_le 1 count && nat_le count MOST_MOVED
+fits (Transfer write at count) v = nat_le 1 count && nat_le count MOST_WAITED
 fits (Data form minus number) v = holds form minus number
 fits (IndexWord value count refill flags) v = fits_index_word v.first count flags
 fits _ v = true
@@ -67,9 +70,9 @@ extent Sets value = 0
 extent Names value = 0
 extent Ends value = 0
 
--- whether bits from a place on are all in the words 32 to 98,303
+-- whether bits from a place on are all in storage, behind the registers
 unfoldable pub in_storage : ℕ → ℕ → Bool
-in_storage place bits = bits == 0 || (nat_le 2048 place && nat_le (place + bits) (64 * 98304))
+in_storage place bits = bits == 0 || (nat_le (64 * FIRST_STORAGE_WORD) place && nat_le (place + bits) (64 * WORDS))
 
 -- the fault of a statement with its values at its place, if it has one
 unfoldable pub value_fault : Statement → Values → ℕ → Option Fault

@@ -1,5 +1,6 @@
 -- What a card is to the passes behind the first one: its number, its name and its statement.
 use Rattle.std.specs.Prelude.{ℕ, ◌==◌, List, [], ◌∷◌, take, drop, Option, Some, None, if◌then◌else◌}
+use Rattle.st_text.specs.Bytes.{blank}
 use Rattle.st_expr.specs.Name.{padded}
 use Rattle.st_strap.specs.declared.statement.Statement.{Statement}
 use Rattle.st_asm.specs.declared.line.Line.{Line}
@@ -7,11 +8,11 @@ use Rattle.st_asm.specs.declared.line.Line.{Line}
 -- a text without the blanks at its start
 abbrev pub without_front : List ℕ → List ℕ
 without_front [] = []
-without_front (c ∷ cs) = if c == 32 then without_front cs else c ∷ cs
+without_front (c ∷ cs) = if c == blank then without_front cs else c ∷ cs
 
 -- a byte before a text, but not a blank before nothing
 abbrev pub onto_filled : ℕ → List ℕ → List ℕ
-onto_filled c [] = if c == 32 then [] else c ∷ []
+onto_filled c [] = if c == blank then [] else c ∷ []
 onto_filled c (d ∷ ds) = c ∷ d ∷ ds
 
 -- a text without the blanks at its end

@@ -1,5 +1,6 @@
 -- What always holds of what the assembler gives.
 use Rattle.std.specs.Prelude.{◌≡◌, ℕ, ◌+◌, ◌<◌, ◌≤◌, ◌^◌, List, length, slice_index, slice_index_or, map, All, IsAscii, IsTrue, Option, IfSome}
+use Rattle.st_bits.specs.declared.register.TheConstants.{FIRST_STORAGE_WORD}
 use Rattle.st_bits.specs.Storage.{words_of_storage}
 use Rattle.st_card.specs.Limits.{IsWithinLimits}
 use Rattle.st_strap.specs.WellFormed.{IsWellFormedIfAny}
@@ -24,7 +25,7 @@ pub record IsRow (row : Listed) : Type 0 where
 -- an image has all words of storage, and those of the registers are 0
 pub record IsImage (image : List ℕ) : Type 0 where
   pub size : length image ≡ words_of_storage
-  pub registers : (w : ℕ) → w < 32 → slice_index image w ≡ 0
+  pub registers : (w : ℕ) → w < FIRST_STORAGE_WORD → slice_index image w ≡ 0
 
 -- the numbers of the cards of lines, and of rows
 abbrev pub cards_in : List Line → List ℕ

@@ -9,6 +9,7 @@ use crate::numbers::holds;
 use crate::places::Role;
 use crate::values::Values;
 use st_bits::WORDS;
+use st_bits::register::FIRST_STORAGE_WORD;
 use st_card::Fault;
 use st_strap::Statement;
 
@@ -30,7 +31,7 @@ const MOST_COUNT: u64 = 262_143;
 const MOST_FLAGS: u64 = 7;
 
 // The first bit that may be laid.
-const FIRST_BIT: u64 = 64 * 32;
+const FIRST_BIT: u64 = 64 * FIRST_STORAGE_WORD as u64;
 
 // The fault of a statement with its values at its place, if it has one.
 #[tactic(auto, unfolding(crate::specs::Checks::value_fault))]

@@ -105,7 +105,7 @@ alike-words s t vs ws h size e = record {
   printer = h.printer;
 }
 
-same-set : (vs ws : List ℕ) (w x i : ℕ) → length ws ≡ length vs → get_or ws i 0 ≡ get_or vs i 0
+pub same-set : (vs ws : List ℕ) (w x i : ℕ) → length ws ≡ length vs → get_or ws i 0 ≡ get_or vs i 0
     → get_or (set ws w x) i 0 ≡ get_or (set vs w x) i 0
 same-set vs ws w x i size e =
     elim (eqb_tells i w) [

@@ -1,12 +1,13 @@
 -- Operands: the words that were read hold the field that stands in storage.
-use Rattle.std.proofs.Common.{◌≡◌, ℕ, ◌+◌, ◌-◌, ◌*◌, ◌/◌, ◌%◌, ◌<◌, ◌≤◌, ◌^◌, List, [], ◌∷◌, length, Bool, true, false, if◌then◌else◌, refl, sym, ◌∙◌, ap, arith, get_or}
+use Rattle.std.proofs.Common.{◌≡◌, ℕ, zero, suc, ◌+◌, ◌-◌, ◌*◌, ◌/◌, ◌%◌, ◌<◌, ◌≤◌, ◌^◌, List, [], ◌∷◌, length, Bool, true, false, if◌then◌else◌, refl, sym, ◌∙◌, ap, arith, get_or}
 use Rattle.std.specs.Prelude.{nat_le}
 use Rattle.std.proofs.lemmas.Bool.{leb-true}
 use Rattle.st_bits.specs.Bits.{all_bits, field, num, part}
 use Rattle.st_bits.proofs.WordFields.{num-at_word, num-at_two}
 use Rattle.st_state.specs.Machine.{Machine, word}
 use Rattle.st_prep.specs.Entry.{field_words}
-use Rattle.st_exec.specs.Operand.{AreRead}
+use Rattle.st_prep.specs.declared.entries.Words.{Words}
+use Rattle.st_exec.specs.Operand.{AreOperands, AreFirst, AreRead}
 
 -- ---- windows
 
@@ -52,10 +53,26 @@ pub read-first : (a n : ℕ) (operands : List ℕ) (t : Machine) → AreRead (fi
 unfolding field_words
 read-first a n operands t r above =
     let place : a / 64 + 0 ≡ a / 64 = omega arith in
-    r.first 0 (some_word (nat_le (a % 64 + n) 64)) (omega arith) ∙ ap (word t) place
+    r.first 0 (omega arith) (some_word (nat_le (a % 64 + n) 64)) (omega arith) ∙ ap (word t) place
 
 pub read-next : (a n : ℕ) (operands : List ℕ) (t : Machine) → AreRead (field_words a n) operands t → 64 < a % 64 + n
     → 32 ≤ a / 64 + 1 → get_or operands 1 0 ≡ word t (a / 64 + 1)
 unfolding field_words
 read-next a n operands t r over above =
-    r.first 1 (two_words (a % 64 + n) (nat_le (a % 64 + n) 64) refl over) above
+    r.first 1 (omega arith) (two_words (a % 64 + n) (nat_le (a % 64 + n) 64) refl over) above
+
+-- ---- the first two operands
+
+first-each : (w : Words) (x y : ℕ) (s : Machine) (k : ℕ) → (0 < w.len → x ≡ word s (w.first + 0))
+    → (1 < w.len → y ≡ word s (w.first + 1)) → k < 2 → k < w.len → get_or (x ∷ y ∷ []) k 0 ≡ word s (w.first + k)
+first-each w x y s zero one two few some = one some
+first-each w x y s (suc zero) one two few some = two some
+first-each w x y s (suc (suc k)) one two few some = absurd (omega arith)
+
+pub first-two : (w : Words) (x y : ℕ) (s : Machine) → (0 < w.len → x ≡ word s (w.first + 0))
+    → (1 < w.len → y ≡ word s (w.first + 1)) → AreFirst w (x ∷ y ∷ []) s
+first-two w x y s one two = record { first = λ k few some. first-each w x y s k one two few some }
+
+pub first-of_operands : (w : Words) (operands : List ℕ) (s : Machine) → AreOperands w operands s
+    → AreFirst w (get_or operands 0 0 ∷ get_or operands 1 0 ∷ []) s
+first-of_operands w operands s h = first-two w _ _ s (h.first 0) (h.first 1)

@@ -9,7 +9,7 @@ use Rattle.st_prep.specs.declared.entries.Prepared.{Prepared}
 use Rattle.st_prep.specs.Plan.{opened}
 use Rattle.st_prep.specs.Ranges.{IsChange, IsPrepared}
 use Rattle.st_prep.proofs.Choices.{of_choice}
-use Rattle.st_exec.specs.Operand.{AreOperands, AreRead}
+use Rattle.st_exec.specs.Operand.{AreFirst, AreRead}
 use Rattle.st_exec.specs.Outcome.{with_register, with_registers, with_field, settled}
 use Rattle.st_exec.specs.declared.outcomes.Outcome.{Outcome}
 use Rattle.st_exec.specs.Deed.{copied, exchanged, with_order, given, deed, done}
@@ -115,12 +115,9 @@ early-above p s i h above =
     get_or-set_other (with_change p.index s).words 11 i _ 0 (omega arith) ∙ with_change-above p.index s i h above
 
 -- the operands are those of the state that the early change leaves, but for registers
-pub operands-read : (p : Prepared) (operands : List ℕ) (s : Machine) → IsPrepared p → AreOperands p.reads operands s
+pub operands-read : (p : Prepared) (operands : List ℕ) (s : Machine) → IsPrepared p → AreFirst p.reads operands s
     → AreRead p.reads operands (early p (opened p.place.table s))
 operands-read p operands s h r =
     let same : (i : ℕ) → 32 ≤ i → word s i ≡ word (early p (opened p.place.table s)) i =
     λ i above. sym (early-above p (opened p.place.table s) i h.change above ∙ opened-above p.place.table s i above) in
-    record {
-      first = λ k some above. r.first k some ∙ same (p.reads.first + k) above;
-      second = λ k some above. r.second k some ∙ same (p.reads.first2 + k) above;
-    }
+    record { first = λ k few some above. r.first k few some ∙ same (p.reads.first + k) above }

@@ -35,11 +35,11 @@ use Rattle.st_exec.proofs.Unchanged.{stored-other, opened-above, early-above, co
 abbrev pub IsBeside : ℕ → ℕ → ℕ → Type 0
 IsBeside i w n = (i < w) ⊎ (w + n ≤ i)
 
-beside-rest : (i w n : ℕ) → IsBeside i w (suc n) → IsBeside i (w + 1) n
+pub beside-rest : (i w n : ℕ) → IsBeside i w (suc n) → IsBeside i (w + 1) n
 beside-rest i w n (inl before) = inl (omega arith)
 beside-rest i w n (inr after) = inr (omega arith)
 
-beside-first : (i w n : ℕ) → IsBeside i w (suc n) → i ≢ w
+pub beside-first : (i w n : ℕ) → IsBeside i w (suc n) → i ≢ w
 beside-first i w n (inl before) e = omega arith
 beside-first i w n (inr after) e = omega arith
 

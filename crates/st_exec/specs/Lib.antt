@@ -5,3 +5,4 @@ pub mod Outcome
 pub mod Deed
 pub mod Completion
 pub mod Ahead
+pub mod Trails

@@ -12,10 +12,13 @@ pub record AreOperands (w : Words) (operands : List ℕ) (s : Machine) : Type 0 
   pub first : (k : ℕ) → k < w.len → slice_index operands k ≡ word s (w.first + k)
   pub second : (k : ℕ) → k < w.len2 → slice_index operands (w.len + k) ≡ word s (w.first2 + k)
 
--- the same of the words above the registers, which the entry itself may change before its operands are read
+-- the same of the first two words: all but transmissions read no more
+pub record AreFirst (w : Words) (operands : List ℕ) (s : Machine) : Type 0 where
+  pub first : (k : ℕ) → k < 2 → k < w.len → slice_index operands k ≡ word s (w.first + k)
+
+-- and of those of them above the registers, which the entry itself may change before its operands are read
 pub record AreRead (w : Words) (operands : List ℕ) (t : Machine) : Type 0 where
-  pub first : (k : ℕ) → k < w.len → 32 ≤ w.first + k → slice_index operands k ≡ word t (w.first + k)
-  pub second : (k : ℕ) → k < w.len2 → 32 ≤ w.first2 + k → slice_index operands (w.len + k) ≡ word t (w.first2 + k)
+  pub first : (k : ℕ) → k < 2 → k < w.len → 32 ≤ w.first + k → slice_index operands k ≡ word t (w.first + k)
 
 -- the words that an operation on a field of n bits at e takes: none where it does not read its field
 abbrev pub taken_words : VflOp → ℕ → ℕ → ℕ → Words

@@ -3,7 +3,7 @@ ghost use Rattle.std.specs.Prelude.{◌≡◌, ℕ, ◌<◌, ◌^◌, false, Opt
 ghost use Rattle.st_prep.specs.Entry.{reads};
 ghost use Rattle.st_prep.specs.Plan.{plan};
 ghost use Rattle.st_prep.specs.Ranges.{IsPrepared, HasFields, AreInside};
-ghost use Rattle.st_exec.specs.Operand.{AreOperands, AreRead};
+ghost use Rattle.st_exec.specs.Operand.{AreOperands, AreFirst, AreRead};
 ghost use Rattle.st_exec.specs.Deed.{done};
 ghost use Rattle.st_exec.specs.Completion.{is_taken as is_taken_of, target as target_of, counter as counter_of, counted, finished, completed, executed};
 
@@ -12,21 +12,19 @@ use crate::early::{change_early, take};
 use crate::effects::carry_out;
 use crate::operands::operand_field;
 use st_bits::part;
+use st_bits::register::INDICATORS;
 use st_format::Instr;
 use st_prep::{Prepared, Words};
 use st_state::State;
 
-/// The address of the indicator register.
-const INDICATORS: u32 = 11;
-
 /// Whether a branch on a bit or on an indicator is taken.
 #[tactic(auto, unfolding(crate::specs::Completion::is_taken), using(st_bits::specs::Storage::words_of_storage_is))]
-fn is_taken(instr: Instr, e: u32, operands: &[u64; 32], state: &State) -> bool
-    requires inside { AreInside (reads instr e) }
-    requires read { AreRead (reads instr e) operands.now state.now }
-    ensures { result ≡ is_taken_of instr e state.now }
+fn is_taken(instr: &Instr, e: u32, operands: &[u64; 2], state: &State) -> bool
+    requires inside { AreInside (reads instr.now e) }
+    requires read { AreRead (reads instr.now e) operands.now state.now }
+    ensures { result ≡ is_taken_of instr.now e state.now }
 {
-    match instr {
+    match *instr {
         Instr::BitBranch { sense, .. } => {
             operand_field(operands, e, 1, state) == u64::from(sense)
         }
@@ -39,28 +37,28 @@ fn is_taken(instr: Instr, e: u32, operands: &[u64; 32], state: &State) -> bool
 
 /// Where it branches to; another instruction goes on at `following`.
 #[tactic(auto, unfolding(crate::specs::Completion::target))]
-fn target(instr: Instr, following: u32) -> u32
-    requires fields { HasFields instr }
+fn target(instr: &Instr, following: u32) -> u32
+    requires fields { HasFields instr.now }
     requires following { following < 2 ^ 19 }
-    ensures value { result ≡ target_of instr following }
+    ensures value { result ≡ target_of instr.now following }
     ensures bound { result < 2 ^ 19 }
 {
-    match instr {
+    match *instr {
         Instr::BitBranch { second, .. } | Instr::IndBranch { second, .. } => second,
         _ => following,
     }
 }
 
 /// The counter after an entry that is not suppressed.
-fn counter(p: &Prepared, operands: &[u64; 32], state: &State) -> u32
+fn counter(p: &Prepared, operands: &[u64; 2], state: &State) -> u32
     requires prepared { IsPrepared p.now }
     requires executed { p.now.suppressed ≡ false }
     requires read { AreRead p.now.reads operands.now state.now }
     ensures value { result ≡ counter_of p.now state.now }
     ensures bound { result < 2 ^ 19 }
 {
-    if is_taken(p.instr, p.e, operands, state) {
-        target(p.instr, p.following)
+    if is_taken(&p.instr, p.e, operands, state) {
+        target(&p.instr, p.following)
     } else {
         p.following
     }
@@ -78,7 +76,7 @@ fn count(state: &mut State, h: u32)
 
 /// Does what an entry does once its operands are there.
 #[tactic(auto, unfolding(crate::specs::Completion::finished))]
-fn finish(p: &Prepared, operands: &[u64; 32], state: &mut State)
+fn finish(p: &Prepared, operands: &[u64; 2], state: &mut State)
     requires prepared { IsPrepared p.now }
     requires read { AreRead p.now.reads operands.now state.old }
     requires few { state.old.done < 2 ^ 63 }
@@ -89,15 +87,30 @@ fn finish(p: &Prepared, operands: &[u64; 32], state: &mut State)
         return;
     }
     let counter = counter(p, operands, state);
-    carry_out(deed_by(p.instr, p.e, p.value, operands, state), state);
+    let deed = deed_by(&p.instr, p.e, p.value, operands, state);
+    carry_out(&deed, state);
     count(state, counter);
+}
+
+/// Completes an entry that is prepared, of which the first two operands are given: its early change, then what it does,
+/// then the counter.
+#[inline(always)]
+#[tactic(auto, unfolding(crate::specs::Completion::completed))]
+pub fn complete_with(p: &Prepared, operands: &[u64; 2], state: &mut State)
+    requires prepared { IsPrepared p.now }
+    requires operands { AreFirst p.now.reads operands.now state.old }
+    requires few { state.old.done < 2 ^ 63 }
+    ensures { state.new ≡ completed p.now state.old }
+{
+    take(p.place.table, state);
+    change_early(p, state);
+    finish(p, operands, state);
 }
 
 /// Completes an entry that is prepared: its early change, then what it does, then the counter. The first
 /// `p.reads.len` operands, and the `p.reads.len2` behind them, are the words that `p` says it reads, as they stand in the
 /// state; where one of them is a register that the entry itself has changed, it is taken as that change leaves it. It gives
 /// the words that are written.
-#[tactic(auto, unfolding(crate::specs::Completion::completed))]
 pub fn complete(p: &Prepared, operands: &[u64; 32], state: &mut State) -> Words
     requires prepared { IsPrepared p.now }
     requires operands { AreOperands p.now.reads operands.now state.old }
@@ -108,8 +121,6 @@ pub fn complete(p: &Prepared, operands: &[u64; 32], state: &mut State) -> Words
     // The next entry of the state, or its table instruction, is executed by it.
     ensures step { (t : Option ℕ) → p.now ≡ plan state.old t → state.new ≡ executed t state.old }
 {
-    take(p.place.table, state);
-    change_early(p, state);
-    finish(p, operands, state);
+    complete_with(p, &[operands[0], operands[1]], state);
     p.writes
 }

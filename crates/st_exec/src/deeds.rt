@@ -166,19 +166,19 @@ fn order_deed(write: bool, e: u32, count: u32, done: u64) -> Deed
 /// What an instruction with the effective address `e` does, which stores `value` where it is an index store or SIC.
 /// The operands are the words that it reads; a register among them is read anew.
 #[tactic(auto, unfolding(crate::specs::Deed::deed_of))]
-pub fn deed_by(instr: Instr, e: u32, value: u64, operands: &[u64; 32], state: &State) -> Deed
-    requires fields { HasFields instr }
+pub fn deed_by(instr: &Instr, e: u32, value: u64, operands: &[u64; 2], state: &State) -> Deed
+    requires fields { HasFields instr.now }
     requires address { e < 2 ^ 24 }
-    requires part { IsStored instr value }
-    requires inside { AreInside (reads instr e) }
-    requires written_inside { AreInside (writes instr e) }
-    requires area { HasRoom instr e }
-    requires read { AreRead (reads instr e) operands.now state.now }
+    requires part { IsStored instr.now value }
+    requires inside { AreInside (reads instr.now e) }
+    requires written_inside { AreInside (writes instr.now e) }
+    requires area { HasRoom instr.now e }
+    requires read { AreRead (reads instr.now e) operands.now state.now }
     requires few { state.now.done < 2 ^ 63 }
-    ensures value { result ≡ deed_of instr e value state.now }
+    ensures value { result ≡ deed_of instr.now e value state.now }
     ensures can { CanBeDone result }
 {
-    match instr {
+    match *instr {
         Instr::Half { op, .. } => index_deed(op, e, value),
         Instr::Branch { op, .. } => branch_deed(op),
         Instr::Vfl {

@@ -5,8 +5,9 @@ ghost use Rattle.st_prep.specs.Ranges.{IsRuns, AreInside};
 ghost use Rattle.st_exec.specs.Operand.{AreOperands};
 ghost use Rattle.st_exec.specs.Completion.{executed};
 
-use crate::completing::complete;
-use st_prep::{Words, plan};
+use crate::completing::complete_with;
+use crate::operands::first_operands;
+use st_prep::{Prepared, Words, plan_in};
 use st_state::State;
 
 /// The operand in place `k`, which is 0 where there is none.
@@ -47,7 +48,8 @@ pub fn execute(table: Option<u8>, state: &mut State)
     requires few { state.old.done < 2 ^ 63 }
     ensures { state.new ≡ executed table state.old }
 {
-    let p = plan(state, table);
-    let operands = read_operands(p.reads, state);
-    complete(&p, &operands, state);
+    let mut p = Prepared::default();
+    plan_in(table, state, &mut p);
+    let operands = first_operands(&p.reads, state);
+    complete_with(&p, &operands, state);
 }

@@ -18,25 +18,15 @@ use st_bin::indicators::{by_number, partial_field};
 use st_bin::outcome::done_with;
 use st_bin::signed::Signed;
 use st_bin::{Acc, Done, Shape, binary};
+use st_bits::register::{FACTOR, INDICATORS, LEFT_HALF, RIGHT_HALF, SIGN_BYTE};
 use st_bits::{ConnKind, Ind, VflOp, part};
 use st_conn::{connect, put_acc};
 use st_dec::decimal;
 use st_prep::reads_field;
 use st_state::State;
 
-/// The addresses of registers.
-const LEFT_HALF: u32 = 8;
-
-const RIGHT_HALF: u32 = 9;
-
-const SIGN_BYTE: u32 = 10;
-
-const INDICATORS: u32 = 11;
-
-const FACTOR: u32 = 14;
-
 /// The operand of `n` bits at the bit address `e`. In form 1 it is the first `n` of the 24 bits of `e` itself.
-fn operand(p: u8, e: u32, n: u8, operands: &[u64; 32], state: &State) -> u64
+fn operand(p: u8, e: u32, n: u8, operands: &[u64; 2], state: &State) -> u64
     requires some { 1 ≤ n }
     requires few { n ≤ 64 }
     requires short { p ≡ 1 → n ≤ 24 }
@@ -63,7 +53,7 @@ fn accumulator(state: &State) -> Acc
 }
 
 /// What an operation reads of its field: nothing where it is ST.
-fn taken(op: VflOp, p: u8, e: u32, n: u8, operands: &[u64; 32], state: &State) -> u64
+fn taken(op: VflOp, p: u8, e: u32, n: u8, operands: &[u64; 2], state: &State) -> u64
     requires some { 1 ≤ n }
     requires few { n ≤ 64 }
     requires short { p ≡ 1 → n ≤ 24 }
@@ -110,7 +100,7 @@ pub fn operate(
     shape: &Shape,
     p: u8,
     e: u32,
-    operands: &[u64; 32],
+    operands: &[u64; 2],
     state: &State,
 ) -> Outcome
     requires shape { IsShape shape.now }
@@ -187,7 +177,7 @@ pub fn connect_field(
     e: u32,
     offset: u8,
     n: u8,
-    operands: &[u64; 32],
+    operands: &[u64; 2],
     state: &State,
 ) -> Outcome
     requires table { table < 16 }

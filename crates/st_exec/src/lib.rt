@@ -7,6 +7,7 @@ mod early;
 mod effects;
 mod execution;
 mod fields;
+mod kept;
 mod laws;
 mod operands;
 mod outcomes;
@@ -17,6 +18,7 @@ mod transmission;
 
 pub use completing::complete;
 pub use execution::{execute, read_operands};
+pub use kept::{Trail, one_kept};
 pub use laws::{
     entries_ahead_leave_the_rest, entries_are_bounded, entries_count_as_one, entries_leave_states,
     indicators_are_passed_over, only_indicator_branches_are_missed,

@@ -3,24 +3,56 @@ ghost use Rattle.std.specs.Prelude.{◌≡◌, ◌+◌, ◌*◌, ◌/◌, ◌%�
 ghost use Rattle.st_bits.specs.Storage.{words_of_storage};
 ghost use Rattle.st_state.specs.Machine.{word as word_of};
 ghost use Rattle.st_prep.specs.Entry.{field_words};
-ghost use Rattle.st_exec.specs.Operand.{AreRead, field_at};
+ghost use Rattle.st_prep.specs.Ranges.{IsRuns, AreInside};
+ghost use Rattle.st_exec.specs.Operand.{AreFirst, AreRead, field_at};
 
 use st_bits::get_field;
+use st_bits::register::FIRST_STORAGE_WORD;
+use st_prep::Words;
 use st_state::State;
+
+/// The operand in place `k` of the first run, which is 0 where there is none.
+fn operand_in_run(words: &Words, k: u8, state: &State) -> u64
+    requires runs { IsRuns words.now }
+    requires inside { AreInside words.now }
+    ensures { k < words.now.len → result ≡ word_of state.now (words.now.first + k) }
+{
+    if k < words.len {
+        state.word(words.first + u32::from(k))
+    } else {
+        0
+    }
+}
+
+/// The first two operand words, as they stand in the state.
+pub fn first_operands(words: &Words, state: &State) -> [u64; 2]
+    requires runs { IsRuns words.now }
+    requires inside { AreInside words.now }
+    ensures { AreFirst words.now result state.now }
+{
+    [
+        operand_in_run(words, 0, state),
+        operand_in_run(words, 1, state),
+    ]
+}
 
 /// The word at the address `w`, which is in place `k` of the operands. A register is read anew, since the entry itself may
 /// have changed it before its operands are read.
-fn operand_word(operands: &[u64; 32], k: usize, w: u32, state: &State) -> u64
-    requires place { k < 32 }
+fn operand_word(operands: &[u64; 2], k: usize, w: u32, state: &State) -> u64
+    requires place { k < 2 }
     requires inside { w < words_of_storage }
     requires read { 32 ≤ w → slice_index operands.now k ≡ word_of state.now w }
     ensures { result ≡ word_of state.now w }
 {
-    if w < 32 { state.word(w) } else { operands[k] }
+    if w < FIRST_STORAGE_WORD {
+        state.word(w)
+    } else {
+        operands[k]
+    }
 }
 
 /// The number of the `n` bits, 1 to 64, from the bit address `a` on, whose words are the operands.
-pub fn operand_field(operands: &[u64; 32], a: u32, n: u8, state: &State) -> u64
+pub fn operand_field(operands: &[u64; 2], a: u32, n: u8, state: &State) -> u64
     requires some { 1 ≤ n }
     requires few { n ≤ 64 }
     requires inside { a + n ≤ 64 * words_of_storage }

@@ -2,6 +2,7 @@
 use Rattle.std.specs.Prelude.{ℕ, ◌≡◌, ◌≤◌, ◌<◌, ◌-◌, ◌^◌, ◌==◌, ◌&&◌, Bool, true, false, not, nat_le, nat_lt, List, [], ◌∷◌, ◌++◌, length, map, replicate, slice_index, IfSome, Option, Some, None, is_some, is_none, if◌then◌else◌}
 use Rattle.std.specs.List.{All}
 use Rattle.std.specs.Option.{option_map}
+use Rattle.st_bits.specs.declared.register.TheConstants.{FIRST_STORAGE_WORD}
 use Rattle.st_bits.specs.Storage.{words_of_storage}
 use Rattle.st_card.specs.Controls.{Asked, nothing, with_budget, with_delays, with_signal, with_dump, with_trace, with_time, with_chart, with_snap, with_back}
 use Rattle.st_card.specs.Limits.{IsWithinLimits}
@@ -146,7 +147,7 @@ with_start d h = if nat_lt h (2 ^ 19) then Some (record d { start = Some h }) el
 
 -- whether a word is not zero and lies in storage, above the registers and above the words before it
 abbrev pub may_hold : ℕ → ℕ → ℕ → Bool
-may_hold next w x = nat_le 32 w && nat_le next w && nat_lt w words_of_storage && not (x == 0)
+may_hold next w x = nat_le FIRST_STORAGE_WORD w && nat_le next w && nat_lt w words_of_storage && not (x == 0)
 
 abbrev pub with_word : Draft → ℕ → ℕ → Option Draft
 with_word d w x =
@@ -181,7 +182,7 @@ with_item d item = if has_place d item then with_value d item else None
 pub record IsDraft (d : Draft) : Type 0 where
   pub few : length d.words ≤ words_of_storage
   pub each : All (λ x. x < 2 ^ 64) d.words
-  pub registers : (w : ℕ) → w < 32 → slice_index d.words w ≡ 0
+  pub registers : (w : ℕ) → w < FIRST_STORAGE_WORD → slice_index d.words w ≡ 0
   pub start : IfSome d.start (λ h. h < 2 ^ 19)
   pub limits : IsWithinLimits d.asked
   pub unlisted : d.asked.list ≡ false

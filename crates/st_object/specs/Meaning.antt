@@ -1,6 +1,8 @@
 -- What a line of an object text means.
 use Rattle.std.specs.Prelude.{ℕ, ◌≤◌, ◌<◌, ◌+◌, ◌*◌, ◌-◌, ◌/◌, ◌%◌, ◌^◌, ◌==◌, nat_lt, List, [], ◌∷◌, codes, Option, Some, None, if◌then◌else◌}
 use Rattle.std.specs.Option.{option_map, option_and_then}
+use Rattle.st_card.specs.declared.limits.TheConstants.{MOST_NUMBER}
+use Rattle.st_text.specs.Bytes.{blank, period, digit_zero, letter_a}
 use Rattle.st_card.specs.Number.{reading}
 use Rattle.st_card.specs.Controls.{good}
 use Rattle.st_card.specs.Tables.{is_same, row_of}
@@ -17,7 +19,7 @@ parts_at at (c ∷ cs) = if c == at then Some ([], cs) else option_map (λ p. (c
 
 -- the number that a text is, of 12 digits at most
 abbrev pub number_in : List ℕ → Option ℕ
-number_in text = good (reading 999999999999 text)
+number_in text = good (reading MOST_NUMBER text)
 
 -- a pair of values, where there are both
 abbrev pub both : {X Y : Type 0} → Option X → Option Y → Option (X × Y)
@@ -31,7 +33,7 @@ numbers_in at text = option_and_then (λ p. both (number_in p.0) (number_in p.1)
 
 -- a hexadecimal digit
 abbrev pub hex_digit_in : ℕ → ℕ
-hex_digit_in c = (if nat_lt c 65 then c - 48 else c - 55) % 16
+hex_digit_in c = (if nat_lt c letter_a then c - digit_zero else c - (letter_a - 10)) % 16
 
 -- the number that the last sixteen hexadecimal digits are
 abbrev pub hex_after : ℕ → List ℕ → ℕ
@@ -41,7 +43,7 @@ hex_after n (c ∷ cs) = hex_after (n % 2 ^ 60 * 16 + hex_digit_in c) cs
 -- a word of storage: its address and what it holds
 abbrev pub word_in : List ℕ → Option Item
 word_in text = option_and_then
-    (λ p. option_map (λ w. Word w (hex_after 0 p.1)) (number_in p.0)) (parts_at 32 text)
+    (λ p. option_map (λ w. Word w (hex_after 0 p.1)) (number_in p.0)) (parts_at blank text)
 
 -- the lines that are one word
 abbrev pub marks : List (List ℕ × Item)
@@ -58,12 +60,12 @@ keywords =
 
 -- what stands behind a first word
 abbrev pub item_behind : Kind → List ℕ → Option Item
-item_behind kinds.Start text = option_map (λ p. Start (2 * p.0 + p.1 / 32)) (numbers_in 46 text)
+item_behind kinds.Start text = option_map (λ p. Start (2 * p.0 + p.1 / 32)) (numbers_in period text)
 item_behind kinds.Word text = word_in text
 item_behind kinds.Budget text = option_map (λ n. Budget n) (number_in text)
 item_behind kinds.Delay text = option_map (λ n. Delay n) (number_in text)
-item_behind kinds.Signal text = option_map (λ p. Signal p.0 p.1) (numbers_in 32 text)
-item_behind kinds.Dump text = option_map (λ p. Dump p.0 p.1) (numbers_in 32 text)
+item_behind kinds.Signal text = option_map (λ p. Signal p.0 p.1) (numbers_in blank text)
+item_behind kinds.Dump text = option_map (λ p. Dump p.0 p.1) (numbers_in blank text)
 item_behind kinds.Snap text = option_map (λ n. Snap n) (number_in text)
 item_behind kinds.Back text = option_map (λ n. Back n) (number_in text)
 
@@ -78,7 +80,7 @@ if_spelled line item = if is_same (spelled item) line then Some item else None
 
 -- the item that a line spells
 abbrev pub item_in : List ℕ → Option Item
-item_in line = option_and_then (λ item. if_spelled line item) (item_loosely (parts_at 32 line) line)
+item_in line = option_and_then (λ item. if_spelled line item) (item_loosely (parts_at blank line) line)
 
 -- numbers that can be read: of 12 digits at most
 abbrev pub IsShort : ℕ → Type 0

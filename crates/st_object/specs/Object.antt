@@ -2,6 +2,8 @@
 use Rattle.std.specs.Prelude.{ℕ, ◌≡◌, ◌≤◌, ◌<◌, ◌+◌, ◌-◌, ◌^◌, false, List, [], ◌∷◌, ◌++◌, length, take, replicate, slice_index, Option, is_some, unwrap_or, Result, Ok, Err, if◌then◌else◌}
 use Rattle.std.specs.List.{All, flat_map}
 use Rattle.std.specs.Option.{option_and_then, option_map_or}
+use Rattle.st_text.specs.Bytes.{line_end}
+use Rattle.st_bits.specs.declared.register.TheConstants.{FIRST_STORAGE_WORD}
 use Rattle.st_bits.specs.Storage.{words_of_storage}
 use Rattle.st_report.specs.Line.{lf}
 use Rattle.st_card.specs.Controls.{Asked}
@@ -22,7 +24,7 @@ pub record Program : Type 0 where
 -- what an object text can hold
 pub record IsProgram (p : Program) : Type 0 where
   pub whole : length p.words ≡ words_of_storage
-  pub registers : (w : ℕ) → w < 32 → slice_index p.words w ≡ 0
+  pub registers : (w : ℕ) → w < FIRST_STORAGE_WORD → slice_index p.words w ≡ 0
   pub start : p.start < 2 ^ 19
   pub limits : IsWithinLimits p.controls
   pub budget : 1 ≤ p.controls.budget
@@ -75,7 +77,7 @@ read_from d n (line ∷ next ∷ more) =
 
 -- the program that a text holds, or the number of its bad line
 unfoldable pub read_text : List ℕ → Result Program ℕ
-read_text text = read_from blank 1 (parted 10 text)
+read_text text = read_from blank 1 (parted line_end text)
 
 -- the lines of a text: what stands behind the last line end is a line too, where it is not empty
 abbrev pub lines_in : List (List ℕ) → List (List ℕ)
@@ -84,7 +86,7 @@ lines_in (rest ∷ []) = if is_empty rest then [] else rest ∷ []
 lines_in (line ∷ next ∷ more) = line ∷ lines_in (next ∷ more)
 
 abbrev pub text_lines : List ℕ → List (List ℕ)
-text_lines text = lines_in (parted 10 text)
+text_lines text = lines_in (parted line_end text)
 
 -- the first n lines of a text, each with its line end
 abbrev pub first_lines : ℕ → List ℕ → List ℕ

@@ -7,18 +7,16 @@ ghost use Rattle.st_object.specs.Answers.{Settles, Appends};
 
 use crate::items::Item;
 use st_bits::WORDS;
-use st_card::limits::{
-    MOST_BACK, MOST_BUDGET, MOST_COUNT, MOST_DELAY, MOST_DELAYS, MOST_INDICATOR, MOST_SIGNALS,
-};
+use st_bits::indicators::CHANNEL_SIGNAL;
+use st_bits::limits::{LONGEST_LIST, MOST_INSTRUCTIONS};
+use st_bits::register::FIRST_STORAGE_WORD;
+use st_card::limits::{MOST_BACK, MOST_DELAY};
 use st_card::{Controls, Signal};
 use std::alloc::{AllocError, Global};
 use std::marker::Model;
 
 // The most half-words at which a program may start.
 const STARTS: u64 = 1 << 19;
-
-// The first word above the registers.
-const FIRST_WORD: u64 = 32;
 
 // What comes of a line.
 #[derive(Clone, Copy)]
@@ -261,7 +259,7 @@ impl Draft {
         ensures { Settles self.new
             (spec.with_asked self.old (with_budget self.old.asked (n ∷ []))) result }
     {
-        if self.controls.budget == 0 && (1..=MOST_BUDGET).contains(&n) {
+        if self.controls.budget == 0 && (1..=MOST_INSTRUCTIONS).contains(&n) {
             self.controls.budget = n;
             Outcome::Added
         } else {
@@ -273,7 +271,7 @@ impl Draft {
         ensures { Settles self.new
             (spec.with_asked self.old (with_delays self.old.asked (ticks ∷ []))) result }
     {
-        if self.controls.delays.len() < MOST_DELAYS && (1..=MOST_DELAY).contains(&ticks) {
+        if self.controls.delays.len() < LONGEST_LIST && (1..=MOST_DELAY).contains(&ticks) {
             push_delay(&mut self.controls.delays, ticks as u8)
         } else {
             Outcome::Refused
@@ -284,9 +282,9 @@ impl Draft {
         ensures { let numbers = count ∷ indicator ∷ [] in Settles self.new
             (spec.with_asked self.old (with_signal self.old.asked numbers)) result }
     {
-        if self.controls.signals.len() < MOST_SIGNALS
-            && count <= MOST_COUNT
-            && indicator <= MOST_INDICATOR
+        if self.controls.signals.len() < LONGEST_LIST
+            && count <= MOST_INSTRUCTIONS
+            && indicator <= u64::from(CHANNEL_SIGNAL)
             && self
                 .controls
                 .signals
@@ -386,7 +384,10 @@ impl Draft {
 fn may_hold(next: u64, address: u64, word: u64) -> bool
     ensures { result ≡ spec.may_hold next address word }
 {
-    FIRST_WORD <= address && next <= address && address < u64::from(WORDS) && word != 0
+    u64::from(FIRST_STORAGE_WORD) <= address
+        && next <= address
+        && address < u64::from(WORDS)
+        && word != 0
 }
 
 // Appends zeros up to a length.

@@ -2,11 +2,13 @@
 
 ghost use Rattle.std.specs.Prelude.{◌≡◌, ◌≤◌, ◌<◌, IfSome};
 ghost use Rattle.std.specs.Option.{option_map};
+ghost use Rattle.st_text.specs.Bytes.{blank};
 ghost use Rattle.st_object.specs.Meaning as spec;
 ghost use Rattle.st_object.specs.declared.items.Kind.TheVariants as kinds;
 
 use crate::items::{Item, Kind};
 use crate::spelling::spelled;
+use st_card::limits::MOST_NUMBER;
 use st_card::{Reading, cut, read_number, row_of};
 
 // The lines that are one word.
@@ -42,7 +44,7 @@ fn number_in(text: &[u8]) -> Option<u64>
     ensures value { result ≡ spec.number_in text.now }
     ensures short { IfSome result (λ n. n ≤ 999999999999) }
 {
-    match read_number(text, 999_999_999_999) {
+    match read_number(text, MOST_NUMBER) {
         Reading::Good(number) => Some(number),
         Reading::Large | Reading::Bad => None,
     }
@@ -131,7 +133,7 @@ fn item_behind(kind: Kind, text: &[u8]) -> Option<Item>
 
 // What a line means if it is spelled so.
 fn item_loosely(line: &[u8]) -> Option<Item>
-    ensures { result ≡ spec.item_loosely (spec.parts_at 32 line.now) line.now }
+    ensures { result ≡ spec.item_loosely (spec.parts_at blank line.now) line.now }
 {
     match parts_at(b' ', line) {
         None => row_of(&MARKS, line),

@@ -9,7 +9,7 @@ use Rattle.st_prep.specs.EarlyChange.{effective, side}
 use Rattle.st_prep.specs.Entry.{no_words, field_words, operand_words, words_read, reads_field, reads}
 use Rattle.st_prep.specs.Checks.{executed}
 use Rattle.st_prep.specs.Fetch.{index_words, place_of}
-use Rattle.st_prep.specs.Plan.{Sight, fault_of, needs_by, needs, suppressed, entry, prepared_by, prepared, sight, side_word, plan}
+use Rattle.st_prep.specs.Plan.{Sight, aimed, aim, fault_of, needs_by, needs, suppressed, entry, prepared_by, prepared, sight, side_word, plan}
 use Rattle.st_prep.specs.Ranges.{HasFields}
 use Rattle.st_prep.specs.Reading.{words_read as instruction_words, reading, count_of}
 use Rattle.st_prep.proofs.Choices.{of_choice}
@@ -61,15 +61,17 @@ few-read x (Transfer w a i n) e s = omega arith
 few-read x (Invalid first second full) e s = omega arith
 
 few-by_fault : (f : Option ℕ) (s : Sight) (r : Option ℕ) → IsSight s
-    → (prepared_by f s r).reads.len + (prepared_by f s r).reads.len2 + count_of (needs_by f s).index_read ≤ 32
-unfolding entry suppressed
+    → (prepared_by f s.place (aim s) s.x r).reads.len + (prepared_by f s.place (aim s) s.x r).reads.len2
+    + count_of (needs_by f (aim s)).index_read
+    ≤ 32
+unfolding entry suppressed aim aimed
 few-by_fault None s r k =
     few-read s.x (executed s.fetched) (effective s.x (executed s.fetched)) (executed-shape s.fetched k.fetched)
 few-by_fault (Some i) s r k = omega arith
 
 few-prepared : (s : Sight) (r : Option ℕ) → IsSight s
     → (prepared s r).reads.len + (prepared s r).reads.len2 + count_of (needs s).index_read ≤ 32
-unfolding prepared needs
+unfolding prepared needs aim
 few-prepared s r k = few-by_fault (fault_of s) s r k
 
 -- an entry of a state reads 36 words at most

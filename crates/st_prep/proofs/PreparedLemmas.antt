@@ -1,5 +1,5 @@
 -- What holds of each prepared entry, of whatever is seen.
-use Rattle.std.proofs.Common.{◌≡◌, ℕ, ◌^◌, ◌<◌, ◌≤◌, Bool, true, false, ◌||◌, List, not, get_or, Option, None, Some, is_some, refl, ◌∙◌, arith}
+use Rattle.std.proofs.Common.{◌≡◌, ℕ, ◌^◌, ◌<◌, ◌≤◌, Bool, true, false, ◌||◌, List, not, get_or, Option, None, Some, is_some, refl, sym, subst, ◌∙◌, ap, arith}
 use Rattle.std.specs.Prelude.{IfSome, unwrap_or}
 use Rattle.std.proofs.lemmas.Bool.{not-false, ltb-false}
 use Rattle.st_bits.specs.Storage.{words_of_storage}
@@ -9,11 +9,14 @@ use Rattle.st_format.specs.Formats.{is_valid}
 use Rattle.st_state.specs.declared.protection.Access.TheVariants.{Read, Write}
 use Rattle.st_prep.specs.declared.entries.Place.{Place}
 use Rattle.st_prep.specs.declared.entries.Fetched.{Fetched}
-use Rattle.st_prep.specs.EarlyChange.{effective, side}
+use Rattle.st_prep.specs.declared.entries.Aim.{Aim}
+use Rattle.st_prep.specs.declared.entries.Needs.{Needs}
+use Rattle.st_prep.specs.declared.entries.Prepared.{Prepared}
+use Rattle.st_prep.specs.EarlyChange.{effective}
 use Rattle.st_prep.specs.Entry.{reads, writes, next, acts_alone, has_register, is_register}
 use Rattle.st_prep.specs.Reading.{is_execute}
 use Rattle.st_prep.specs.Checks.{executed, forbidden_side, forbidden_words, forbidden_area, operation_fault, operation_invalid, fault}
-use Rattle.st_prep.specs.Plan.{Sight, is_alone, is_serial, fault_of, needs_by, needs, suppressed, entry, prepared_by, prepared}
+use Rattle.st_prep.specs.Plan.{Sight, is_alone, aimed, aim, is_serial, fault_of, needs_by, needs, suppressed, entry, prepared_by, prepared}
 use Rattle.st_prep.specs.Ranges.{HasFields, IsPlace, IsFetched, IsPrepared, IsNeeds}
 use Rattle.st_format.proofs.Spelled.{or-left, or-right}
 use Rattle.st_prep.proofs.Choices.{none-left, none-right, test-none}
@@ -38,28 +41,26 @@ unfolding executed
 executed-shape f h = of_target f.target f.instr h.own h.target
 
 -- an entry that passes all checks
-record Passes (f : Fetched) (x : List ℕ) (b : ℕ) (en : Bool) : Type 0 where
-  operation : operation_fault (executed f) ≡ None
-  side : forbidden_side b en (side x (executed f) (effective x (executed f))) ≡ None
-  reads : forbidden_words b en Read (reads (executed f) (effective x (executed f))) ≡ None
-  writes : forbidden_words b en Write (writes (executed f) (effective x (executed f))) ≡ None
-  area : forbidden_area b en (executed f) (effective x (executed f)) ≡ None
+record Passes (a : Aim) (b : ℕ) (en : Bool) : Type 0 where
+  operation : operation_fault a.instr ≡ None
+  side : forbidden_side b en a.side ≡ None
+  reads : forbidden_words b en Read a.reads ≡ None
+  writes : forbidden_words b en Write a.writes ≡ None
+  area : forbidden_area b en a.instr a.e ≡ None
 
-passes : (f : Fetched) (x : List ℕ) (b : ℕ) (en : Bool) → fault f x b en ≡ None → Passes f x b en
+passes : (a : Aim) (b : ℕ) (en : Bool) → fault a b en ≡ None → Passes a b en
 unfolding fault
-passes f x b en h =
-    let instr = executed f in
-    let e = effective x instr in
-    let past_fetch = none-right f.fault _ h in
-    let past_operation = none-right (operation_fault instr) _ past_fetch in
-    let past_side = none-right (forbidden_side b en (side x instr e)) _ past_operation in
-    let past_reads = none-right (forbidden_words b en Read (reads instr e)) _ past_side in
+passes a b en h =
+    let past_fetch = none-right a.fault _ h in
+    let past_operation = none-right (operation_fault a.instr) _ past_fetch in
+    let past_side = none-right (forbidden_side b en a.side) _ past_operation in
+    let past_reads = none-right (forbidden_words b en Read a.reads) _ past_side in
     record {
       operation = none-left _ _ past_fetch;
       side = none-left _ _ past_operation;
       reads = none-left _ _ past_side;
       writes = none-left _ _ past_reads;
-      area = none-right (forbidden_words b en Write (writes instr e)) _ past_reads;
+      area = none-right (forbidden_words b en Write a.writes) _ past_reads;
     }
 
 valid : (instr : Instr) → operation_fault instr ≡ None → is_valid instr ≡ true
@@ -76,27 +77,25 @@ above_side : (w : Option ℕ) → is_register w ≡ false → IfSome w (λ n. 32
 above_side None h = tt
 above_side (Some n) h = ltb-false n 32 h
 
-record Runs (place : Place) (f : Fetched) (x : List ℕ) : Type 0 where
-  alone : is_alone place f ≡ false
-  operation : acts_alone (executed f) ≡ false
-  side : is_register (side x (executed f) (effective x (executed f))) ≡ false
-  reads : has_register (reads (executed f) (effective x (executed f))) ≡ false
-  writes : has_register (writes (executed f) (effective x (executed f))) ≡ false
+record Runs (a : Aim) : Type 0 where
+  alone : a.alone ≡ false
+  operation : acts_alone a.instr ≡ false
+  side : is_register a.side ≡ false
+  reads : has_register a.reads ≡ false
+  writes : has_register a.writes ≡ false
 
-runs : (place : Place) (f : Fetched) (x : List ℕ) → is_serial place f x ≡ false → Runs place f x
+runs : (a : Aim) → is_serial a ≡ false → Runs a
 unfolding is_serial
-runs place f x h =
-    let instr = executed f in
-    let e = effective x instr in
-    let before_writes = or-left _ (has_register (writes instr e)) h in
-    let before_reads = or-left _ (has_register (reads instr e)) before_writes in
-    let before_side = or-left _ (is_register (side x instr e)) before_reads in
+runs a h =
+    let before_writes = or-left _ (has_register a.writes) h in
+    let before_reads = or-left _ (has_register a.reads) before_writes in
+    let before_side = or-left _ (is_register a.side) before_reads in
     record {
-      alone = or-left (is_alone place f) (acts_alone instr) before_side;
-      operation = or-right (is_alone place f) (acts_alone instr) before_side;
-      side = or-right _ (is_register (side x instr e)) before_reads;
-      reads = or-right _ (has_register (reads instr e)) before_writes;
-      writes = or-right _ (has_register (writes instr e)) h;
+      alone = or-left a.alone (acts_alone a.instr) before_side;
+      operation = or-right a.alone (acts_alone a.instr) before_side;
+      side = or-right _ (is_register a.side) before_reads;
+      reads = or-right _ (has_register a.reads) before_writes;
+      writes = or-right _ (has_register a.writes) h;
     }
 
 not_table : (place : Place) (f : Fetched) → is_alone place f ≡ false → place.table ≡ None
@@ -105,8 +104,8 @@ not_table place f h = no_table place.table (or-left (is_some place.table) (is_ex
 -- ---- all entries
 
 entry-prepared : (s : Sight) (r : Option ℕ) → IsSight s → IfSome r (λ w. w < 2 ^ 64)
-    → Passes s.fetched s.x s.bounds s.enabled → IsPrepared (entry s.place s.fetched s.x r)
-unfolding entry
+    → Passes (aimed s.place s.fetched s.x) s.bounds s.enabled → IsPrepared (entry s.place (aim s) s.x r)
+unfolding entry aim aimed
 entry-prepared s r k some p =
     let instr = executed s.fetched in
     let e = effective s.x instr in
@@ -135,7 +134,7 @@ entry-prepared s r k some p =
         area = area-inside s.bounds s.enabled instr e p.area;
       };
       suppressed = λ h. cc;
-      ahead = λ h. let q = runs s.place s.fetched s.x h in record {
+      ahead = λ h. let q = runs (aim s) h in record {
         table = not_table s.place s.fetched q.alone;
         operation = λ _. q.operation;
         reads = words-above (reads instr e) q.reads;
@@ -143,8 +142,8 @@ entry-prepared s r k some p =
       };
     }
 
-suppressed-prepared : (s : Sight) (i : ℕ) → IsSight s → IsPrepared (suppressed s.place s.fetched i)
-unfolding suppressed
+suppressed-prepared : (s : Sight) (i : ℕ) → IsSight s → IsPrepared (suppressed s.place (aim s) i)
+unfolding suppressed aim aimed
 suppressed-prepared s i k = record {
   place = k.place;
   shape = executed-shape s.fetched k.fetched;
@@ -168,18 +167,18 @@ suppressed-prepared s i k = record {
   };
 }
 
-passes_by : (s : Sight) → fault_of s ≡ None → Passes s.fetched s.x s.bounds s.enabled
+passes_by : (s : Sight) → fault_of s ≡ None → Passes (aimed s.place s.fetched s.x) s.bounds s.enabled
 unfolding fault_of
-passes_by s h = passes s.fetched s.x s.bounds s.enabled h
+passes_by s h = passes (aimed s.place s.fetched s.x) s.bounds s.enabled h
 
 by_fault : (f : Option ℕ) (s : Sight) (r : Option ℕ) → fault_of s ≡ f → IsSight s → IfSome r (λ w. w < 2 ^ 64)
-    → IsPrepared (prepared_by f s r)
+    → IsPrepared (prepared_by f s.place (aim s) s.x r)
 by_fault None s r e k some = entry-prepared s r k some (passes_by s e)
 by_fault (Some i) s r e k some = suppressed-prepared s i k
 
 -- whatever is prepared is in its ranges
 pub is_prepared : (s : Sight) (r : Option ℕ) → IsSight s → IfSome r (λ w. w < 2 ^ 64) → IsPrepared (prepared s r)
-unfolding prepared
+unfolding prepared aim
 is_prepared s r k some = by_fault (fault_of s) s r refl k some
 
 -- ---- needs
@@ -189,50 +188,44 @@ unfolding forbidden_side
 allowed_side b en None h = tt
 allowed_side b en (Some n) h = allowed-inside b en Read n h
 
-needs_by_fault : (f : Option ℕ) (s : Sight) → fault_of s ≡ f → IsNeeds (needs_by f s)
+needs_by_fault : (f : Option ℕ) (s : Sight) → fault_of s ≡ f → IsNeeds (needs_by f (aim s))
+unfolding aim aimed
 needs_by_fault None s e = record {
   inside = allowed_side s.bounds s.enabled _ (passes_by s e).side;
-  above = λ h. above_side _ (runs s.place s.fetched s.x h).side;
+  above = λ h. above_side _ (runs (aim s) h).side;
 }
 needs_by_fault (Some i) s e = record { inside = tt; above = λ _. tt }
 
 -- whatever is needed is a word of storage
 pub is_needs : (s : Sight) → IsNeeds (needs s)
-unfolding needs
+unfolding needs aim
 is_needs s = needs_by_fault (fault_of s) s refl
 
-same_by_fault : (f : Option ℕ) (s : Sight) (r : Option ℕ) → (prepared_by f s r).serial ≡ (needs_by f s).serial
+same_by_fault : (f : Option ℕ) (p : Place) (a : Aim) (x : List ℕ) (r : Option ℕ)
+    → (prepared_by f p a x r).serial ≡ (needs_by f a).serial
 unfolding entry suppressed
-same_by_fault None s r = refl
-same_by_fault (Some i) s r = refl
+same_by_fault None p a x r = refl
+same_by_fault (Some i) p a x r = refl
 
 -- what is looked up and what is prepared agree on what is done alone
 pub same_serial : (s : Sight) (r : Option ℕ) → (prepared s r).serial ≡ (needs s).serial
 unfolding prepared needs
-same_serial s r = same_by_fault (fault_of s) s r
+same_serial s r = same_by_fault _ s.place (aim s) s.x r
 
 -- ---- the index-side word
 
-entry-read : (s : Sight) (r q : Option ℕ)
-    → entry s.place s.fetched s.x r
-    ≡ record (entry s.place s.fetched s.x q) {
-      index = (entry s.place s.fetched s.x r).index;
-      ind = (entry s.place s.fetched s.x r).ind;
-    }
+read-by_fault : (f : Option ℕ) (p : Place) (a : Aim) (x : List ℕ) (r q : Option ℕ)
+    → prepared_by f p a x r
+    ≡ record (prepared_by f p a x q) { index = (prepared_by f p a x r).index; ind = (prepared_by f p a x r).ind }
 unfolding entry
-entry-read s r q = refl
-
-read-by_fault : (f : Option ℕ) (s : Sight) (r q : Option ℕ)
-    → prepared_by f s r
-    ≡ record (prepared_by f s q) { index = (prepared_by f s r).index; ind = (prepared_by f s r).ind }
-read-by_fault None s r q = entry-read s r q
-read-by_fault (Some i) s r q = refl
+read-by_fault None p a x r q = refl
+read-by_fault (Some i) p a x r q = refl
 
 -- what is read there shows in the index change and its indicators alone
 pub prepared-read : (s : Sight) (r q : Option ℕ)
     → prepared s r ≡ record (prepared s q) { index = (prepared s r).index; ind = (prepared s r).ind }
 unfolding prepared
-prepared-read s r q = read-by_fault (fault_of s) s r q
+prepared-read s r q = read-by_fault _ s.place (aim s) s.x r q
 
 -- ---- EX
 
@@ -240,12 +233,31 @@ alone-left : (a b c d e : Bool) → a ≡ true → (a || b || c || d || e) ≡ t
 alone-left true b c d e h = refl
 alone-left false b c d e h = cc
 
-alone-by_fault : (f : Option ℕ) (s : Sight) → is_alone s.place s.fetched ≡ true → (needs_by f s).serial ≡ true
+alone-by_fault : (f : Option ℕ) (a : Aim) → a.alone ≡ true → (needs_by f a).serial ≡ true
 unfolding is_serial
-alone-by_fault None s h = alone-left (is_alone s.place s.fetched) _ _ _ _ h
-alone-by_fault (Some i) s h = h
+alone-by_fault None a h = alone-left a.alone _ _ _ _ h
+alone-by_fault (Some i) a h = h
 
 -- what is alone even where it is suppressed is done alone
 pub alone-serial : (s : Sight) (r : Option ℕ) → is_alone s.place s.fetched ≡ true → (prepared s r).serial ≡ true
+unfolding needs aim aimed
+alone-serial s r h = same_serial s r ∙ alone-by_fault _ (aim s) h
+
+-- ---- by what an entry is aimed at
+
+pub look-needs : (a : Aim) (v : Sight) (n : Needs) → n ≡ needs_by a.fault a → a ≡ aim v → n ≡ needs v
 unfolding needs
-alone-serial s r h = same_serial s r ∙ alone-by_fault (fault_of s) s h
+look-needs a v n e h = e ∙ ap (λ b. needs_by b.fault b) h
+
+pub side-inside : (a : Aim) (v : Sight) (n : Needs) → n ≡ needs_by a.fault a → a ≡ aim v
+    → IfSome n.index_read (λ w. w < words_of_storage)
+side-inside a v n e h = (subst IsNeeds (sym (look-needs a v n e h)) (is_needs v)).inside
+
+pub fill-prepared : (a : Aim) (v : Sight) (p : Prepared) (r : Option ℕ) → p ≡ prepared_by a.fault v.place a v.x r → a ≡ aim v
+    → p ≡ prepared v r
+unfolding prepared
+fill-prepared a v p r e h = e ∙ ap (λ b. prepared_by b.fault v.place b v.x r) h
+
+pub filled-fits : (v : Sight) (p : Prepared) (r : Option ℕ) → p ≡ prepared v r → IsSight v → IfSome r (λ w. w < 2 ^ 64)
+    → IsPrepared p
+filled-fits v p r e k some = subst IsPrepared (sym e) (is_prepared v r k some)

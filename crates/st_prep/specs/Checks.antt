@@ -1,6 +1,7 @@
 -- The checks before an instruction is executed: the first that fails suppresses it.
-use Rattle.std.specs.Prelude.{ℕ, zero, suc, ◌+◌, ◌/◌, Bool, true, false, not, nat_lt, if◌then◌else◌, List, Option, None, Some, unwrap_or}
+use Rattle.std.specs.Prelude.{ℕ, zero, suc, ◌+◌, ◌/◌, Bool, true, false, not, nat_lt, if◌then◌else◌, Option, None, Some, unwrap_or}
 use Rattle.std.specs.Option.{option_or}
+use Rattle.st_bits.specs.declared.indicators.TheConstants.{OPERATION_INVALID, EXECUTE_EXCEPTION}
 use Rattle.st_format.specs.declared.instruction.Instr.{Instr}
 use Rattle.st_format.specs.declared.instruction.Instr.TheVariants.{Transfer}
 use Rattle.st_format.specs.Formats.{is_valid}
@@ -9,8 +10,7 @@ use Rattle.st_state.specs.declared.protection.Access.{Access}
 use Rattle.st_state.specs.declared.protection.Access.TheVariants.{Read, Write}
 use Rattle.st_prep.specs.declared.entries.Fetched.{Fetched}
 use Rattle.st_prep.specs.declared.entries.Words.{Words}
-use Rattle.st_prep.specs.EarlyChange.{effective, side}
-use Rattle.st_prep.specs.Entry.{reads, writes}
+use Rattle.st_prep.specs.declared.entries.Aim.{Aim}
 use Rattle.st_prep.specs.Reading.{is_execute}
 
 -- the instruction that is executed: the target of EX, or else the instruction itself
@@ -49,11 +49,11 @@ forbidden_area bounds enabled _ e = None
 
 -- the machine does not have the instruction
 abbrev pub operation_invalid : ℕ
-operation_invalid = 15
+operation_invalid = OPERATION_INVALID
 
 -- EX points to EX
 abbrev pub execute_exception : ℕ
-execute_exception = 18
+execute_exception = EXECUTE_EXCEPTION
 
 unfoldable pub operation_fault : Instr → Option ℕ
 operation_fault instr =
@@ -64,13 +64,11 @@ operation_fault instr =
 -- the indicator of the first check that fails: the instruction's words and those of the target of EX, the operation,
 -- EX of EX, the index-side word, each word read, each word written, the area of an order (which reads and writes no
 -- other words)
-unfoldable pub fault : Fetched → List ℕ → ℕ → Bool → Option ℕ
-fault f x bounds enabled =
-    let instr = executed f in
-    let e = effective x instr in
-    option_or f.fault
-    (option_or (operation_fault instr)
-    (option_or (forbidden_side bounds enabled (side x instr e))
-    (option_or (forbidden_words bounds enabled Read (reads instr e))
-    (option_or (forbidden_words bounds enabled Write (writes instr e))
-    (forbidden_area bounds enabled instr e)))))
+unfoldable pub fault : Aim → ℕ → Bool → Option ℕ
+fault a bounds enabled =
+    option_or a.fault
+    (option_or (operation_fault a.instr)
+    (option_or (forbidden_side bounds enabled a.side)
+    (option_or (forbidden_words bounds enabled Read a.reads)
+    (option_or (forbidden_words bounds enabled Write a.writes)
+    (forbidden_area bounds enabled a.instr a.e)))))

@@ -2,19 +2,21 @@
 use Rattle.std.specs.Prelude.{ℕ, ◌≡◌, Bool, true, false, ◌||◌, List, Option, None, Some, is_some, option_map}
 use Rattle.st_state.specs.Machine.{Machine, word}
 use Rattle.st_bits.specs.Indicators.{indicator}
+use Rattle.st_bits.specs.declared.register.TheConstants.{BOUNDS}
 use Rattle.st_state.specs.Interrupts.{applied}
 use Rattle.st_prep.specs.declared.entries.Place.{Place}
 use Rattle.st_prep.specs.declared.entries.Fetched.{Fetched}
 use Rattle.st_prep.specs.declared.entries.Needs.{Needs}
 use Rattle.st_prep.specs.declared.entries.Prepared.{Prepared}
+use Rattle.st_prep.specs.declared.entries.Aim.{Aim}
 use Rattle.st_prep.specs.EarlyChange.{effective, side, change}
 use Rattle.st_prep.specs.Entry.{no_words, reads, writes, next, after, value, cost, acts_alone, has_register, is_register}
 use Rattle.st_prep.specs.Reading.{is_execute}
 use Rattle.st_prep.specs.Fetch.{index_words, place_of, fetched}
 use Rattle.st_prep.specs.Checks.{executed, fault}
 
--- what preparation sees of a state: the place of the entry, what is fetched there, the sixteen index words, word 3,
--- and whether interrupts are enabled
+-- what preparation sees of a state: the place of the entry, what is fetched there, the sixteen index words, the
+-- register of the bounds, and whether interrupts are enabled
 pub record Sight : Type 0 where
   pub place : Place
   pub fetched : Fetched
@@ -27,7 +29,7 @@ seen place fetched x s = record {
   place = place;
   fetched = fetched;
   x = x;
-  bounds = word s 3;
+  bounds = word s BOUNDS;
   enabled = s.enabled;
 }
 
@@ -37,43 +39,55 @@ seen place fetched x s = record {
 abbrev pub is_alone : Place → Fetched → Bool
 is_alone place f = is_some place.table || is_execute f.instr.instr
 
--- so are the operations that say so, and entries with a register among their words
-unfoldable pub is_serial : Place → Fetched → List ℕ → Bool
-is_serial place f x =
+-- what an entry is aimed at, before it is checked: its fault is that of its words. EX has the length of one half-word,
+-- whatever its target
+unfoldable pub aimed : Place → Fetched → List ℕ → Aim
+aimed place f x =
     let instr = executed f in
     let e = effective x instr in
-    is_alone place f || acts_alone instr || is_register (side x instr e)
-    || has_register (reads instr e) || has_register (writes instr e)
+    record {
+      instr = instr;
+      e = e;
+      halves = f.instr.halves;
+      side = side x instr e;
+      reads = reads instr e;
+      writes = writes instr e;
+      fault = f.fault;
+      alone = is_alone place f;
+    }
 
 -- the indicator of the first check that fails
 unfoldable pub fault_of : Sight → Option ℕ
-fault_of s = fault s.fetched s.x s.bounds s.enabled
+fault_of s = fault (aimed s.place s.fetched s.x) s.bounds s.enabled
+
+-- what it is aimed at, and the first check that it fails
+unfoldable pub aim : Sight → Aim
+aim s = record (aimed s.place s.fetched s.x) { fault = fault_of s }
+
+-- an entry is done alone where its operation says so, and where a register is among its words
+unfoldable pub is_serial : Aim → Bool
+is_serial a =
+    a.alone || acts_alone a.instr || is_register a.side || has_register a.reads || has_register a.writes
 
 -- the index-side word that is to be read, and whether the entry is done alone
-abbrev pub needs_by : Option ℕ → Sight → Needs
-needs_by (Some i) s = record { index_read = None; serial = is_alone s.place s.fetched }
-needs_by None s =
-    let instr = executed s.fetched in
-    record {
-      index_read = side s.x instr (effective s.x instr);
-      serial = is_serial s.place s.fetched s.x;
-    }
+abbrev pub needs_by : Option ℕ → Aim → Needs
+needs_by (Some i) a = record { index_read = None; serial = a.alone }
+needs_by None a = record { index_read = a.side; serial = is_serial a }
 
 unfoldable pub needs : Sight → Needs
-needs s = needs_by (fault_of s) s
+needs s = let a = aim s in needs_by a.fault a
 
 -- whether an index-side word is to be read
 abbrev pub asks : Sight → Bool
 asks s = is_some (needs s).index_read
 
--- an entry with a fault: its indicator comes on, and nothing else but the counter changes. EX has the length of one
--- half-word, whatever its target
-unfoldable pub suppressed : Place → Fetched → ℕ → Prepared
-suppressed place f i = record {
+-- an entry with a fault: its indicator comes on, and nothing else but the counter changes
+unfoldable pub suppressed : Place → Aim → ℕ → Prepared
+suppressed place a i = record {
   place = place;
-  instr = executed f;
+  instr = a.instr;
   e = 0;
-  following = next place f.instr.halves;
+  following = next place a.halves;
   index = None;
   ind = record { on = indicator i; off = 0 };
   suppressed = true;
@@ -81,37 +95,35 @@ suppressed place f i = record {
   writes = no_words;
   value = 0;
   cost = 1;
-  serial = is_alone place f;
+  serial = a.alone;
 }
 
 -- an entry without one, its index-side word being read
-unfoldable pub entry : Place → Fetched → List ℕ → Option ℕ → Prepared
-entry place f x read =
-    let instr = executed f in
-    let e = effective x instr in
-    let following = next place f.instr.halves in
-    let early = change x instr e read in
+unfoldable pub entry : Place → Aim → List ℕ → Option ℕ → Prepared
+entry place a x read =
+    let following = next place a.halves in
+    let early = change x a.instr a.e read in
     record {
       place = place;
-      instr = instr;
-      e = e;
-      following = after instr x e place.counter following;
+      instr = a.instr;
+      e = a.e;
+      following = after a.instr x a.e place.counter following;
       index = early.index;
       ind = early.ind;
       suppressed = false;
-      reads = reads instr e;
-      writes = writes instr e;
-      value = value instr x following;
-      cost = cost instr;
-      serial = is_serial place f x;
+      reads = a.reads;
+      writes = a.writes;
+      value = value a.instr x following;
+      cost = cost a.instr;
+      serial = is_serial a;
     }
 
-abbrev pub prepared_by : Option ℕ → Sight → Option ℕ → Prepared
-prepared_by (Some i) s read = suppressed s.place s.fetched i
-prepared_by None s read = entry s.place s.fetched s.x read
+abbrev pub prepared_by : Option ℕ → Place → Aim → List ℕ → Option ℕ → Prepared
+prepared_by (Some i) place a x read = suppressed place a i
+prepared_by None place a x read = entry place a x read
 
 unfoldable pub prepared : Sight → Option ℕ → Prepared
-prepared s read = prepared_by (fault_of s) s read
+prepared s read = let a = aim s in prepared_by a.fault s.place a s.x read
 
 -- ---- from a state
 
@@ -138,7 +150,7 @@ pub record IsSeen (s : Machine) (v : Sight) : Type 0 where
   pub place : place_of s v.place.table ≡ v.place
   pub fetched : fetched s v.place ≡ v.fetched
   pub words : index_words s ≡ v.x
-  pub bounds : word s 3 ≡ v.bounds
+  pub bounds : word s BOUNDS ≡ v.bounds
   pub enabled : s.enabled ≡ v.enabled
 
 -- the index-side word of an entry of the state, where one is read

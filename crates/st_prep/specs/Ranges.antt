@@ -15,6 +15,7 @@ use Rattle.st_prep.specs.declared.fetching.Part.{Part}
 use Rattle.st_prep.specs.declared.fetching.Part.TheVariants.{Wants, Has}
 use Rattle.st_prep.specs.declared.entries.Needs.{Needs}
 use Rattle.st_prep.specs.declared.entries.Words.{Words}
+use Rattle.st_prep.specs.declared.entries.Aim.{Aim}
 use Rattle.st_prep.specs.declared.entries.IndexChange.{IndexChange}
 use Rattle.st_prep.specs.declared.entries.Prepared.{Prepared}
 use Rattle.st_prep.specs.Entry.{no_words, reads, writes, acts_alone}
@@ -57,6 +58,14 @@ pub record IsRuns (w : Words) : Type 0 where
   pub few : w.len ≤ 16
   pub start2 : w.first2 < 2 ^ 18
   pub few2 : w.len2 ≤ 16
+
+-- an instruction with its fields, addresses, runs of words, and an indicator
+pub record IsAim (a : Aim) : Type 0 where
+  pub shape : HasFields a.instr
+  pub address : a.e < 2 ^ 24
+  pub reads : IsRuns a.reads
+  pub writes : IsRuns a.writes
+  pub fault : IfSome a.fault (λ i. i < 64)
 
 -- they lie in storage
 pub record AreInside (w : Words) : Type 0 where

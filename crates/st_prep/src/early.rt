@@ -1,4 +1,4 @@
-ghost use Rattle.std.specs.Prelude.{◌≡◌, ◌<◌, ◌^◌};
+ghost use Rattle.std.specs.Prelude.{◌≡◌, ◌<◌, ◌^◌, slice_index};
 ghost use Rattle.st_prep.specs.EarlyChange.{refill_word as refill_word_of, half_side as half_side_of, progressive_side as progressive_side_of, side as side_of};
 ghost use Rattle.st_prep.specs.EarlyChange.{unchanged, compared as compared_of, changed as changed_of, half_change as half_change_of, progressive_change as progressive_change_of, change as change_of};
 ghost use Rattle.st_prep.specs.Ranges.{HasFields};
@@ -18,6 +18,14 @@ pub struct Early {
     pub index: Option<IndexChange>,
     /// The indicators that are turned on and off.
     pub ind: Ind,
+}
+
+/// The fields of a half-word instruction that say what becomes of index word `j`.
+#[derive(Clone, Copy, Debug, PartialEq, Eq)]
+pub struct Half {
+    pub op: HalfOp,
+    pub address: u32,
+    pub j: u8,
 }
 
 /// The refill address of an index word, where its count became zero.
@@ -74,12 +82,12 @@ fn progressive_side(p: u8, x: u64, address: u32) -> Option<u32>
 
 /// The index-side word of an instruction with the effective address `e`.
 #[tactic(auto, unfolding(crate::specs::EarlyChange::side))]
-pub fn side(instr: Instr, x: &[u64; 16], e: u32) -> Option<u32>
-    requires shape { HasFields instr }
+pub fn side(instr: &Instr, x: &[u64; 16], e: u32) -> Option<u32>
+    requires shape { HasFields instr.now }
     requires address { e < 2 ^ 24 }
-    ensures { result ≡ side_of x.now instr e }
+    ensures { result ≡ side_of x.now instr.now e }
 {
-    match instr {
+    match *instr {
         Instr::Half { op, j, .. } => half_side(op, x[j as usize], e),
         Instr::Vfl { p, address, i, .. } | Instr::Connect { p, address, i, .. } => {
             progressive_side(p, x[i as usize], address)
@@ -123,24 +131,20 @@ fn changed(number: u8, kept: u64, y: u64, refill: Option<u64>) -> Early
     }
 }
 
-/// What a half-word instruction makes of index word `j`, which is `x`; `read` is its index-side word.
+/// What a half-word instruction makes of index word J; `e` is its effective address and `read` its index-side word.
 #[tactic(auto, unfolding(crate::specs::EarlyChange::half_change))]
-fn half_change(
-    op: HalfOp,
-    words: &[u64; 16],
-    address: u32,
-    j: u8,
-    x: u64,
-    e: u32,
-    read: Option<u64>,
-) -> Early
-    requires address { address < 2 ^ 19 }
+fn half_change(half: Half, words: &[u64; 16], e: u32, read: Option<u64>) -> Early
+    requires address { half.address < 2 ^ 19 }
+    requires number { half.j < 16 }
     requires effective { e < 2 ^ 24 }
-    ensures { result ≡ half_change_of op words.now address j x e read }
+    ensures { result
+        ≡ half_change_of half.op words.now half.address half.j (slice_index words.now half.j) e read }
 {
+    let j = half.j;
+    let x = words[j as usize];
     let word = read.unwrap_or(0);
     let w = e / 64;
-    match op {
+    match half.op {
         HalfOp::Lx | HalfOp::R => changed(j, x, word, None),
         HalfOp::Lv => changed(j, x, with_part(x, 0, 25, part(word, 0, 25)), None),
         HalfOp::Lc => changed(j, x, with_count(x, count_of(word)), None),
@@ -149,7 +153,7 @@ fn half_change(
         HalfOp::VPlusC => changed(j, x, count_down(add_value(x, value_of(word))), None),
         HalfOp::Kv => compared(value_of(x), value_of(word)),
         HalfOp::Lvs => {
-            let list = (address / 8) as u16;
+            let list = (half.address / 8) as u16;
             changed(j, x, with_value(x, sum_values(list, words)), None)
         }
         HalfOp::Lvi => changed(j, x, with_value(x, e as i32), None),
@@ -184,15 +188,13 @@ fn progressive_change(p: u8, i: u8, x: u64, address: u32, read: Option<u64>) -> 
 
 /// The early change by an instruction with the effective address `e`; `read` is its index-side word.
 #[tactic(auto, unfolding(crate::specs::EarlyChange::change))]
-pub fn change(instr: Instr, x: &[u64; 16], e: u32, read: Option<u64>) -> Early
-    requires shape { HasFields instr }
+pub fn change(instr: &Instr, x: &[u64; 16], e: u32, read: Option<u64>) -> Early
+    requires shape { HasFields instr.now }
     requires address { e < 2 ^ 24 }
-    ensures { result ≡ change_of x.now instr e read }
+    ensures { result ≡ change_of x.now instr.now e read }
 {
-    match instr {
-        Instr::Half { op, address, j, .. } => {
-            half_change(op, x, address, j, x[j as usize], e, read)
-        }
+    match *instr {
+        Instr::Half { op, address, j, .. } => { half_change(Half { op, address, j }, x, e, read) }
         Instr::Vfl { p, address, i, .. } | Instr::Connect { p, address, i, .. } => {
             progressive_change(p, i, x[i as usize], address, read)
         }

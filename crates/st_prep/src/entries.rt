@@ -13,7 +13,7 @@ pub struct Place {
 }
 
 /// What is fetched at a place.
-#[derive(Clone, Copy, Debug, PartialEq, Eq)]
+#[derive(Clone, Copy, Debug, Default, PartialEq, Eq)]
 pub struct Fetched {
     /// The instruction. Where its first word may not be fetched, it is one half-word that spells none; where its
     /// second word may not be fetched, it is decoded with zeros in its place.
@@ -34,7 +34,7 @@ pub enum Fetching {
 }
 
 /// What an entry needs before it can be prepared.
-#[derive(Clone, Copy, Debug, PartialEq, Eq)]
+#[derive(Clone, Copy, Debug, Default, PartialEq, Eq)]
 pub struct Needs {
     /// The word address of its index-side word: the one that changes, or is compared with, an index word.
     pub index_read: Option<u32>,
@@ -55,6 +55,27 @@ pub struct Words {
     pub len2: u8,
 }
 
+/// What an entry is aimed at, found once and then passed on.
+#[derive(Clone, Copy, Debug, PartialEq, Eq)]
+pub struct Aim {
+    /// The instruction that is executed: of EX the target, where it could be fetched.
+    pub instr: Instr,
+    /// The effective address, a bit address below 2^24.
+    pub e: u32,
+    /// The number of half-words that the entry takes: of EX its own, whatever its target.
+    pub halves: u8,
+    /// The index-side word.
+    pub side: Option<u32>,
+    /// The operand words that it reads.
+    pub reads: Words,
+    /// The words that it writes.
+    pub writes: Words,
+    /// The indicator of the first check that it fails.
+    pub fault: Option<u8>,
+    /// Whether it is done alone even where it is suppressed.
+    pub alone: bool,
+}
+
 /// A change of an index word.
 #[derive(Clone, Copy, Debug, Default, PartialEq, Eq)]
 pub struct IndexChange {
@@ -66,8 +87,8 @@ pub struct IndexChange {
     pub word: u64,
 }
 
-/// An entry that is prepared.
-#[derive(Clone, Copy, Debug, PartialEq, Eq)]
+/// An entry that is prepared. The default one only fills a place.
+#[derive(Clone, Copy, Debug, Default, PartialEq, Eq)]
 pub struct Prepared {
     /// Where it stands.
     pub place: Place,
@@ -96,32 +117,4 @@ pub struct Prepared {
     pub cost: u8,
     /// Whether it is done alone.
     pub serial: bool,
-}
-
-/// A suppressed entry of no instruction, to fill a place with.
-impl Default for Prepared {
-    ghost use Rattle.st_prep.specs.Ranges.{IsPrepared};
-
-    ghost is_default = { IsPrepared };
-
-    fn default() -> Prepared {
-        Prepared {
-            place: Place::default(),
-            instr: Instr::Invalid {
-                first: 0,
-                second: 0,
-                full: false,
-            },
-            e: 0,
-            following: 0,
-            index: None,
-            ind: Ind { on: 0, off: 0 },
-            suppressed: true,
-            reads: Words::default(),
-            writes: Words::default(),
-            value: 0,
-            cost: 1,
-            serial: false,
-        }
-    }
 }

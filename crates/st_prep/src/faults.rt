@@ -1,25 +1,15 @@
 ghost use Rattle.std.specs.Prelude.{◌≡◌, ◌+◌, ◌/◌, ◌<◌, ◌^◌, IfSome};
 ghost use Rattle.st_state.specs.Machine.{word, word as word_of};
-ghost use Rattle.st_prep.specs.Ranges.{HasFields, IsFetched, IsRuns};
+ghost use Rattle.st_prep.specs.Ranges.{HasFields, IsAim, IsFetched, IsRuns};
 ghost use Rattle.st_state.specs.Boundary.{forbidden_by};
 ghost use Rattle.st_prep.specs.Checks.{executed as executed_of, forbidden_run as forbidden_run_of, forbidden_words as forbidden_words_of, forbidden_side as forbidden_side_of, forbidden_area as forbidden_area_of, area_access as area_access_of, operation_fault as operation_fault_of, fault as fault_of};
 
-use crate::addresses::effective_address;
-use crate::early::side;
-use crate::entries::{Fetched, Words};
+use crate::entries::{Aim, Fetched, Words};
 use crate::fetching::is_execute;
-use crate::runs::{reads, writes};
+use st_bits::indicators::{ADDRESS_INVALID, EXECUTE_EXCEPTION, OPERATION_INVALID};
+use st_bits::register::FIRST_STORAGE_WORD;
 use st_format::Instr;
 use st_state::{Access, State};
-
-/// The indicator of an address that is not valid.
-const ADDRESS_INVALID: u8 = 16;
-
-/// The indicator of an operation that the machine does not have.
-const OPERATION_INVALID: u8 = 15;
-
-/// The indicator of EX that points to EX.
-const EXECUTE_EXCEPTION: u8 = 18;
 
 /// The number of words in the area of an order.
 const AREA: u8 = 8;
@@ -90,15 +80,15 @@ fn forbidden_side(state: &State, word: Option<u32>) -> Option<u8>
 
 /// The indicator that forbids the area of an order with the effective address `e`.
 #[tactic(auto, unfolding(crate::specs::Checks::forbidden_area))]
-fn forbidden_area(state: &State, instr: Instr, e: u32) -> Option<u8>
+fn forbidden_area(state: &State, instr: &Instr, e: u32) -> Option<u8>
     requires { e < 2 ^ 24 }
-    ensures value { result ≡ forbidden_area_of (word state.now 3) state.now.enabled instr e }
+    ensures value { result ≡ forbidden_area_of (word state.now 3) state.now.enabled instr.now e }
     ensures bound { IfSome result (λ i. i < 64) }
 {
-    let Instr::Transfer { write, .. } = instr else {
+    let Instr::Transfer { write, .. } = *instr else {
         return None;
     };
-    if e / 64 < 32 {
+    if e / 64 < FIRST_STORAGE_WORD {
         return Some(ADDRESS_INVALID);
     }
     forbidden_run(state, area_access(write), e / 64, AREA)
@@ -113,33 +103,30 @@ fn area_access(write: bool) -> Access
 
 /// The indicator of an operation that cannot be executed.
 #[tactic(auto, unfolding(crate::specs::Checks::operation_fault))]
-fn operation_fault(instr: Instr) -> Option<u8>
-    ensures value { result ≡ operation_fault_of instr }
+fn operation_fault(instr: &Instr) -> Option<u8>
+    ensures value { result ≡ operation_fault_of instr.now }
     ensures bound { IfSome result (λ i. i < 64) }
 {
     if !instr.is_valid() {
         Some(OPERATION_INVALID)
-    } else if is_execute(&instr) {
+    } else if is_execute(instr) {
         Some(EXECUTE_EXCEPTION)
     } else {
         None
     }
 }
 
-/// The indicator of the first check that an entry fails.
+/// The indicator of the first check that an entry fails, `aim.fault` being that of its words.
 #[tactic(auto, unfolding(crate::specs::Checks::fault))]
-pub fn fault(fetched: &Fetched, x: &[u64; 16], state: &State) -> Option<u8>
-    requires { IsFetched fetched.now }
-    ensures value { result ≡ fault_of fetched.now x.now (word state.now 3) state.now.enabled }
+pub fn fault(aim: &Aim, state: &State) -> Option<u8>
+    requires { IsAim aim.now }
+    ensures value { result ≡ fault_of aim.now (word state.now 3) state.now.enabled }
     ensures bound { IfSome result (λ i. i < 64) }
 {
-    let instr = executed(fetched);
-    let e = effective_address(&instr, x);
-    fetched
-        .fault
-        .or(operation_fault(instr))
-        .or(forbidden_side(state, side(instr, x, e)))
-        .or(forbidden_words(state, Access::Read, reads(instr, e)))
-        .or(forbidden_words(state, Access::Write, writes(instr, e)))
-        .or(forbidden_area(state, instr, e))
+    aim.fault
+        .or(operation_fault(&aim.instr))
+        .or(forbidden_side(state, aim.side))
+        .or(forbidden_words(state, Access::Read, aim.reads))
+        .or(forbidden_words(state, Access::Write, aim.writes))
+        .or(forbidden_area(state, &aim.instr, aim.e))
 }

@@ -1,4 +1,4 @@
-ghost use Rattle.std.specs.Prelude.{◌≡◌, ◌+◌, ◌/◌, ◌<◌, ◌≤◌, ◌^◌, Bool, IfSome, length, drop, slice_index};
+ghost use Rattle.std.specs.Prelude.{◌≡◌, ◌+◌, ◌/◌, ◌<◌, ◌≤◌, ◌^◌, Bool, true, IfSome, length, drop, slice_index};
 ghost use Rattle.st_bits.specs.Storage.{words_of_storage};
 ghost use Rattle.st_state.specs.Machine.{word};
 ghost use Rattle.st_state.specs.Boundary.{forbidden_by};
@@ -9,8 +9,9 @@ ghost use Rattle.st_prep.specs.Ranges.{HasFields, IsPlace, IsPart, IsFound, IsFe
 
 use crate::addresses::effective_address;
 use crate::entries::{Fetched, Fetching, Place};
+use st_bits::register::{FIRST_INDEX_WORD, INTERRUPT_ADDRESS};
 use st_bits::{HalfOp, part};
-use st_format::{Decoded, Instr, decode};
+use st_format::{Decoded, Instr, decode, length_in_halves};
 use st_state::{Access, State};
 
 /// What is found at a half-word address.
@@ -38,7 +39,7 @@ pub fn index_words(state: &State) -> [u64; 16]
     state.shape();
     let mut x = [0; 16];
     for j in 0..16 {
-        x[j] = state.word(16 + j as u32);
+        x[j] = state.word(FIRST_INDEX_WORD + j as u32);
     }
     x
 }
@@ -67,7 +68,8 @@ fn address(state: &State, table: Option<u8>) -> u32
     state.shape();
     match table {
         None => state.ic,
-        Some(i) => (part(state.word(2), 0, 18) as u32 + u32::from(i)) % (1 << 18) * 2,
+        Some(i) => (part(state.word(INTERRUPT_ADDRESS), 0, 18) as u32 + u32::from(i)) % (1 << 18)
+            * 2,
     }
 }
 
@@ -117,6 +119,7 @@ fn with_second(first: u32, h: u32, contents: &[u64], state: &State) -> Part
 }
 
 /// An instruction that is known by `used` of the contents.
+#[inline(always)]
 fn has(decoded: Decoded, fault: Option<u8>, used: usize) -> Part
     ensures { result ≡ Part.Has (record { decoded = decoded; fault = fault }) used }
 {
@@ -137,15 +140,15 @@ fn with_first(h: u32, contents: &[u64], state: &State) -> Part
     ensures shape { IsPart (length contents.now) result }
 {
     let first = half_of(contents[0], h);
-    let decoded = decode(first, 0);
-    if decoded.halves == 2 {
+    if length_in_halves(first) == 2 {
         with_second(first, h, contents, state)
     } else {
-        has(decoded, None, 1)
+        has(decode(first, 0), None, 1)
     }
 }
 
 /// The instruction at the half-word address `h`, as far as the contents tell.
+#[inline(always)]
 #[tactic(auto, unfolding(crate::specs::Reading::instruction_at))]
 fn part_at(h: u32, contents: &[u64], state: &State) -> Part
     requires { h < 2 ^ 19 }
@@ -189,21 +192,15 @@ fn with_target(ex: Decoded, target: Found) -> Fetched
     }
 }
 
-/// The entry with this own instruction, as far as the contents behind it tell.
-#[tactic(auto, unfolding(crate::specs::Reading::own_use))]
-fn own_or_target(own: Found, x: &[u64; 16], contents: &[u64], state: &State) -> Fetching
-    requires { IsFound own }
+/// EX, whose target is read, as far as the contents behind its own tell.
+#[inline(never)]
+fn fetch_target(own: Found, x: &[u64; 16], contents: &[u64], state: &State) -> Fetching
+    requires own { IsFound own }
+    requires execute { is_execute_of own.decoded.instr ≡ true }
     ensures value { result ≡ given (left_after (own_use x.now (word state.now 3) state.now.enabled
         own) contents.now) }
     ensures shape { IsFetching result }
 {
-    if !is_execute(&own.decoded.instr) {
-        return Fetching::Found(Fetched {
-            instr: own.decoded,
-            target: None,
-            fault: own.fault,
-        });
-    }
     let e = effective_address(&own.decoded.instr, x);
     match part_at(e / 32, contents, state) {
         Part::Wants { word } => Fetching::Next { word, target: true },
@@ -211,9 +208,29 @@ fn own_or_target(own: Found, x: &[u64; 16], contents: &[u64], state: &State) -> 
     }
 }
 
+/// The entry with this own instruction, as far as the contents behind it tell.
+#[inline(always)]
+#[tactic(auto, unfolding(crate::specs::Reading::own_use))]
+fn own_or_target(own: Found, x: &[u64; 16], contents: &[u64], state: &State) -> Fetching
+    requires { IsFound own }
+    ensures value { result ≡ given (left_after (own_use x.now (word state.now 3) state.now.enabled
+        own) contents.now) }
+    ensures shape { IsFetching result }
+{
+    if is_execute(&own.decoded.instr) {
+        return fetch_target(own, x, contents, state);
+    }
+    Fetching::Found(Fetched {
+        instr: own.decoded,
+        target: None,
+        fault: own.fault,
+    })
+}
+
 /// How far an entry at a place is fetched once words with these contents were read for it, one after another: the word that
 /// is read next, or what is fetched. `x` are the index words, and of `state` only the boundary register and the mark for
 /// interrupts count.
+#[inline(always)]
 #[tactic(auto, unfolding(crate::specs::Reading::reading))]
 pub fn fetch_on(place: &Place, x: &[u64; 16], contents: &[u64], state: &State) -> Fetching
     requires { IsPlace place.now }
@@ -231,6 +248,7 @@ pub fn fetch_on(place: &Place, x: &[u64; 16], contents: &[u64], state: &State) -
 }
 
 /// What is fetched at a place, all its words being read from the state.
+#[inline(always)]
 pub fn fetch_all(place: &Place, x: &[u64; 16], state: &State) -> Fetched
     requires { IsPlace place.now }
     ensures value { result

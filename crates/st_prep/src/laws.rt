@@ -9,7 +9,7 @@ ghost use Rattle.st_prep.specs.declared.entries.Place.{Place};
 ghost use Rattle.st_prep.specs.Ranges.{IsPrepared};
 ghost use Rattle.st_prep.specs.Fetch.{index_words, place_of, fetched};
 ghost use Rattle.st_prep.specs.Reading.{Reading, outcome, words_read, count_of, reading};
-ghost use Rattle.st_prep.specs.Alike.{AreAlike};
+ghost use Rattle.st_prep.specs.Alike.{AreAlike, ReadTheSame};
 
 /// Each entry of each state is in its ranges once it is prepared.
 pub fn plans_are_in_range()
@@ -54,6 +54,13 @@ pub fn instruction_words_come_one_by_one()
         → take (suc n) (words_read r d) ≡ take (suc n) (words_read r c) }
     ensures same { (r : Reading) (c d : ℕ → ℕ) → All (λ w. d w ≡ c w) (words_read r c)
         → outcome r d ≡ outcome r c }
+{}
+
+/// What is read for it alone decides the next entry of a state: two states with the same counter, index words, words 2 and 3
+/// and mark, and the same contents of its instruction words and of its index-side word, have the same plan.
+pub fn plans_depend_on_what_is_read()
+    ensures { (s u : Machine) (t : Option ℕ) → IsMachine s → IsMachine u → ReadTheSame t s u
+        → plan u t ≡ plan s t }
 {}
 
 /// Two states that differ in word 11 alone have the same next entry, unless word 11 is its index-side word; such an entry

@@ -19,9 +19,10 @@ pub use laws::{
     entries_read_36_words_at_most, entries_with_a_target_are_alone,
     index_side_words_change_index_words_alone, indicators_are_not_seen,
     instruction_words_come_one_by_one, looks_agree, plans_are_in_range,
+    plans_depend_on_what_is_read,
 };
 pub use overlap_laws::{operands_are_few, orders_are_not_seen};
-pub use preparation::{look, plan, prepare, side_word};
+pub use preparation::{look, plan, plan_in, prepare, prepare_in, side_word};
 pub use runs::reads_field;
 
 #[cfg(test)]

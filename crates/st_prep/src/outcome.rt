@@ -10,9 +10,9 @@ use st_index::count_down;
 
 /// The following instruction: `halves` half-words on, or the counter as it stands after a table instruction.
 #[tactic(auto, unfolding(crate::specs::Entry::next))]
-pub fn next(place: Place, halves: u8) -> u32
-    requires { place.counter < 2 ^ 19 }
-    ensures value { result ≡ next_of place halves }
+pub fn next(place: &Place, halves: u8) -> u32
+    requires { place.now.counter < 2 ^ 19 }
+    ensures value { result ≡ next_of place.now halves }
     ensures bound { result < 2 ^ 19 }
 {
     match place.table {
@@ -55,13 +55,13 @@ fn after_branch(op: BranchOp, counter: u32, e: u32, following: u32) -> u32
 
 /// The counter after an instruction, given the counter before it and the following instruction.
 #[tactic(auto, unfolding(crate::specs::Entry::after))]
-pub fn after(instr: Instr, x: &[u64; 16], e: u32, counter: u32, following: u32) -> u32
-    requires shape { HasFields instr }
+pub fn after(instr: &Instr, x: &[u64; 16], e: u32, counter: u32, following: u32) -> u32
+    requires shape { HasFields instr.now }
     requires counter { counter < 2 ^ 19 }
     requires address { e < 2 ^ 24 }
-    ensures { result ≡ after_of instr x.now e counter following }
+    ensures { result ≡ after_of instr.now x.now e counter following }
 {
-    match instr {
+    match *instr {
         Instr::Half { op, j, .. } => after_half(op, x[j as usize], e, following),
         Instr::Branch { op, .. } => after_branch(op, counter, e, following),
         Instr::StoreCounter { second, .. } => second,
@@ -85,11 +85,11 @@ fn stored_part(op: HalfOp, x: u64) -> u64
 
 /// What an instruction stores of an index word or of the counter.
 #[tactic(auto, unfolding(crate::specs::Entry::value))]
-pub fn value(instr: Instr, x: &[u64; 16], following: u32) -> u64
-    requires { HasFields instr }
-    ensures { result ≡ value_of instr x.now following }
+pub fn value(instr: &Instr, x: &[u64; 16], following: u32) -> u64
+    requires { HasFields instr.now }
+    ensures { result ≡ value_of instr.now x.now following }
 {
-    match instr {
+    match *instr {
         Instr::Half { op, j, .. } => stored_part(op, x[j as usize]),
         Instr::StoreCounter { .. } => u64::from(following),
         _ => 0,
@@ -117,10 +117,10 @@ fn decimal_cost(op: VflOp) -> u8
 
 /// The ticks that an instruction takes once its operands are there.
 #[tactic(auto, unfolding(crate::specs::Entry::cost))]
-pub fn cost(instr: Instr) -> u8
-    ensures { result ≡ cost_of instr }
+pub fn cost(instr: &Instr) -> u8
+    ensures { result ≡ cost_of instr.now }
 {
-    match instr {
+    match *instr {
         Instr::Vfl { op, decimal, .. } => {
             if decimal {
                 decimal_cost(op)
@@ -136,11 +136,11 @@ pub fn cost(instr: Instr) -> u8
 
 /// Whether an instruction is one of those that are done alone.
 #[tactic(auto, unfolding(crate::specs::Entry::acts_alone))]
-pub fn acts_alone(instr: Instr) -> bool
-    ensures { result ≡ acts_alone_of instr }
+pub fn acts_alone(instr: &Instr) -> bool
+    ensures { result ≡ acts_alone_of instr.now }
 {
     matches!(
-        instr,
+        *instr,
         Instr::Branch {
             op: BranchOp::Be | BranchOp::Bd | BranchOp::Bew,
             ..

@@ -4,66 +4,94 @@ ghost use Rattle.st_bits.specs.Storage.{words_of_storage};
 ghost use Rattle.st_state.specs.Machine.{Machine, word};
 ghost use Rattle.st_state.specs.Interrupts.{turned};
 ghost use Rattle.st_prep.specs.EarlyChange.{words_after};
-ghost use Rattle.st_prep.specs.Plan.{seen, is_alone as is_alone_of, is_serial as is_serial_of, needs as needs_of, asks, suppressed as suppressed_of, entry as entry_of, prepared as prepared_of, plan as plan_of, opened, side_word as side_word_of, side_of, IsSeen, sight};
+ghost use Rattle.st_prep.specs.Plan.{seen, is_alone as is_alone_of, aimed as aimed_at, aim as aim_of, is_serial as is_serial_of, needs_by, needs as needs_of, asks, suppressed as suppressed_of, entry as entry_of, prepared_by, prepared as prepared_of, plan as plan_of, opened, side_word as side_word_of, side_of, IsSeen, sight};
 ghost use Rattle.st_prep.specs.Fetch.{place_of as place_by};
-ghost use Rattle.st_prep.specs.Ranges.{IsPlace, IsFetched, IsNeeds, IsPrepared};
+ghost use Rattle.st_prep.specs.Ranges.{IsPlace, IsFetched, IsAim, IsNeeds, IsChange, IsPrepared};
 
 use crate::addresses::effective_address;
 use crate::early::{change, side};
-use crate::entries::{Fetched, Needs, Place, Prepared};
+use crate::entries::{Aim, Fetched, IndexChange, Needs, Place, Prepared};
 use crate::faults::{executed, fault};
-use crate::fetching::{fetch, index_words, is_execute, place_of};
+use crate::fetching::{fetch_all, index_words, is_execute, place_of};
 use crate::outcome::{acts_alone, after, cost, next, value};
 use crate::runs::{has_register, is_register, none, reads, writes};
+use st_bits::register::INDICATORS;
 use st_bits::{Ind, indicator};
 use st_state::State;
 
-/// The address of the indicator register.
-const INDICATORS: u32 = 11;
-
 /// Whether an entry is done alone even where it is suppressed.
-fn is_alone(place: Place, fetched: &Fetched) -> bool
-    ensures { result ≡ is_alone_of place fetched.now }
+fn is_alone(place: &Place, fetched: &Fetched) -> bool
+    ensures { result ≡ is_alone_of place.now fetched.now }
 {
     place.table.is_some() || is_execute(&fetched.instr.instr)
 }
 
-/// Whether an entry that is not suppressed is done alone.
-#[tactic(auto, unfolding(crate::specs::Plan::is_serial))]
-fn is_serial(place: Place, fetched: &Fetched, x: &[u64; 16]) -> bool
+/// What an entry is aimed at, before it is checked.
+#[inline(always)]
+#[tactic(auto, unfolding(crate::specs::Plan::aimed))]
+fn aimed(place: &Place, fetched: &Fetched, x: &[u64; 16]) -> Aim
     requires { IsFetched fetched.now }
-    ensures { result ≡ is_serial_of place fetched.now x.now }
+    ensures value { result ≡ aimed_at place.now fetched.now x.now }
+    ensures ranges { IsAim result }
 {
     let instr = executed(fetched);
     let e = effective_address(&instr, x);
-    is_alone(place, fetched)
-        || acts_alone(instr)
-        || is_register(side(instr, x, e))
-        || has_register(reads(instr, e))
-        || has_register(writes(instr, e))
+    Aim {
+        instr,
+        e,
+        halves: fetched.instr.halves,
+        side: side(&instr, x, e),
+        reads: reads(&instr, e),
+        writes: writes(&instr, e),
+        fault: fetched.fault,
+        alone: is_alone(place, fetched),
+    }
+}
+
+/// What an entry is aimed at, and the first check that it fails.
+#[inline(always)]
+#[tactic(auto, unfolding(crate::specs::Plan::aim, crate::specs::Plan::fault_of))]
+fn aim(place: &Place, fetched: &Fetched, x: &[u64; 16], state: &State) -> Aim
+    requires { IsFetched fetched.now }
+    ensures value { result ≡ aim_of (seen place.now fetched.now x.now state.now) }
+    ensures ranges { IsAim result }
+{
+    let mut aim = aimed(place, fetched, x);
+    aim.fault = fault(&aim, state);
+    aim
+}
+
+/// Whether an entry that is not suppressed is done alone.
+#[tactic(auto, unfolding(crate::specs::Plan::is_serial))]
+fn is_serial(aim: &Aim) -> bool
+    ensures { result ≡ is_serial_of aim.now }
+{
+    aim.alone
+        || acts_alone(&aim.instr)
+        || is_register(aim.side)
+        || has_register(aim.reads)
+        || has_register(aim.writes)
 }
 
 /// What an entry needs.
-#[tactic(auto, unfolding(crate::specs::Plan::needs, crate::specs::Plan::fault_of))]
-fn needs(place: Place, fetched: &Fetched, x: &[u64; 16], state: &State) -> Needs
-    requires { IsFetched fetched.now }
-    ensures { result ≡ needs_of (seen place fetched.now x.now state.now) }
+fn needs(aim: &Aim) -> Needs
+    ensures { result ≡ needs_by aim.now.fault aim.now }
 {
-    if fault(fetched, x, state).is_some() {
-        return Needs {
+    match aim.fault {
+        Some(_) => Needs {
             index_read: None,
-            serial: is_alone(place, fetched),
-        };
-    }
-    let instr = executed(fetched);
-    Needs {
-        index_read: side(instr, x, effective_address(&instr, x)),
-        serial: is_serial(place, fetched, x),
+            serial: aim.alone,
+        },
+        None => Needs {
+            index_read: aim.side,
+            serial: is_serial(aim),
+        },
     }
 }
 
 /// What an entry needs before it can be prepared. `fetched` is what stands at `place`, `x` are the index words, and of
 /// `state` only the boundary register and the mark for interrupts count.
+#[tactic(auto, unfolding(crate::specs::Plan::needs))]
 pub fn look(place: &Place, fetched: &Fetched, x: &[u64; 16], state: &State) -> Needs
     requires { IsFetched fetched.now }
     ensures value { result ≡ needs_of (seen place.now fetched.now x.now state.now) }
@@ -73,79 +101,66 @@ pub fn look(place: &Place, fetched: &Fetched, x: &[u64; 16], state: &State) -> N
     ensures states { let v = seen place.now fetched.now x.now state.now in
         (s : Machine) → IsSeen s v → result ≡ needs_of (sight s (place_by s place.now.table)) }
 {
-    needs(*place, fetched, x, state)
+    needs(&aim(place, fetched, x, state))
 }
 
-/// An entry that is suppressed by the indicator `i`.
+/// Fills in an entry that is suppressed by the indicator `i`.
+#[inline(never)]
 #[tactic(auto, unfolding(crate::specs::Plan::suppressed))]
-fn suppressed(place: Place, fetched: &Fetched, i: u8) -> Prepared
-    requires place { IsPlace place }
-    requires fetched { IsFetched fetched.now }
+fn suppress(aim: &Aim, i: u8, p: &mut Prepared)
+    requires place { p.old.place.counter < 2 ^ 19 }
     requires indicator { i < 64 }
-    ensures { result ≡ suppressed_of place fetched.now i }
+    ensures { p.new ≡ suppressed_of p.old.place aim.now i }
 {
-    Prepared {
-        place,
-        instr: executed(fetched),
-        e: 0,
-        following: next(place, fetched.instr.halves),
-        index: None,
-        ind: Ind {
-            on: indicator(i),
-            off: 0,
-        },
-        suppressed: true,
-        reads: none(),
-        writes: none(),
-        value: 0,
-        cost: 1,
-        serial: is_alone(place, fetched),
-    }
+    p.instr = aim.instr;
+    p.e = 0;
+    p.following = next(&p.place, aim.halves);
+    p.index = None;
+    p.ind = Ind {
+        on: indicator(i),
+        off: 0,
+    };
+    p.suppressed = true;
+    p.reads = none();
+    p.writes = none();
+    p.value = 0;
+    p.cost = 1;
+    p.serial = aim.alone;
 }
 
-/// An entry that is not suppressed; `read` is its index-side word.
+/// Fills in an entry that is not suppressed; `read` is its index-side word.
+#[inline(always)]
 #[tactic(auto, unfolding(crate::specs::Plan::entry))]
-fn entry(place: Place, fetched: &Fetched, x: &[u64; 16], read: Option<u64>) -> Prepared
-    requires place { IsPlace place }
-    requires fetched { IsFetched fetched.now }
-    ensures { result ≡ entry_of place fetched.now x.now read }
+fn enter(aim: &Aim, x: &[u64; 16], read: Option<u64>, p: &mut Prepared)
+    requires place { p.old.place.counter < 2 ^ 19 }
+    requires aim { IsAim aim.now }
+    ensures { p.new ≡ entry_of p.old.place aim.now x.now read }
 {
-    let instr = executed(fetched);
-    let e = effective_address(&instr, x);
-    let following = next(place, fetched.instr.halves);
-    let early = change(instr, x, e, read);
-    Prepared {
-        place,
-        instr,
-        e,
-        following: after(instr, x, e, place.counter, following),
-        index: early.index,
-        ind: early.ind,
-        suppressed: false,
-        reads: reads(instr, e),
-        writes: writes(instr, e),
-        value: value(instr, x, following),
-        cost: cost(instr),
-        serial: is_serial(place, fetched, x),
-    }
+    let following = next(&p.place, aim.halves);
+    let early = change(&aim.instr, x, aim.e, read);
+    p.instr = aim.instr;
+    p.e = aim.e;
+    p.following = after(&aim.instr, x, aim.e, p.place.counter, following);
+    p.index = early.index;
+    p.ind = early.ind;
+    p.suppressed = false;
+    p.reads = aim.reads;
+    p.writes = aim.writes;
+    p.value = value(&aim.instr, x, following);
+    p.cost = cost(&aim.instr);
+    p.serial = is_serial(aim);
 }
 
-/// An entry before the index words are changed by it.
-#[tactic(auto, unfolding(crate::specs::Plan::prepared, crate::specs::Plan::fault_of))]
-fn make(
-    place: Place,
-    fetched: &Fetched,
-    x: &[u64; 16],
-    read: Option<u64>,
-    state: &State,
-) -> Prepared
-    requires place { IsPlace place }
-    requires fetched { IsFetched fetched.now }
-    ensures { result ≡ prepared_of (seen place fetched.now x.now state.now) read }
+/// Fills in the entry that stands at `p.place`, before the index words are changed by it.
+#[inline(always)]
+fn fill(aim: &Aim, x: &[u64; 16], read: Option<u64>, p: &mut Prepared)
+    requires place { p.old.place.counter < 2 ^ 19 }
+    requires aim { IsAim aim.now }
+    ensures { p.new ≡ prepared_by aim.now.fault p.old.place aim.now x.now read }
 {
-    match fault(fetched, x, state) {
-        Some(i) => suppressed(place, fetched, i),
-        None => entry(place, fetched, x, read),
+    match aim.fault {
+        Some(i) => suppress(aim, i, p),
+        None => enter(aim, x, read, p),
     }
 }
 
@@ -155,6 +170,42 @@ fn read_shape(read: Option<u64>)
 {
     if let Some(word) = read {
         let _ = word;
+    }
+}
+
+/// Prepares the entry that stands at `p.place`, in place, as `prepare` does.
+#[tactic(auto, unfolding(crate::specs::Plan::prepared))]
+pub fn prepare_in(
+    p: &mut Prepared,
+    fetched: &Fetched,
+    x: &mut [u64; 16],
+    read: Option<u64>,
+    state: &State,
+)
+    requires place { IsPlace p.old.place }
+    requires fetched { IsFetched fetched.now }
+    requires asked { is_some read ≡ asks (seen p.old.place fetched.now x.old state.now) }
+
+    ensures value { p.new ≡ prepared_of (seen p.old.place fetched.now x.old state.now) read }
+    ensures ranges { IsPrepared p.new }
+    ensures words { x.new ≡ words_after x.old p.new.index }
+
+    // It is the next entry of each state that looks so.
+    ensures states { let v = seen p.old.place fetched.now x.old state.now in
+        (s : Machine) → IsSeen s v → read ≡ side_of s v → p.new ≡ plan_of s p.old.place.table }
+{
+    read_shape(read);
+    fill(&aim(&p.place, fetched, x, state), x, read, p);
+    change_index(p.index, x);
+}
+
+/// Makes the change of an index word, if there is one.
+fn change_index(index: Option<IndexChange>, x: &mut [u64; 16])
+    requires { IfSome index IsChange }
+    ensures { x.new ≡ words_after x.old index }
+{
+    if let Some(change) = index {
+        x[change.number as usize] = change.word;
     }
 }
 
@@ -180,12 +231,10 @@ pub fn prepare(
     ensures states { let v = seen place.now fetched.now x.old state.now in
         (s : Machine) → IsSeen s v → read ≡ side_of s v → result ≡ plan_of s place.now.table }
 {
-    read_shape(read);
-    let prepared = make(*place, fetched, x, read, state);
-    if let Some(change) = prepared.index {
-        x[change.number as usize] = change.word;
-    }
-    prepared
+    let mut p = Prepared::default();
+    p.place = *place;
+    prepare_in(&mut p, fetched, x, read, state);
+    p
 }
 
 /// The word that a table instruction, or another one, finds at the word address `w`.
@@ -223,17 +272,38 @@ pub fn side_word(state: &State, table: Option<u8>, w: Option<u32>) -> Option<u64
     }
 }
 
+/// Fills in the next entry of a state, or its table instruction.
+#[inline(always)]
+#[tactic(auto, unfolding(crate::specs::Plan::plan, crate::specs::Plan::sight, crate::specs::Plan::prepared, crate::specs::Plan::needs, crate::specs::Fetch::fetched))]
+fn fill_next(table: Option<u8>, state: &State, p: &mut Prepared)
+    requires { IfSome table (λ i. i < 64) }
+    ensures { p.new ≡ plan_of state.now table }
+{
+    p.place = place_of(state, table);
+    let x = index_words(state);
+    let fetched = fetch_all(&p.place, &x, state);
+    let aim = aim(&p.place, &fetched, &x, state);
+    let read = side_word(state, table, needs(&aim).index_read);
+    fill(&aim, &x, read, p);
+}
+
+/// Prepares the next entry of a state, or the table instruction of an interrupt by the indicator in `table`, in place.
+pub fn plan_in(table: Option<u8>, state: &State, p: &mut Prepared)
+    requires { IfSome table (λ i. i < 64) }
+    ensures value { p.new ≡ plan_of state.now table }
+    ensures ranges { IsPrepared p.new }
+{
+    state.shape();
+    fill_next(table, state, p);
+}
+
 /// The next entry of a state, or the table instruction of an interrupt by the indicator in `table`, prepared.
-#[tactic(auto, unfolding(crate::specs::Plan::plan, crate::specs::Plan::sight))]
 pub fn plan(state: &State, table: Option<u8>) -> Prepared
     requires { IfSome table (λ i. i < 64) }
     ensures value { result ≡ plan_of state.now table }
     ensures ranges { IsPrepared result }
 {
-    let place = place_of(state, table);
-    let fetched = fetch(state, &place);
-    let mut x = index_words(state);
-    let needs = look(&place, &fetched, &x, state);
-    let read = side_word(state, table, needs.index_read);
-    prepare(&place, &fetched, &mut x, read, state)
+    let mut p = Prepared::default();
+    plan_in(table, state, &mut p);
+    p
 }

@@ -4,6 +4,7 @@ ghost use Rattle.st_prep.specs.Entry.{is_index_store as is_store, reads_field as
 ghost use Rattle.st_prep.specs.Ranges.{HasFields, IsRuns};
 
 use crate::entries::Words;
+use st_bits::register::FIRST_STORAGE_WORD;
 use st_bits::{HalfOp, VflOp};
 use st_format::{FullOp, Instr, writes_field};
 
@@ -104,13 +105,13 @@ pub fn reads_field(op: VflOp) -> bool
 
 /// The words that an instruction with the effective address `e` reads, in order.
 #[tactic(auto, unfolding(crate::specs::Entry::reads))]
-pub fn reads(instr: Instr, e: u32) -> Words
-    requires shape { HasFields instr }
+pub fn reads(instr: &Instr, e: u32) -> Words
+    requires shape { HasFields instr.now }
     requires address { e < 2 ^ 24 }
-    ensures value { result ≡ reads_of instr e }
+    ensures value { result ≡ reads_of instr.now e }
     ensures runs { IsRuns result }
 {
-    match instr {
+    match *instr {
         Instr::Vfl { op, p, length, .. } if reads_field(op) => operand_words(p, e, length),
         Instr::Connect { p, length, .. } => operand_words(p, e, length),
         Instr::Move {
@@ -126,13 +127,13 @@ pub fn reads(instr: Instr, e: u32) -> Words
 
 /// The words that an instruction with the effective address `e` writes, in order.
 #[tactic(auto, unfolding(crate::specs::Entry::writes))]
-pub fn writes(instr: Instr, e: u32) -> Words
-    requires shape { HasFields instr }
+pub fn writes(instr: &Instr, e: u32) -> Words
+    requires shape { HasFields instr.now }
     requires address { e < 2 ^ 24 }
-    ensures value { result ≡ writes_of instr e }
+    ensures value { result ≡ writes_of instr.now e }
     ensures runs { IsRuns result }
 {
-    match instr {
+    match *instr {
         Instr::Half { op, .. } if is_index_store(op) => one_run(e / 64, 1),
         Instr::Vfl { op, length, .. } if writes_field(FullOp::Variable(op)) => field_words(
             e, length,
@@ -156,12 +157,13 @@ pub fn writes(instr: Instr, e: u32) -> Words
 pub fn has_register(words: Words) -> bool
     ensures { result ≡ has_register_of words }
 {
-    (words.len != 0 && words.first < 32) || (words.len2 != 0 && words.first2 < 32)
+    (words.len != 0 && words.first < FIRST_STORAGE_WORD)
+        || (words.len2 != 0 && words.first2 < FIRST_STORAGE_WORD)
 }
 
 /// Whether there is a word, and it is a register.
 pub fn is_register(word: Option<u32>) -> bool
     ensures { result ≡ is_register_of word }
 {
-    word.is_some_and(|w| w < 32)
+    word.is_some_and(|w| w < FIRST_STORAGE_WORD)
 }

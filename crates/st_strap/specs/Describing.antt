@@ -1,6 +1,7 @@
 -- Data descriptions: modes, lengths and byte sizes in parentheses.
 use Rattle.std.specs.Prelude.{ℕ, ◌+◌, ◌-◌, ◌==◌, ◌||◌, Bool, true, false, not, List, [], ◌∷◌, length, take, codes, Option, None, Some, if◌then◌else◌}
 use Rattle.std.specs.Option.{option_map, option_and_then}
+use Rattle.st_text.specs.Bytes.{close_parenthesis, comma}
 use Rattle.st_card.specs.Number.{reading}
 use Rattle.st_card.specs.Pieces.{parted}
 use Rattle.st_card.specs.Tables.{row_of}
@@ -72,7 +73,7 @@ in_pieces (mode ∷ more) = option_and_then (λ m. in_mode m more) (row_of mode 
 unfoldable pub description_of : List ℕ → Option Description
 description_of [] = Some Absent
 description_of (c ∷ cs) =
-    if ends_with 41 (c ∷ cs) then in_pieces (parted 44 (take (length (c ∷ cs) - 2) cs)) else None
+    if ends_with close_parenthesis (c ∷ cs) then in_pieces (parted comma (take (length (c ∷ cs) - 2) cs)) else None
 
 -- whether an operation may have a form: one on a field and a laid number a valid one, a connective a
 -- binary unsigned one

@@ -1,6 +1,7 @@
 -- Progressive forms, and which group is the data description.
 use Rattle.std.specs.Prelude.{ℕ, ◌==◌, ◌&&◌, ◌||◌, Bool, true, false, not, nat_le, ◌-◌, List, [], ◌∷◌, length, take, codes, Option, None, Some, is_some, if◌then◌else◌}
 use Rattle.std.specs.Option.{option_and_then}
+use Rattle.st_text.specs.Bytes.{close_parenthesis, comma}
 use Rattle.st_card.specs.Tables.{row_of}
 use Rattle.st_format.specs.Operations.{writes_field}
 use Rattle.st_format.specs.declared.operations.FullOp.TheVariants.{Variable, Connective}
@@ -17,7 +18,7 @@ forms =
 
 -- a group without the parenthesis that closes it, if there is one
 unfoldable pub unclosed : List ℕ → List ℕ
-unclosed group = if ends_with 41 group then take (length group - 1) group else group
+unclosed group = if ends_with close_parenthesis group then take (length group - 1) group else group
 
 -- whether a group spells a progressive form, be it closed or not
 abbrev pub is_form : List ℕ → Bool
@@ -34,7 +35,7 @@ behind_description text = if is_form (group text) then text else behind_group te
 -- the progressive form that a group is, 0 where there is no group; one that is not closed is none
 unfoldable pub form_number : List ℕ → Option ℕ
 form_number [] = Some 0
-form_number (c ∷ cs) = if ends_with 41 (c ∷ cs) then row_of (unclosed (c ∷ cs)) forms else None
+form_number (c ∷ cs) = if ends_with close_parenthesis (c ∷ cs) then row_of (unclosed (c ∷ cs)) forms else None
 
 -- whether an operation may have a progressive form
 abbrev pub may_progress : Operation → Bool
@@ -59,7 +60,7 @@ may_have_form op bits p =
 
 -- whether fields or nothing may stand here
 abbrev pub is_end : List ℕ → Bool
-is_end text = length text == 0 || begins_with 44 text
+is_end text = length text == 0 || begins_with comma text
 
 -- a form with a progressive form
 abbrev pub with_number : Operation → Form → ℕ → Option Form

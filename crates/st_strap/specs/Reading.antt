@@ -1,6 +1,7 @@
 -- What the fields of a statement say, each by itself.
 use Rattle.std.specs.Prelude.{ℕ, ◌+◌, ◌==◌, ◌^◌, ◌/◌, Bool, true, false, bit_or, List, [], ◌∷◌, length, take, drop, codes, Option, None, Some, unwrap_or, Result, Ok, Err, if◌then◌else◌}
 use Rattle.std.specs.Option.{option_map, option_or, ok_or}
+use Rattle.st_text.specs.Bytes.{open_parenthesis, close_parenthesis, plus_sign, minus_sign}
 use Rattle.arrayvec.specs.ArrayVec.{ArrayVec}
 use Rattle.st_card.specs.Number.{reading}
 use Rattle.st_card.specs.Tables.{row_of}
@@ -17,12 +18,12 @@ use Rattle.st_strap.specs.declared.statement.Spot.{Spot}
 -- where the last opening parenthesis of a text stands
 abbrev pub last_open : List ℕ → Option ℕ
 last_open [] = None
-last_open (c ∷ cs) = option_or (option_map (λ n. n + 1) (last_open cs)) (if c == 40 then Some 0 else None)
+last_open (c ∷ cs) = option_or (option_map (λ n. n + 1) (last_open cs)) (if c == open_parenthesis then Some 0 else None)
 
 -- where the index part of a field begins: at its last `(` where it ends with `)`; the field's end where
 -- it has none
 unfoldable pub index_start : List ℕ → ℕ
-index_start field = if ends_with 41 field then unwrap_or (last_open field) (length field) else length field
+index_start field = if ends_with close_parenthesis field then unwrap_or (last_open field) (length field) else length field
 
 -- a field without its index part, and that part
 abbrev pub front : List ℕ → List ℕ
@@ -88,8 +89,8 @@ plain_number field = unindexed (index_part field) (number_of (front field))
 -- whether a minus stands before a number, and the number: it may have a sign
 unfoldable pub signed_of : List ℕ → Result (Bool × ℕ) Fault
 signed_of text =
-    if begins_with 45 text then mapped (λ n. (true, n)) (number_of (drop 1 text))
-    else (if begins_with 43 text then mapped (λ n. (false, n)) (number_of (drop 1 text))
+    if begins_with minus_sign text then mapped (λ n. (true, n)) (number_of (drop 1 text))
+    else (if begins_with plus_sign text then mapped (λ n. (false, n)) (number_of (drop 1 text))
     else mapped (λ n. (false, n)) (number_of text))
 
 -- a field that is a number with a sign or none

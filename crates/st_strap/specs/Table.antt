@@ -1,6 +1,7 @@
 -- The operations by their words.
 use Rattle.std.specs.Prelude.{ℕ, ◌-◌, Bool, true, false, List, [], ◌∷◌, length, take, drop, codes, Option, None, if◌then◌else◌}
 use Rattle.std.specs.Option.{option_map, option_or, option_zip}
+use Rattle.st_text.specs.Bytes.{letter_n}
 use Rattle.st_bits.specs.declared.operations.HalfOp.{HalfOp}
 use Rattle.st_bits.specs.declared.operations.HalfOp.TheVariants.{Lx, Lv, Lc, Lr, Sx, Sv, Sc, Sr, Sva, VPlus, VPlusC, Kv, Lvi, Lci, Lri, VPlusI, VMinusI, VPlusIC, VPlusICR, Kvi, Kc, Kci, Cb, Cbr}
 use Rattle.st_bits.specs.declared.operations.BranchOp.TheVariants.{B, Br, Be, Bd, Bew, Nop}
@@ -72,7 +73,7 @@ field_operation negated word = option_map (λ op. Vfl op negated) (row_of word f
 -- an operation on a field with a last letter N, for negated
 unfoldable pub negated_operation : List ℕ → Option Operation
 negated_operation word =
-    if ends_with 78 word then field_operation true (take (length word - 1) word) else None
+    if ends_with letter_n word then field_operation true (take (length word - 1) word) else None
 
 -- a connective: its kind, and four digits for its truth table
 unfoldable pub connective : List ℕ → Option Operation

@@ -1,6 +1,7 @@
 -- The text of a statement, cut into its parts.
 use Rattle.std.specs.Prelude.{ℕ, ◌+◌, ◌-◌, ◌==◌, ◌||◌, Bool, not, min, List, [], ◌∷◌, length, take, drop, filter, slice_get, false, if◌then◌else◌}
 use Rattle.std.specs.Option.{option_map_or}
+use Rattle.st_text.specs.Bytes.{blank, open_parenthesis, close_parenthesis, comma, semicolon}
 use Rattle.st_card.specs.Pieces.{parted}
 
 -- how many bytes stand before the first of two bytes
@@ -18,19 +19,19 @@ ends_with c text = option_map_or (λ last. last == c) (slice_get text (length te
 
 -- a statement without its comment and its blanks
 unfoldable pub clean : List ℕ → List ℕ
-clean text = filter (λ c. not (c == 32)) (take (stop 59 59 text) text)
+clean text = filter (λ c. not (c == blank)) (take (stop semicolon semicolon text) text)
 
 -- the operation: all up to the first parenthesis or comma
 abbrev pub word_of : List ℕ → List ℕ
-word_of statement = take (stop 40 44 statement) statement
+word_of statement = take (stop open_parenthesis comma statement) statement
 
 -- what stands behind the operation
 abbrev pub behind_word : List ℕ → List ℕ
-behind_word statement = drop (stop 40 44 statement) statement
+behind_word statement = drop (stop open_parenthesis comma statement) statement
 
 -- the length of the group that a text begins with: up to its first `)`, or to the end where it has none
 unfoldable pub group_length : List ℕ → ℕ
-group_length text = if begins_with 40 text then min (stop 41 41 text + 1) (length text) else 0
+group_length text = if begins_with open_parenthesis text then min (stop close_parenthesis close_parenthesis text + 1) (length text) else 0
 
 -- the group that a text begins with, empty where there is none
 abbrev pub group : List ℕ → List ℕ
@@ -43,4 +44,4 @@ behind_group text = drop (group_length text) text
 -- the fields, each behind a comma
 unfoldable pub fields_of : List ℕ → List (List ℕ)
 fields_of [] = []
-fields_of (c ∷ cs) = parted 44 cs
+fields_of (c ∷ cs) = parted comma cs

@@ -1,6 +1,7 @@
 //! Data descriptions: modes, lengths and byte sizes in parentheses.
 
 ghost use Rattle.std.specs.Prelude.{◌≡◌, ◌≤◌, length, IfSome};
+ghost use Rattle.st_text.specs.Bytes.{comma};
 ghost use Rattle.st_card.specs.Tables.{row_of as row_in};
 ghost use Rattle.st_card.specs.Pieces.{parted};
 ghost use Rattle.st_strap.specs.Describing as spec;
@@ -155,7 +156,7 @@ pub(crate) fn description_of(group: &[u8]) -> Option<Description>
 // What a description says between its parentheses.
 fn in_pieces(text: &[u8]) -> Option<Description>
     requires { length text.now ≤ 63 }
-    ensures { result ≡ spec.in_pieces (parted 44 text.now) }
+    ensures { result ≡ spec.in_pieces (parted comma text.now) }
 {
     let fields = pieces(text);
     match fields.as_slice() {

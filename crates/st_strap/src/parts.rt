@@ -1,6 +1,7 @@
 //! The text of a statement, cut into its parts.
 
 ghost use Rattle.std.specs.Prelude.{◌≡◌, ◌≤◌, ◌==◌, not, length, filter};
+ghost use Rattle.st_text.specs.Bytes.{blank, comma};
 ghost use Rattle.st_card.specs.Pieces.{parted};
 ghost use Rattle.st_strap.specs.Text as spec;
 ghost use Rattle.st_strap.specs.Fields.{texts};
@@ -50,7 +51,7 @@ pub(crate) fn clean(text: &[u8]) -> ArrayVec<u8, 63>
 
 fn without_blanks(text: &[u8]) -> ArrayVec<u8, 63>
     requires { length text.now ≤ 63 }
-    ensures value { result.items ≡ filter (λ c. not (c == 32)) text.now }
+    ensures value { result.items ≡ filter (λ c. not (c == blank)) text.now }
     ensures within { length result.items ≤ 63 }
 {
     let mut kept = ArrayVec::new();
@@ -92,7 +93,7 @@ pub(crate) fn fields(text: &[u8]) -> Fields<'_>
 // What stands between the commas of a text.
 pub(crate) fn pieces(text: &[u8]) -> Fields<'_>
     requires { length text.now ≤ 63 }
-    ensures { texts result.items ≡ parted 44 text.now }
+    ensures { texts result.items ≡ parted comma text.now }
 {
     let mut fields = Fields::new();
     let mut rest = text;

@@ -1,7 +1,7 @@
 //! The whole program over sources and sinks in memory, against reports that were worked out by hand or by an
 //! independent model of the machine.
 use super::*;
-use st_io::{MemSink, MemSource, SureSink, SureSource};
+use st_io::{MemSink, MemSource, Sink, Source, SureSink, SureSource};
 use std::alloc::Global;
 use std::test::Fail;
 
@@ -11,20 +11,24 @@ mod objects;
 mod refusals;
 mod reports;
 
-/// The words of a command line.
-fn owned(alloc: Global, line: &[&str]) -> Result<Vec<String>, Fail> {
+/// Gives a command line and a job to the program. It has no contract, so the tests do not carry that of the program.
+fn answered<S: Source, K: Sink>(
+    alloc: Global,
+    line: &[&str],
+    job: &mut S,
+    out: &mut K,
+) -> Result<Answer, Fail> {
     let mut words = Vec::new(alloc);
     for word in line {
         words.push(String::from_str(alloc, word)?)?;
     }
-    Ok(words)
+    Ok(stretch(alloc, &words, job, out))
 }
 
-/// Runs a job over a source and a sink that do not fail: the answer, and what was written.
-fn run_surely(alloc: Global, job: Vec<u8>) -> Result<(Answer, Option<Vec<u8>>), Fail> {
-    let words = owned(alloc, &["run"])?;
+/// Answers a job by a command, over a source and a sink that do not fail: the answer, and what was written.
+fn answer_to(alloc: Global, word: &str, job: Vec<u8>) -> Result<(Answer, Option<Vec<u8>>), Fail> {
     let mut out = SureSink::new(Vec::with_capacity(alloc, 4000)?);
-    let answer = stretch(alloc, &words, &mut SureSource::new(job), &mut out);
+    let answer = answered(alloc, &[word], &mut SureSource::new(job), &mut out)?;
     Ok((answer, out.into_bytes()))
 }
 
@@ -35,9 +39,8 @@ fn run_failing(
     read: u32,
     write: u32,
 ) -> Result<(Answer, MemSink), Fail> {
-    let words = owned(alloc, &["run"])?;
     let mut job = MemSource::new(job, [read].to_vec(alloc)?);
     let mut out = MemSink::new(Vec::with_capacity(alloc, 4000)?, [write].to_vec(alloc)?);
-    let answer = stretch(alloc, &words, &mut job, &mut out);
+    let answer = answered(alloc, &["run"], &mut job, &mut out)?;
     Ok((answer, out))
 }

@@ -4,8 +4,8 @@ ghost use Rattle.st_io.specs.Memory.{memory_output};
 
 use super::decks::cards::{LISTED, LISTING, LOAD, LOADED, TRACE, TRACED};
 use super::decks::runs::{PRINTED, PRINTS, TABLE_SUM, TABLE_SUMMED};
-use super::{owned, run_failing};
-use crate::{Answer, Status, stretch};
+use super::{answered, run_failing};
+use crate::{Answer, Status};
 use st_io::{Failed, MemSink, MemSource, Sink, SureSource, read_all};
 use std::alloc::Global;
 use std::process::Abort;
@@ -29,11 +29,10 @@ fn words_that_mean_nothing_touch_neither_job_nor_report(rt: HostRuntime) -> Resu
         &["sweep"],
     ];
     for line in lines {
-        let words = owned(rt.alloc(), line)?;
         let bytes = LOAD.as_bytes().to_vec(rt.alloc())?;
         let mut job = MemSource::new(bytes, [1].to_vec(rt.alloc())?);
         let mut out = MemSink::new(Vec::with_capacity(rt.alloc(), 9)?, Vec::new(rt.alloc()));
-        let answer = stretch(rt.alloc(), &words, &mut job, &mut out);
+        let answer = answered(rt.alloc(), line, &mut job, &mut out)?;
         assert_eq!(rt; answer, Answer::without_run(Status::Usage), "at {line:?}");
         assert_eq!(rt; out.bytes(), b"".as_slice(), "at {line:?}");
         // The first read fails, and it was not made before.
@@ -196,10 +195,9 @@ fn the_line_that_refuses_may_fail(rt: HostRuntime) -> Result<(), Fail> {
 #[test]
 fn a_sink_that_is_full_holds_a_front_of_the_report(rt: HostRuntime) -> Result<(), Fail> {
     for room in 0..LOADED.len() {
-        let words = owned(rt.alloc(), &["run"])?;
         let mut job = SureSource::new(LOAD.as_bytes().to_vec(rt.alloc())?);
         let mut out = MemSink::new(Vec::with_capacity(rt.alloc(), room)?, Vec::new(rt.alloc()));
-        let answer = stretch(rt.alloc(), &words, &mut job, &mut out);
+        let answer = answered(rt.alloc(), &["run"], &mut job, &mut out)?;
         assert_eq!(rt;
             (answer.status, answer.done),
             (Status::WriteFault, 2),
@@ -237,9 +235,8 @@ fn a_write_may_fail_within_a_line(rt: HostRuntime) -> Result<(), Fail> {
         let mut out = Slow {
             sink: MemSink::new(buffer, [write].to_vec(rt.alloc())?),
         };
-        let words = owned(rt.alloc(), &["run"])?;
         let mut job = SureSource::new(LOAD.as_bytes().to_vec(rt.alloc())?);
-        let answer = stretch(rt.alloc(), &words, &mut job, &mut out);
+        let answer = answered(rt.alloc(), &["run"], &mut job, &mut out)?;
         assert_eq!(rt; (answer.status, answer.done), (status, 2));
         assert_eq!(rt; out.sink.bytes(), written.as_bytes());
     }

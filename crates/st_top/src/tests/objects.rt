@@ -1,8 +1,6 @@
 //! The object text of a job, and what is refused instead.
 use super::decks::Case;
-use super::{Answer, Status, owned, stretch};
-use st_io::{SureSink, SureSource};
-use std::alloc::Global;
+use super::{Answer, Status, answer_to};
 use std::test::Fail;
 
 /// The deck of one load and a wait, and its object text.
@@ -39,18 +37,9 @@ const REFUSED: [Case; 4] = [
     },
 ];
 
-/// Answers a job by a command, over a source and a sink that do not fail.
-fn answer_to(alloc: Global, word: &str, job: &str) -> Result<(Answer, Option<Vec<u8>>), Fail> {
-    let words = owned(alloc, &[word])?;
-    let mut out = SureSink::new(Vec::with_capacity(alloc, 4000)?);
-    let mut job = SureSource::new(job.as_bytes().to_vec(alloc)?);
-    let answer = stretch(alloc, &words, &mut job, &mut out);
-    Ok((answer, out.into_bytes()))
-}
-
 #[test]
 fn a_job_is_assembled_to_its_object_text_and_does_not_run(rt: HostRuntime) -> Result<(), Fail> {
-    let (answer, written) = answer_to(rt.alloc(), "assemble", LOAD)?;
+    let (answer, written) = answer_to(rt.alloc(), "assemble", LOAD.as_bytes().to_vec(rt.alloc())?)?;
     assert_eq!(rt; answer, Answer::without_run(Status::Done));
     let written = written.ok_or("no room")?;
     assert_eq!(rt; written.as_slice(), OBJECT.as_bytes());
@@ -59,7 +48,7 @@ fn a_job_is_assembled_to_its_object_text_and_does_not_run(rt: HostRuntime) -> Re
 
 #[test]
 fn an_object_text_gives_the_report_of_its_job(rt: HostRuntime) -> Result<(), Fail> {
-    let (answer, written) = answer_to(rt.alloc(), "load", OBJECT)?;
+    let (answer, written) = answer_to(rt.alloc(), "load", OBJECT.as_bytes().to_vec(rt.alloc())?)?;
     assert_eq!(rt; (answer.status, answer.done), (Status::Done, 2));
     let written = written.ok_or("no room")?;
     assert_eq!(rt; written.as_slice(), REPORT.as_bytes());
@@ -69,7 +58,11 @@ fn an_object_text_gives_the_report_of_its_job(rt: HostRuntime) -> Result<(), Fai
 #[test]
 fn a_bad_object_text_is_refused_at_its_first_bad_line(rt: HostRuntime) -> Result<(), Fail> {
     for case in REFUSED {
-        let (answer, written) = answer_to(rt.alloc(), "load", case.job)?;
+        let (answer, written) = answer_to(
+            rt.alloc(),
+            "load",
+            case.job.as_bytes().to_vec(rt.alloc())?,
+        )?;
         assert_eq!(rt;
             answer,
             Answer::without_run(Status::Refused),

@@ -1,7 +1,7 @@
 //! Jobs that are refused.
+use super::answer_to;
 use super::decks::Case;
 use super::decks::refused::{REFUSED, UNBUILT};
-use super::run_surely;
 use crate::{Answer, Status};
 use std::process::Abort;
 use std::test::Fail;
@@ -10,7 +10,7 @@ use std::test::Fail;
 fn assert_refused(rt: &(impl Abort + AllocGlobal), cases: &[Case]) -> Result<(), Fail> {
     for case in cases {
         let job = case.job.as_bytes().to_vec(rt.alloc())?;
-        let (answer, written) = run_surely(rt.alloc(), job)?;
+        let (answer, written) = answer_to(rt.alloc(), "run", job)?;
         assert_eq!(rt;
             answer,
             Answer::without_run(Status::Refused),

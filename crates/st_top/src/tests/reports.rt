@@ -1,9 +1,9 @@
 //! Jobs that run, and their whole reports.
+use super::answer_to;
 use super::decks::Case;
 use super::decks::cards::CARDS;
 use super::decks::operations::OPERATIONS;
 use super::decks::runs::RUNS;
-use super::run_surely;
 use crate::Status;
 use std::process::Abort;
 use std::test::Fail;
@@ -12,7 +12,7 @@ use std::test::Fail;
 fn assert_reports(rt: &(impl Abort + AllocGlobal), cases: &[Case]) -> Result<(), Fail> {
     for case in cases {
         let job = case.job.as_bytes().to_vec(rt.alloc())?;
-        let (answer, written) = run_surely(rt.alloc(), job)?;
+        let (answer, written) = answer_to(rt.alloc(), "run", job)?;
         assert_eq!(rt; answer.status, Status::Done, "{}", case.shows);
         let written = written.ok_or("no room")?;
         assert_eq!(rt;

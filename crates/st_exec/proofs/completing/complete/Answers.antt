@@ -1,19 +1,5 @@
-use Rattle.std.proofs.Common.{◌≡◌, ap, ◌∙◌, arith}
-use Rattle.st_state.specs.Machine.{Machine}
-use Rattle.st_exec.proofs.Unchanged.{opened-done, early-done, operands-read}
+use Rattle.st_exec.proofs.OperandLemmas.{first-of_operands}
 use Rattle.st_exec.proofs.completing.complete.Goals as goal
 
-pub finish-requires-clause-read : goal.finish-requires-clause-read
-finish-requires-clause-read c =
-    rw (c.change_early.ensures, c.take.ensures)
-    (operands-read c.args.p.now c.args.operands.now c.args.state.now c.requires.prepared c.requires.operands)
-
-pub finish-requires-clause-few : goal.finish-requires-clause-few
-finish-requires-clause-few c =
-    let p = c.args.p.now in
-    let same : c.change_early.new.state.done ≡ c.args.state.now.done =
-    ap (λ (t : Machine). t.done) c.change_early.ensures
-    ∙ early-done p c.take.new.state
-    ∙ ap (λ (t : Machine). t.done) c.take.ensures
-    ∙ opened-done p.place.table c.args.state.now in
-    omega arith
+pub complete_with-requires-clause-operands : goal.complete_with-requires-clause-operands
+complete_with-requires-clause-operands c = first-of_operands _ _ _ c.requires.operands

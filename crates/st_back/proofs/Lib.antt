@@ -1,0 +1,4 @@
+pub mod UndoneLemmas
+pub mod StepLemmas
+pub mod RingLemmas
+pub mod LawLemmas

@@ -1,0 +1,171 @@
+-- Undoing a step gives the state before it, whatever was put since.
+use Rattle.std.proofs.Common.{◌≡◌, ◌≢◌, ℕ, zero, suc, ◌+◌, ◌<◌, ◌≤◌, inl, inr, Bool, true, false, if◌then◌else◌, Option, None, Some, List, length, refl, sym, ◌∙◌, ap, subst, arith, get_or-set_other}
+use Rattle.std.specs.Prelude.{IfSome, slice_index, slice_set}
+use Rattle.std.proofs.lemmas.List.{get_or-set_same, set-set, set-get_or, ext_get_or}
+use Rattle.st_bits.specs.Registers.{fixed}
+use Rattle.st_bits.specs.Storage.{words_of_storage, words_of_storage_is}
+use Rattle.st_state.specs.Machine.{Machine, IsMachine, word, stored}
+use Rattle.st_state.specs.Interrupts.{is_pending, first_from, pending}
+use Rattle.st_state.specs.declared.devices.Order.{Order}
+use Rattle.st_state.proofs.Leftmost.{first_from-is}
+use Rattle.st_state.proofs.Placed.{fixed-word}
+use Rattle.st_prep.specs.Plan.{plan}
+use Rattle.st_prep.specs.Ranges.{IsPrepared}
+use Rattle.st_prep.proofs.PlanLemmas.{plan-prepared}
+use Rattle.st_exec.specs.Ahead.{IsNotAmong}
+use Rattle.st_exec.specs.Completion.{completed}
+use Rattle.st_exec.specs.Step.{interrupt, step}
+use Rattle.st_exec.specs.Trails.{IsTrail, CanBePutBack}
+use Rattle.st_exec.specs.declared.kept.Trail.{Trail}
+use Rattle.st_exec.proofs.MachineKept.{kept-completed}
+use Rattle.st_exec.proofs.UnwrittenLemmas.{IsBeside, completed-unwritten}
+use Rattle.st_back.specs.declared.kept.Kept.{Kept}
+use Rattle.st_back.specs.Undone.{restored, restored_words, unput, with_rest, undone, noted}
+use Rattle.st_back.specs.Steps.{IsSound}
+use Rattle.st_back.proofs.UndoneLemmas.{unput-none, restored-size, restored-back}
+
+-- ---- a step
+
+abbrev of_parts : List ℕ → ℕ → Bool → Bool → ℕ → Option Order → Option Order → Machine
+of_parts words ic enabled waiting done reader printer = record {
+  words = words;
+  ic = ic;
+  enabled = enabled;
+  waiting = waiting;
+  done = done;
+  reader = reader;
+  printer = printer;
+}
+
+-- a state whose words are those of another one, and all the rest
+same-machine : (s : Machine) (ws : List ℕ) (t : Trail) → ws ≡ s.words → t.ic ≡ s.ic → t.enabled ≡ s.enabled
+    → t.waiting ≡ s.waiting → t.done ≡ s.done → t.reader ≡ s.reader → t.printer ≡ s.printer
+    → ◌≡◌ {A = Machine} (record {
+      words = ws;
+      ic = t.ic;
+      enabled = t.enabled;
+      waiting = t.waiting;
+      done = t.done;
+      reader = t.reader;
+      printer = t.printer;
+    }) s
+same-machine s ws t e1 e2 e3 e4 e5 e6 e7 =
+    ap (λ y. of_parts y t.ic t.enabled t.waiting t.done t.reader t.printer) e1
+    ∙ ap (λ y. of_parts s.words y t.enabled t.waiting t.done t.reader t.printer) e2
+    ∙ ap (λ y. of_parts s.words s.ic y t.waiting t.done t.reader t.printer) e3
+    ∙ ap (λ y. of_parts s.words s.ic s.enabled y t.done t.reader t.printer) e4
+    ∙ ap (λ y. of_parts s.words s.ic s.enabled s.waiting y t.reader t.printer) e5
+    ∙ ap (λ y. of_parts s.words s.ic s.enabled s.waiting s.done y t.printer) e6
+    ∙ ap (λ y. of_parts s.words s.ic s.enabled s.waiting s.done s.reader y) e7
+
+past_registers : (i : ℕ) → IsBeside i 0 32 → 32 ≤ i
+past_registers i (inl before) = absurd (omega arith)
+past_registers i (inr after) = omega arith
+
+-- a state that has of another one each word that the trail does not have
+pub trail-undone : (s u : Machine) (k : Kept) → IsMachine s → IsTrail s k.trail → CanBePutBack k.trail → k.puts ≡ 0
+    → length u.words ≡ length s.words
+    → ((w : ℕ) → 32 ≤ w → IsNotAmong w k.trail.writes → word u w ≡ word s w) → undone k u ≡ s
+unfolding undone
+trail-undone s u k m t fits none size same =
+    let q = k.trail.writes in
+    let xs = k.trail.before in
+    let a = unput k.puts k.places k.contents u in
+    let is : a ≡ u = unput-none k.puts k.places k.contents u none in
+    let b = restored q.first q.len 0 xs a in
+    let c = restored q.first2 q.len2 q.len xs b in
+    let d = restored 0 32 0 k.trail.registers c in
+    let size_a : length a.words ≡ words_of_storage = ap (λ (v : Machine). length v.words) is ∙ size ∙ m.size in
+    let size_b : length b.words ≡ words_of_storage = restored-size q.first q.len 0 xs a ∙ size_a in
+    let size_c : length c.words ≡ words_of_storage = restored-size q.first2 q.len2 q.len xs b ∙ size_b in
+    let size_d : length d.words ≡ words_of_storage = restored-size 0 32 0 k.trail.registers c ∙ size_c in
+    let written : (i : ℕ) → 32 ≤ i → word c i ≡ word s i =
+    λ i above.
+    restored-back q.first2 q.len2 q.len xs s b i m (λ some. rw size_b (fits.inside.inside2 some)) t.before.second
+    (λ second.
+    restored-back q.first q.len 0 xs s a i m (λ some. rw size_a (fits.inside.inside some))
+    (λ j few. let from : 0 + j ≡ j = omega arith in ap (λ n. slice_index xs n) from ∙ t.before.first j few)
+    (λ first.
+    ap (λ (v : Machine). word v i) is ∙ same i above (record { first = first; second = second }))) in
+    let registers : (i : ℕ) → word d i ≡ word s i =
+    λ i.
+    restored-back 0 32 0 k.trail.registers s c i m (λ some. omega (arith, words_of_storage_is))
+    (λ j few.
+    let from : 0 + j ≡ j = omega arith in
+    ap (λ n. slice_index k.trail.registers n) from ∙ t.registers j few ∙ ap (λ n. word s n) (sym from))
+    (λ beside. written i (past_registers i beside)) in
+    same-machine s d.words k.trail (ext_get_or 0 d.words s.words (size_d ∙ sym m.size) (λ i h. registers i)) t.ic t.enabled
+    t.waiting t.done t.reader t.printer
+
+-- the interrupt that is taken is by one of 64 indicators
+some-below : (p : ℕ → Bool) (r : Option ℕ) → first_from p 0 64 ≡ r → IfSome r (λ i. i < 64)
+some-below p None e = tt
+some-below p (Some i) e = let below : i < 0 + 64 = (first_from-is p 0 64 i e).2 in omega arith
+
+interrupt-by : (b : Bool) (s : Machine) → IfSome (if b then pending s else None) (λ i. i < 64)
+interrupt-by true s = some-below (is_pending (word s 11) (word s 12)) (pending s) refl
+interrupt-by false s = tt
+
+interrupt-below : (s : Machine) → IfSome (interrupt s) (λ i. i < 64)
+interrupt-below s = interrupt-by s.enabled s
+
+pub step-undone : (s : Machine) (k : Kept) → IsMachine s → IsTrail s k.trail → CanBePutBack k.trail → k.puts ≡ 0
+    → undone k (step s) ≡ s
+unfolding step
+step-undone s k m t fits none =
+    let p = plan s (interrupt s) in
+    let h : IsPrepared p = plan-prepared s (interrupt s) m (interrupt-below s) in
+    let n = kept-completed p s h m in
+    trail-undone s (completed p s) k m t fits none (n.size ∙ sym m.size)
+    (λ w above apart. completed-unwritten p s w h m above (subst (IsNotAmong w) t.writes apart))
+
+-- ---- words that are put since
+
+-- words that are noted behind do not matter
+unput-below : (n l w x : ℕ) (places contents : List ℕ) (s : Machine) → n ≤ l
+    → unput n (slice_set places l w) (slice_set contents l x) s ≡ unput n places contents s
+unfolding unput
+unput-below zero l w x places contents s h = refl
+unput-below (suc n) l w x places contents s h =
+    let other : n ≢ l = λ e. omega arith in
+    let place = get_or-set_other places l n w 0 other in
+    let content = get_or-set_other contents l n x 0 other in
+    let t = stored s (slice_index places n) (slice_index contents n) in
+    ap (λ a. unput n (slice_set places l w) (slice_set contents l x) (stored s a (slice_index (slice_set contents l x) n))) place
+    ∙ ap (λ y. unput n (slice_set places l w) (slice_set contents l x) (stored s (slice_index places n) y)) content
+    ∙ unput-below n l w x places contents t (omega arith)
+
+-- a word that is stored and then put back stands as before
+stored-back : (s : Machine) (w x : ℕ) → IsMachine s → stored (stored s w x) w (word s w) ≡ s
+stored-back s w x m =
+    ap (λ ws. record s { words = ws })
+    (set-set s.words w (fixed w x) (fixed w (word s w))
+    ∙ ap (λ y. slice_set s.words w y) (fixed-word s w m)
+    ∙ set-get_or s.words w 0)
+
+unput-put : (n w x : ℕ) (places contents : List ℕ) (s : Machine) → IsMachine s → n < length places → n < length contents
+    → unput (suc n) (slice_set places n w) (slice_set contents n (word s w)) (stored s w x) ≡ unput n places contents s
+unfolding unput
+unput-put n w x places contents s m room room' =
+    let y : ℕ = word s w in
+    let ps = slice_set places n w in
+    let cs = slice_set contents n y in
+    ap (λ a. unput n ps cs (stored (stored s w x) a (slice_index cs n))) (get_or-set_same places n w 0 room)
+    ∙ ap (λ b. unput n ps cs (stored (stored s w x) w b)) (get_or-set_same contents n y 0 room')
+    ∙ ap (unput n ps cs) (stored-back s w x m)
+    ∙ unput-below n n w y places contents s (omega arith)
+
+pub put-undone : (s : Machine) (k : Kept) (w x : ℕ) → IsMachine s → IsSound k → k.puts ≤ 7
+    → undone (noted k w (word s w)) (stored s w x) ≡ undone k s
+unfolding undone
+put-undone s k w x m h few =
+    let one : k.puts + 1 ≡ suc k.puts = omega arith in
+    let ps = slice_set k.places k.puts w in
+    let cs = slice_set k.contents k.puts (word s w) in
+    let same : unput (k.puts + 1) ps cs (stored s w x) ≡ unput k.puts k.places k.contents s =
+    ap (λ n. unput n ps cs (stored s w x)) one
+    ∙ unput-put k.puts w x k.places k.contents s m (omega (arith, h.eight)) (omega (arith, h.eight_contents)) in
+    ap
+    (λ (v : Machine).
+    with_rest k.trail (restored 0 32 0 k.trail.registers (restored_words k.trail.writes k.trail.before v)))
+    same

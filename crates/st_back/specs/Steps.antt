@@ -1,0 +1,96 @@
+-- The steps that can be undone, and how they come and go.
+use Rattle.std.specs.Prelude.{ℕ, ◌≡◌, ◌-◌, ◌<◌, ◌≤◌, Bool, true, false, nat_le, List, [], ◌∷◌, ◌++◌, length, slice_get, slice_index, All, Option, None, Some, replicate}
+use Rattle.circular_buffer.specs.Buffer.{Buffer, keep_last}
+use Rattle.st_bits.specs.Storage.{words_of_storage}
+use Rattle.st_state.specs.Machine.{Machine, word, stored}
+use Rattle.st_exec.specs.Trails.{IsTrail, CanBePutBack}
+use Rattle.st_exec.specs.declared.kept.Trail.{Trail}
+use Rattle.st_exec.specs.declared.step.Step.{Step}
+use Rattle.st_exec.specs.declared.step.Step.TheVariants.{Plain, Interrupt, Waits}
+use Rattle.st_back.specs.declared.kept.Kept.{Kept}
+use Rattle.st_back.specs.Undone.{undone, noted}
+
+-- the steps that are kept, the oldest first, and how many there may be
+pub record Steps : Type 0 where
+  pub kept : List Kept
+  pub depth : ℕ
+
+abbrev pub none_of : ℕ → Steps
+none_of depth = record { kept = []; depth = depth }
+
+-- what contracts see of the ring
+abbrev pub steps : Buffer Kept → Steps
+steps b = record { kept = b.items; depth = b.capacity }
+
+-- the last one
+abbrev pub newest : List Kept → Option Kept
+newest ks = slice_get ks (length ks - 1)
+
+-- a step that can be undone: at most eight words were put since, all of them in storage above the registers
+pub record IsSound (k : Kept) : Type 0 where
+  pub trail : CanBePutBack k.trail
+  pub few : k.puts ≤ 8
+  pub eight : length k.places ≡ 8
+  pub eight_contents : length k.contents ≡ 8
+  pub above : (n : ℕ) → n < k.puts → 32 ≤ slice_index k.places n
+  pub inside : (n : ℕ) → n < k.puts → slice_index k.places n < words_of_storage
+
+-- some steps may be kept, and each that is can be undone
+pub record AreSound (b : Steps) : Type 0 where
+  pub some : 1 ≤ b.depth
+  pub fits : length b.kept ≤ b.depth
+  pub each : All IsSound b.kept
+
+-- a step is kept, and undoing it gives the state before it; a full ring gives up the oldest one
+pub record IsStepKept (old new : Steps) (s t : Machine) : Type 0 where
+  pub last : Kept
+  pub kept : new.kept ≡ keep_last old.depth (old.kept ++ last ∷ [])
+  pub depth : new.depth ≡ old.depth
+  pub trail : IsTrail s last.trail
+  pub puts : last.puts ≡ 0
+  pub before : undone last t ≡ s
+
+-- what a call of `forth` keeps, by its answer
+abbrev pub IsForth : Steps → Steps → Machine → Machine → Step → Type 0
+IsForth old new s t Waits = new ≡ old
+IsForth old new s t Plain = IsStepKept old new s t
+IsForth old new s t (Interrupt i) = IsStepKept old new s t
+
+-- a step is kept since which no word was put
+abbrev pub fresh : Trail → Kept
+fresh t = record {
+  trail = t;
+  places = replicate 8 0;
+  contents = replicate 8 0;
+  puts = 0;
+}
+
+abbrev pub kept_by : Trail → Steps → Steps
+kept_by t b = record b { kept = keep_last b.depth (b.kept ++ fresh t ∷ []) }
+
+-- there is room in the newest step for one more word that is put
+abbrev pub has_room : Option Kept → Bool
+has_room None = false
+has_room (Some k) = nat_le k.puts 7
+
+-- a word is put, and the newest step is undone as if it were not; the others are as they were
+pub record IsPut (old new : Steps) (s t : Machine) (w x : ℕ) : Type 0 where
+  pub others : List Kept
+  pub last : Kept
+  pub was : old.kept ≡ others ++ last ∷ []
+  pub is : new.kept ≡ others ++ noted last w (word s w) ∷ []
+  pub depth : new.depth ≡ old.depth
+  pub state : t ≡ stored s w x
+  pub before : undone (noted last w (word s w)) t ≡ undone last s
+
+-- the newest step is undone, and kept no more
+pub record IsUndone (old new : Steps) (s t : Machine) : Type 0 where
+  pub last : Kept
+  pub kept : old.kept ≡ new.kept ++ last ∷ []
+  pub depth : new.depth ≡ old.depth
+  pub state : t ≡ undone last s
+
+-- what a call of `back` does, by its answer
+abbrev pub IsBack : Steps → Steps → Machine → Machine → Bool → Type 0
+IsBack old new s t true = IsUndone old new s t
+IsBack old new s t false = (old.kept ≡ []) × (new ≡ old) × (t ≡ s)

@@ -1,0 +1,122 @@
+ghost use Rattle.std.specs.Prelude.{◌≡◌, ◌<◌, ◌≤◌, ◌^◌, true, length, IfOk};
+ghost use Rattle.st_bits.specs.Storage.{words_of_storage};
+ghost use Rattle.st_exec.specs.Step.{IsStep};
+ghost use Rattle.st_exec.specs.Trails.{CanBePutBack};
+ghost use Rattle.st_back.specs.Steps.{none_of, newest, kept_by, IsForth, has_room, IsPut, IsBack};
+
+use crate::kept::{Kept, noted};
+use crate::undoing::undo;
+use circular_buffer::HeapCircularBuffer;
+use st_bits::NoMemory;
+use st_exec::{Step, Trail, one_kept};
+use st_state::State;
+use std::alloc::Global;
+use std::marker::Model;
+
+/// The last steps of a machine, as many as it is deep, each kept so that it can be undone.
+#[derive(Drop)]
+pub struct Back {
+    ring: HeapCircularBuffer<Kept>,
+}
+
+// Clauses see the steps, the oldest first, and the depth.
+impl Model for Back {
+    ghost use Rattle.st_back.specs.Steps.{Steps, steps, AreSound};
+
+    ghost Value = { Steps };
+
+    ghost view = { λ b. steps b.ring };
+
+    ghost invariant = { λ b. AreSound (steps b.ring) };
+}
+
+impl Back {
+    /// A ring without steps, of `depth` places, 1 to 64. The one error is that memory ran out; no later call takes any.
+    pub fn new(alloc: Global, depth: u8) -> Result<Back, NoMemory>
+        requires some { 1 ≤ depth }
+        requires few { depth ≤ 64 }
+        ensures { IfOk result (λ b. b ≡ none_of depth) }
+    {
+        let Ok(ring) = HeapCircularBuffer::with_capacity(alloc, depth as usize) else {
+            return Err(NoMemory);
+        };
+        Ok(Back { ring })
+    }
+
+    /// Makes the next step as `st_exec::one` does, under the same condition, and keeps it, so that `back` undoes it. A full
+    /// ring gives up its oldest step. `Waits` keeps nothing.
+    pub fn forth(&mut self, state: &mut State) -> Step
+        requires { state.old.done < 2 ^ 63 }
+        ensures step { IsStep state.old state.new result }
+        ensures kept { IsForth self.old self.new state.old state.new result }
+    {
+        state.shape();
+        let mut trail = Trail::default();
+        let step = one_kept(state, &mut trail);
+        match step {
+            Step::Waits => {}
+            Step::Plain => self.keep(trail),
+            Step::Interrupt { .. } => self.keep(trail),
+        }
+        step
+    }
+
+    // Keeps a step, since which no word was put.
+    fn keep(&mut self, trail: Trail)
+        requires { CanBePutBack trail }
+        ensures { self.new ≡ kept_by trail self.old }
+    {
+        self.ring.push_back(Kept {
+            trail,
+            places: [0; 8],
+            contents: [0; 8],
+            puts: 0,
+        });
+    }
+
+    /// Whether a word can be put: there is a step, and at most seven words were put since it was made.
+    pub fn can_put(&self) -> bool
+        ensures { result ≡ has_room (newest self.now.kept) }
+    {
+        match self.ring.back() {
+            Some(kept) => kept.puts <= 7,
+            None => false,
+        }
+    }
+
+    /// Stores a word that a transfer brings, at the word address `w`, and keeps with the newest step what stood there. It
+    /// can be put, as `can_put` tells.
+    pub fn put(&mut self, state: &mut State, w: u32, word: u64)
+        requires above { 32 ≤ w }
+        requires inside { w < words_of_storage }
+        requires room { has_room (newest self.old.kept) ≡ true }
+        ensures { IsPut self.old self.new state.old state.new w word }
+    {
+        state.shape();
+        let Some(kept) = self.ring.pop_back() else {
+            return;
+        };
+        self.ring.push_back(noted(kept, w, state.word(w)));
+        state.store(w, word);
+    }
+
+    /// Undoes the newest step, which is kept no more. It answers false exactly where none is kept, and then changes
+    /// nothing.
+    pub fn back(&mut self, state: &mut State) -> bool
+        ensures { IsBack self.old self.new state.old state.new result }
+    {
+        let Some(kept) = self.ring.pop_back() else {
+            return false;
+        };
+        undo(&kept, state);
+        true
+    }
+
+    /// The number of steps that are kept.
+    pub fn len(&self) -> usize
+        ensures value { result ≡ length self.now.kept }
+        ensures within { result ≤ self.now.depth }
+    {
+        self.ring.len()
+    }
+}

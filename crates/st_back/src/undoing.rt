@@ -1,0 +1,70 @@
+//! How a step is undone.
+ghost use Rattle.std.specs.Prelude.{◌≡◌, ◌+◌, ◌≤◌, ◌<◌};
+ghost use Rattle.st_bits.specs.Storage.{words_of_storage};
+ghost use Rattle.st_prep.specs.Ranges.{IsRuns, AreInside};
+ghost use Rattle.st_exec.specs.Trails.{CanBePutBack};
+ghost use Rattle.st_back.specs.Undone.{restored, restored_words, unput, with_rest, undone};
+ghost use Rattle.st_back.specs.Steps.{IsSound};
+
+use crate::kept::Kept;
+use st_exec::Trail;
+use st_prep::Words;
+use st_state::State;
+
+/// Stores `len` words from the word address `w` on, those of `words` from place `from` on.
+fn restore(w: u32, len: u8, from: u8, words: &[u64; 32], state: &mut State)
+    requires inside { 1 ≤ len → w + len ≤ words_of_storage }
+    requires few { from + len ≤ 32 }
+    ensures { state.new ≡ restored w len from words.now state.old }
+{
+    for k in 0..len {
+        state.store(w + u32::from(k), words[(from + k) as usize]);
+    }
+}
+
+/// Puts back the words that an entry wrote.
+fn restore_written(words: Words, before: &[u64; 32], state: &mut State)
+    requires runs { IsRuns words }
+    requires inside { AreInside words }
+    ensures { state.new ≡ restored_words words before.now state.old }
+{
+    restore(words.first, words.len, 0, before, state);
+    restore(words.first2, words.len2, words.len, before, state);
+}
+
+/// Puts back the words that were put since, the last one first.
+fn remove_puts(kept: &Kept, state: &mut State)
+    requires { IsSound kept.now }
+    ensures { state.new ≡ unput kept.now.puts kept.now.places kept.now.contents state.old }
+{
+    let mut n = kept.puts as usize;
+    'puts: while n > 0 {
+        n -= 1;
+        state.store(kept.places[n], kept.contents[n]);
+    }
+}
+
+/// Makes all that is no word what it was.
+fn restore_rest(trail: &Trail, state: &mut State)
+    requires { CanBePutBack trail.now }
+    ensures { state.new ≡ with_rest trail.now state.old }
+{
+    state.done = trail.done;
+    state.ic = trail.ic;
+    state.enabled = trail.enabled;
+    state.waiting = trail.waiting;
+    state.reader = trail.reader;
+    state.printer = trail.printer;
+}
+
+/// Undoes a step.
+#[tactic(auto, unfolding(crate::specs::Undone::undone), using(st_bits::specs::Storage::words_of_storage_is))]
+pub(crate) fn undo(kept: &Kept, state: &mut State)
+    requires { IsSound kept.now }
+    ensures { state.new ≡ undone kept.now state.old }
+{
+    remove_puts(kept, state);
+    restore_written(kept.trail.writes, &kept.trail.before, state);
+    restore(0, 32, 0, &kept.trail.registers, state);
+    restore_rest(&kept.trail, state);
+}

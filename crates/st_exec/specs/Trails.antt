@@ -1,0 +1,40 @@
+-- What is kept of a state before a step, so that the step can be undone.
+use Rattle.std.specs.Prelude.{ℕ, ◌≡◌, ◌<◌, ◌^◌, slice_index}
+use Rattle.st_state.specs.Machine.{Machine, HasArea, word}
+use Rattle.st_prep.specs.Fetch.{place_of}
+use Rattle.st_prep.specs.Plan.{needs, sight, plan}
+use Rattle.st_prep.specs.Ranges.{IsRuns, AreInside}
+use Rattle.st_exec.specs.Operand.{AreOperands}
+use Rattle.st_exec.specs.Step.{interrupt}
+use Rattle.st_exec.specs.declared.kept.Trail.{Trail}
+use Rattle.st_exec.specs.declared.step.Step.{Step}
+use Rattle.st_exec.specs.declared.step.Step.TheVariants.{Plain, Interrupt, Waits}
+
+-- a trail of the next step of a state: what the entry reads and writes, what the words that it writes hold before it, and the
+-- registers, the number done, the counter, the marks and the orders before it
+pub record IsTrail (s : Machine) (t : Trail) : Type 0 where
+  pub index_read : t.index_read ≡ (needs (sight s (place_of s (interrupt s)))).index_read
+  pub reads : t.reads ≡ (plan s (interrupt s)).reads
+  pub writes : t.writes ≡ (plan s (interrupt s)).writes
+  pub before : AreOperands t.writes t.before s
+  pub registers : (w : ℕ) → w < 32 → slice_index t.registers w ≡ word s w
+  pub done : t.done ≡ s.done
+  pub ic : t.ic ≡ s.ic
+  pub enabled : t.enabled ≡ s.enabled
+  pub waiting : t.waiting ≡ s.waiting
+  pub reader : t.reader ≡ s.reader
+  pub printer : t.printer ≡ s.printer
+
+-- what can be put back: the words lie in storage, the counter is one, and the areas of orders lie in storage
+pub record CanBePutBack (t : Trail) : Type 0 where
+  pub runs : IsRuns t.writes
+  pub inside : AreInside t.writes
+  pub counter : t.ic < 2 ^ 19
+  pub reader_area : HasArea t.reader
+  pub printer_area : HasArea t.printer
+
+-- what a call of `one_kept` kept, by its answer
+abbrev pub IsKept : Machine → Trail → Trail → Step → Type 0
+IsKept s old new Waits = new ≡ old
+IsKept s old new Plain = IsTrail s new × CanBePutBack new
+IsKept s old new (Interrupt i) = IsTrail s new × CanBePutBack new

@@ -1,0 +1,110 @@
+//! A step of which everything is kept that is needed to undo it.
+ghost use Rattle.std.specs.Prelude.{◌≡◌, ℕ, ◌<◌, ◌^◌, IfSome, slice_index};
+ghost use Rattle.st_state.specs.Machine.{word as word_of};
+ghost use Rattle.st_prep.specs.Fetch.{place_of as place_at};
+ghost use Rattle.st_prep.specs.Plan.{needs, sight, plan as plan_of};
+ghost use Rattle.st_prep.specs.Ranges.{IsPrepared};
+ghost use Rattle.st_exec.specs.Step.{interrupt as interrupt_of, IsStep};
+ghost use Rattle.st_exec.specs.Trails.{IsTrail, CanBePutBack, IsKept};
+
+use crate::completing::complete;
+use crate::execution::read_operands;
+use crate::step::{Step, interrupt, is_at_rest};
+use st_prep::{Prepared, Words, fetch, index_words, look, place_of, plan};
+use st_state::{Order, State};
+
+/// What is kept of a state before a step, and what the step reads and writes.
+#[derive(Clone, Copy, Debug, Default, PartialEq, Eq)]
+pub struct Trail {
+    /// The word address of the index-side word.
+    pub index_read: Option<u32>,
+    /// The operand words that are read.
+    pub reads: Words,
+    /// The words that are written.
+    pub writes: Words,
+    /// What the words that are written held before, in order; the places behind them hold 0.
+    pub before: [u64; 32],
+    /// Words 0 to 31 before.
+    pub registers: [u64; 32],
+    /// The number of instructions done before.
+    pub done: u64,
+    /// The counter before, a half-word address below 2^19.
+    pub ic: u32,
+    /// Whether interrupts were enabled.
+    pub enabled: bool,
+    /// Whether the machine waited.
+    pub waiting: bool,
+    /// The order that the card reader had.
+    pub reader: Option<Order>,
+    /// The order that the line printer had.
+    pub printer: Option<Order>,
+}
+
+/// The word address of the index-side word of the next entry, or of the table instruction of an interrupt.
+#[tactic(auto, unfolding(st_prep::specs::Plan::sight))]
+fn index_side(taken: Option<u8>, state: &State) -> Option<u32>
+    requires { IfSome taken (λ i. i < 64) }
+    ensures { result ≡ (needs (sight state.now (place_at state.now taken))).index_read }
+{
+    let place = place_of(state, taken);
+    let fetched = fetch(state, &place);
+    look(&place, &fetched, &index_words(state), state).index_read
+}
+
+/// Words 0 to 31.
+fn registers(state: &State) -> [u64; 32]
+    ensures { (w : ℕ) → w < 32 → slice_index result w ≡ word_of state.now w }
+{
+    let mut registers = [0; 32];
+    for w in 0..32 {
+        registers[w] = state.word(w as u32);
+    }
+    registers
+}
+
+/// The trail of an entry that is to be completed.
+fn trail_of(taken: Option<u8>, p: &Prepared, state: &State) -> Trail
+    requires taken { taken ≡ interrupt_of state.now }
+    requires indicator { IfSome taken (λ i. i < 64) }
+    requires prepared { IsPrepared p.now }
+    requires entry { p.now ≡ plan_of state.now taken }
+    ensures trail { IsTrail state.now result }
+    ensures fits { CanBePutBack result }
+{
+    state.shape();
+    Trail {
+        index_read: index_side(taken, state),
+        reads: p.reads,
+        writes: p.writes,
+        before: read_operands(p.writes, state),
+        registers: registers(state),
+        done: state.done,
+        ic: state.ic,
+        enabled: state.enabled,
+        waiting: state.waiting,
+        reader: state.reader,
+        printer: state.printer,
+    }
+}
+
+/// Makes the next step as `one` does, under the same condition, and keeps in `trail` what is needed to undo it. Where it
+/// answers `Waits`, nothing was done and `trail` is as it was.
+#[tactic(auto, unfolding(crate::specs::Step::step))]
+pub fn one_kept(state: &mut State, trail: &mut Trail) -> Step
+    requires { state.old.done < 2 ^ 63 }
+    ensures step { IsStep state.old state.new result }
+    ensures kept { IsKept state.old trail.old trail.new result }
+{
+    if is_at_rest(state) {
+        return Step::Waits;
+    }
+    let taken = interrupt(state);
+    let p = plan(state, taken);
+    *trail = trail_of(taken, &p, state);
+    let operands = read_operands(p.reads, state);
+    complete(&p, &operands, state);
+    match taken {
+        Some(indicator) => Step::Interrupt { indicator },
+        None => Step::Plain,
+    }
+}
