@@ -9,6 +9,7 @@ pub mod Numbers
 pub mod Checks
 pub mod Laying
 pub mod Valuing
+pub mod Alone
 pub mod Assembly
 pub mod Sound
 pub mod Stops

@@ -2,6 +2,7 @@
 //! `docs/strap.md` has the rules.
 #![tactic(auto, using(st_bits::specs::Storage::words_of_storage_is))]
 
+mod alone;
 mod assembling;
 mod checks;
 mod forming;
@@ -16,6 +17,7 @@ mod symbols;
 mod values;
 mod valuing;
 
+pub use alone::{LaidBits, laid_alone};
 pub use assembling::{Assembled, assemble};
 pub use forming::is_built;
 pub use laws::{cards_have_their_first_fault, passes_stop_at_the_first_fault};

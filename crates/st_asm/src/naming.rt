@@ -21,7 +21,7 @@ use std::alloc::Global;
 const MOST_NAMES: usize = 4_000;
 
 // The bit address of the first location: word 32.
-const FIRST_LOCATION: u32 = 64 * 32;
+pub(crate) const FIRST_LOCATION: u32 = 64 * 32;
 
 /// A symbol: a name that a card defines.
 #[derive(Clone, Copy, Debug, PartialEq, Eq)]

@@ -2,3 +2,4 @@ pub mod UndoneLemmas
 pub mod StepLemmas
 pub mod RingLemmas
 pub mod LawLemmas
+pub mod ManyLemmas

@@ -94,3 +94,15 @@ pub record IsUndone (old new : Steps) (s t : Machine) : Type 0 where
 abbrev pub IsBack : Steps → Steps → Machine → Machine → Bool → Type 0
 IsBack old new s t true = IsUndone old new s t
 IsBack old new s t false = (old.kept ≡ []) × (new ≡ old) × (t ≡ s)
+
+-- ---- several steps
+
+-- the state after all steps are undone, the last one first
+unfoldable pub all_undone : List Kept → Machine → Machine
+all_undone [] s = s
+all_undone (k ∷ ks) s = undone k (all_undone ks s)
+
+-- the states that `back` gives, one call after another: the last of them first, that before the oldest step at the front
+unfoldable pub states_before : List Kept → Machine → List Machine
+states_before [] s = []
+states_before (k ∷ ks) s = all_undone (k ∷ ks) s ∷ states_before ks s

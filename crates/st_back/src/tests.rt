@@ -2,7 +2,7 @@ ghost use Rattle.std.specs.Prelude.{◌≡◌, ℕ, length, slice_index, IfOk};
 
 use super::*;
 use st_bits::WORDS;
-use st_exec::{Step, interrupt, is_at_rest, print_out};
+use st_exec::{Step, is_at_rest, print_out};
 use st_state::{Device, Order, State};
 use std::alloc::{AllocError, Global};
 use std::process::Abort;
@@ -158,13 +158,14 @@ fn sixty_four_steps_back_and_forth(rt: HostRuntime) -> Result<(), Fail> {
     };
     let mut state = opened(&rt, rt.alloc())?;
     let (before, after) = run(&rt, rt.alloc(), &mut back, &mut state)?;
-    assert_eq!(rt; (before.len(), state.done, state.ic), (72, 72, 83));
+    assert!(rt; before.len() == 72);
+    assert!(rt; after.len() == 72);
+    assert_eq!(rt; (state.done, state.ic), (72, 83));
     assert_eq!(rt; state.word(9), 0x7047, "the sum");
     assert_eq!(rt; back.len(), 64);
 
-    let mut n = 72;
-    for _ in 0..64 {
-        n -= 1;
+    for k in 0..64 {
+        let n = 71 - k;
         assert!(rt; back.back(&mut state));
         assert_eq!(rt; picture_of(&state), before[n], "before step {n}");
         assert!(rt; state.done < 100);
@@ -197,7 +198,7 @@ fn a_ring_of_one_keeps_the_newest_step(rt: HostRuntime) -> Result<(), Fail> {
     assert!(rt; !back.can_put());
     let (before, _after) = run(&rt, rt.alloc(), &mut back, &mut state)?;
     assert_eq!(rt; back.len(), 1);
-    assert_eq!(rt; interrupt(&state), None);
+    assert!(rt; before.len() == 72);
     assert!(rt; back.back(&mut state));
     assert_eq!(rt; picture_of(&state), before[71]);
     assert_eq!(rt; (state.ic, state.word(9)), (82, 0x7047));

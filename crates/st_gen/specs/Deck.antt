@@ -1,5 +1,6 @@
 -- The made deck: which cards a seed and a number of cards give.
 use Rattle.std.specs.Prelude.{ℕ, suc, zero, ◌+◌, ◌*◌, ◌/◌, ◌%◌, ◌^◌, List, [], ◌∷◌, ◌++◌, replicate, slice_index_or, codes, decimal}
+use Rattle.st_text.specs.Bytes.{line_end, blank}
 use Rattle.st_gen.specs.declared.form.Form.{Form}
 use Rattle.st_gen.specs.declared.form.Form.TheVariants.{LoadValue, AddValue, LoadWord, Add, Store, AddOne, Connect, Multiply}
 
@@ -92,11 +93,11 @@ form_after x = form_of (draw 1 8 x)
 
 -- the line end
 abbrev pub lf : List ℕ
-lf = 10 ∷ []
+lf = line_end ∷ []
 
 -- a statement card: the statement stands from column 10 on
 unfoldable pub card : List ℕ → List ℕ
-card text = replicate 9 32 ++ text ++ lf
+card text = replicate 9 blank ++ text ++ lf
 
 -- a control card: it stands from column 1 on
 unfoldable pub control : List ℕ → List ℕ

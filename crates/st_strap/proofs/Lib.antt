@@ -3,3 +3,5 @@ pub mod FieldLemmas
 pub mod ReadLemmas
 pub mod StatementLemmas
 pub mod FaultLemmas
+pub mod Digits
+pub mod NumberCards

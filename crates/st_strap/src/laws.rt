@@ -1,13 +1,21 @@
 //! What holds of statement cards, whatever they say.
 
-ghost use Rattle.std.specs.Prelude.{◌≡◌, ℕ, List};
+ghost use Rattle.std.specs.Prelude.{◌≡◌, ◌<◌, ◌^◌, ◌++◌, ℕ, List, [], false, true, codes, decimal, Ok};
 ghost use Rattle.st_card.specs.Cards.{first_fault};
+ghost use Rattle.st_strap.specs.Describing.{plain_form};
 ghost use Rattle.st_strap.specs.Faults.{fault_in, faults_on};
 ghost use Rattle.st_strap.specs.Saying.{statement_of};
+ghost use Rattle.st_strap.specs.declared.statement.Statement.TheVariants.{Data};
 
 /// A statement card has a fault exactly where it has one of the list, each told by itself, and it is refused for the
 /// first of those that it has.
 pub fn the_first_fault_of_the_list_counts()
     ensures { (name text : List ℕ) →
         fault_in (statement_of name text) ≡ first_fault (faults_on name text) }
+{}
+
+/// A number below 2^64 behind `DD(BU,64),` is read as that number, a whole word.
+pub fn numbers_of_words_are_read()
+    ensures { (n : ℕ) → n < 2 ^ 64 → statement_of [] (codes "DD(BU,64)," ++ decimal n)
+        ≡ Ok (Data (plain_form false true 64 8) false n) }
 {}

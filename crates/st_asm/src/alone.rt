@@ -1,0 +1,63 @@
+//! What a statement lays by itself.
+
+ghost use Rattle.std.specs.Prelude.{◌≡◌, ◌≤◌, length};
+ghost use Rattle.st_asm.specs.Alone as spec;
+ghost use Rattle.st_strap.specs.WellFormed.{IsWellFormed};
+
+use crate::checks::value_fault;
+use crate::laying::bits_of;
+use crate::naming::FIRST_LOCATION;
+use crate::places::role_of;
+use crate::symbols::knows_all;
+use crate::values::{Values, values_of};
+use st_expr::Symbols;
+use st_strap::{Statement, read_statement};
+
+/// What a statement lays: so many bits, at most 64, as a number.
+#[derive(Clone, Copy, Debug, PartialEq, Eq)]
+pub struct LaidBits {
+    /// How many bits are laid.
+    pub length: u8,
+    /// The bits, as a number below 2^length.
+    pub bits: u64,
+}
+
+/// What a text lays that stands on a card without a name, where the names of a table are defined; none where
+/// it has a fault of any pass. The text is what columns 10 to 72 hold, at most 63 bytes.
+#[tactic(auto, unfolding(crate::specs::Alone::laid_alone))]
+pub fn laid_alone(symbols: &Symbols, text: &[u8]) -> Option<LaidBits>
+    requires { length text.now ≤ 63 }
+    ensures { result ≡ spec.laid_alone symbols.now text.now }
+{
+    match read_statement(b"", text) {
+        Ok(statement) => laid_by(symbols, &statement),
+        Err(_) => None,
+    }
+}
+
+// What a statement lays whose names are all in a table.
+#[tactic(auto, unfolding(crate::specs::Alone::laid_by))]
+fn laid_by(symbols: &Symbols, s: &Statement) -> Option<LaidBits>
+    requires { IsWellFormed s.now }
+    ensures { result ≡ spec.laid_by symbols.now s.now }
+{
+    if !knows_all(symbols, s) {
+        return None;
+    }
+    laid_with(s, values_of(symbols, s))
+}
+
+// What a statement lays with its values.
+fn laid_with(s: &Statement, v: Values) -> Option<LaidBits>
+    requires { IsWellFormed s.now }
+    ensures { result ≡ spec.laid_with s.now v }
+{
+    let role = role_of(s);
+    match value_fault(s, role, v, FIRST_LOCATION) {
+        Some(_) => None,
+        None => Some(LaidBits {
+            length: role.length() as u8,
+            bits: bits_of(s, v),
+        }),
+    }
+}

@@ -1,0 +1,208 @@
+-- How long the cards of a deck are, and the deck.
+use Rattle.std.proofs.Common.{◌≡◌, ◌≤◌, ◌<◌, ◌+◌, ◌*◌, ◌/◌, ◌%◌, ◌^◌, ◌==◌, ◌++◌, ℕ, Bool, true, false, List, [], ◌∷◌, length, map, codes, decimal, if◌then◌else◌, length-append, arith}
+use Rattle.std.specs.List.{All}
+use Rattle.std.proofs.lemmas.List.Elements.{All-nil, All-cons, All-head, All-tail, All-append}
+use Rattle.std.proofs.lemmas.Bool.Decides.{nat_tests}
+use Rattle.std.proofs.lemmas.Fmt.{length-decimal-le}
+use Rattle.st_report.specs.Line.{lf, half_address}
+use Rattle.st_bits.specs.Storage.{words_of_storage_is}
+use Rattle.st_card.specs.Controls.{Asked, is_among}
+use Rattle.st_card.specs.Limits.{IsWithinLimits, is_signal, is_part, is_tick}
+use Rattle.st_card.specs.declared.control_cards.Signal.{Signal}
+use Rattle.st_object.specs.Object.{Program, IsProgram, AreWords}
+use Rattle.st_dis.specs.Spelling.{number_text, statements_of}
+use Rattle.st_dis.specs.Deck.{statement_card, location_text, location_cards, placed, word_cards, end_text, marked, order_cards, back_cards, show_cards, deck_cards, deck_of, deck_text, card_count}
+use Rattle.st_dis.proofs.Spelled.{statements-cases, says-short, whole_bits, half_bits}
+
+-- a statement has at most 63 characters, and a card at most 72
+abbrev pub IsShort : List ℕ → Type 0
+IsShort text = length text ≤ 63
+
+abbrev pub IsCard : List ℕ → Type 0
+IsCard card = length card ≤ 72
+
+-- cards, each with its line end
+pub deck_of-length : (cards : List (List ℕ)) → All IsCard cards → length (deck_of cards) ≤ 73 * length cards
+deck_of-length [] short = omega arith
+deck_of-length (card ∷ cards) short =
+    let here : length card ≤ 72 = All-head IsCard card cards short in
+    let rest = deck_of-length cards (All-tail IsCard card cards short) in
+    let one = length-append (card ++ lf) (deck_of cards) in
+    let end = length-append card lf in
+    omega (arith, here, rest, one, end)
+
+-- a number has at most 20 digits
+digits : (n : ℕ) → n < 2 ^ 64 → length (decimal n) ≤ 20
+digits n small = length-decimal-le 20 n (omega arith) (omega arith) small
+
+pub statement_card-short : (text : List ℕ) → IsShort text → IsCard (statement_card text)
+statement_card-short text short =
+    let parts = length-append (32 ∷ 32 ∷ 32 ∷ 32 ∷ 32 ∷ 32 ∷ 32 ∷ 32 ∷ 32 ∷ []) text in omega (arith, short, parts)
+
+-- a word before a number
+labelled : (word : List ℕ) (n : ℕ) → length word ≤ 43 → n < 2 ^ 64 → length (word ++ decimal n) ≤ 63
+labelled word n few small =
+    let parts = length-append word (decimal n) in
+    let number = digits n small in
+    omega (arith, few, parts, number)
+
+-- a word before two numbers
+paired : (word : List ℕ) (a b : ℕ) → length word ≤ 20 → a < 2 ^ 64 → b < 2 ^ 64 →
+    length (word ++ decimal a ++ codes " " ++ decimal b) ≤ 63
+paired word a b few small_a small_b =
+    let front = length-append word (decimal a) in
+    let between = length-append (word ++ decimal a) (codes " ") in
+    let whole = length-append (word ++ decimal a ++ codes " ") (decimal b) in
+    let first = digits a small_a in
+    let second = digits b small_b in
+    omega (arith, few, front, between, whole, first, second)
+
+statements-short : (word : ℕ) → word < 2 ^ 64 → All IsShort (statements_of word)
+statements-short word small =
+    statements-cases (λ texts. All IsShort texts) word
+    (λ t said. All-cons IsShort t [] (says-short t (whole_bits word) said) (All-nil IsShort))
+    (λ l r said_l said_r. All-cons IsShort l (r ∷ []) (says-short l (half_bits (word / 2 ^ 32)) said_l)
+    (All-cons IsShort r [] (says-short r (half_bits (word % 2 ^ 32)) said_r) (All-nil IsShort)))
+    (All-cons IsShort (number_text word) [] (labelled (codes "DD(BU,64),") word (omega arith) small) (All-nil IsShort))
+
+all_statement_cards : (texts : List (List ℕ)) → All IsShort texts → All IsCard (map statement_card texts)
+all_statement_cards [] short = All-nil IsCard
+all_statement_cards (t ∷ ts) short =
+    All-cons IsCard (statement_card t) (map statement_card ts) (statement_card-short t (All-head IsShort t ts short))
+    (all_statement_cards ts (All-tail IsShort t ts short))
+
+location_text-short : (w : ℕ) → w < 2 ^ 64 → IsShort (location_text w)
+location_text-short w small =
+    let whole = length-append (codes "SLC,") (decimal w ++ codes ".0") in
+    let behind = length-append (decimal w) (codes ".0") in
+    let number = digits w small in
+    omega (arith, whole, behind, number)
+
+location_cards-short : (w before : ℕ) → w < 2 ^ 64 → All IsCard (location_cards w before)
+location_cards-short w before small =
+    let card : IsCard (statement_card (location_text w)) = statement_card-short (location_text w) (location_text-short w small) in
+    elim (before == 0) as (λ b. All IsCard (if b then statement_card (location_text w) ∷ [] else [])) [
+      | true ↦ All-cons IsCard (statement_card (location_text w)) [] card (All-nil IsCard)
+      | false ↦ All-nil IsCard
+    ]
+
+placed-short : (w before x : ℕ) → w < 2 ^ 64 → x < 2 ^ 64 → All IsCard (placed w before x)
+unfolding placed
+placed-short w before x small word =
+    let filled : All IsCard (location_cards w before ++ map statement_card (statements_of x)) =
+    All-append IsCard (location_cards w before) (map statement_card (statements_of x)) (location_cards-short w before small)
+    (all_statement_cards (statements_of x) (statements-short x word)) in
+    elim (x == 0) as (λ b. All IsCard (if b then [] else location_cards w before ++ map statement_card (statements_of x))) [
+      | true ↦ All-nil IsCard
+      | false ↦ filled
+    ]
+
+word_cards-short : (w before : ℕ) (xs : List ℕ) → w + length xs < 2 ^ 64 → AreWords xs → All IsCard (word_cards w before xs)
+word_cards-short w before [] few words = All-nil IsCard
+word_cards-short w before (x ∷ xs) few words =
+    All-append IsCard (placed w before x) (word_cards (w + 1) x xs)
+    (placed-short w before x (omega arith) (All-head (λ y. y < 2 ^ 64) x xs words))
+    (word_cards-short (w + 1) x xs (omega arith) (All-tail (λ y. y < 2 ^ 64) x xs words))
+
+end_text-short : (start : ℕ) → start < 2 ^ 19 → IsShort (end_text start)
+end_text-short start small =
+    let whole = length-append (codes "END,") (half_address start) in
+    let front = length-append (decimal (start / 2)) (codes ".") in
+    let middle = length-append (decimal (start / 2) ++ codes ".") (decimal (32 * (start % 2))) in
+    let first = digits (start / 2) (omega arith) in
+    let second = digits (32 * (start % 2)) (omega arith) in
+    omega (arith, whole, front, middle, first, second)
+
+module _ {X : Type 0} where
+  -- cards that are made of things that pass
+  mapped_short : (f : X → List ℕ) (P : X → Type 0) → ((x : X) → P x → IsCard (f x)) → (xs : List X) → All P xs →
+      All IsCard (map f xs)
+  mapped_short f P each [] all = All-nil IsCard
+  mapped_short f P each (x ∷ xs) all =
+      All-cons IsCard (f x) (map f xs) (each x (All-head P x xs all)) (mapped_short f P each xs (All-tail P x xs all))
+
+one_card : (card : List ℕ) → length card ≤ 63 → All IsCard (card ∷ [])
+one_card card short = All-cons IsCard card [] (omega arith) (All-nil IsCard)
+
+if_asked : (asked : Bool) (card : List ℕ) → length card ≤ 63 → All IsCard (marked asked card)
+if_asked true card short = one_card card short
+if_asked false card short = All-nil IsCard
+
+delay-small : (n : ℕ) → is_among 1 255 n ≡ true → n < 2 ^ 64
+delay-small n is = let most : n ≤ 255 = grind (arith, nat_tests, is) in omega arith
+
+signal-small : (s : Signal) → is_signal s ≡ true → (s.count < 2 ^ 64) × (s.indicator < 2 ^ 64)
+signal-small s is =
+    let count : s.count ≤ 10000000 = grind (arith, nat_tests, is) in
+    let indicator : s.indicator ≤ 13 = grind (arith, nat_tests, is) in
+    (omega arith, omega arith)
+
+part-small : (p : ℕ × ℕ) → is_part p ≡ true → (p.0 < 2 ^ 64) × (p.1 < 2 ^ 64)
+part-small p is =
+    let last : p.1 ≤ 98303 = grind (arith, nat_tests, is) in
+    let first : p.0 ≤ p.1 = grind (arith, nat_tests, is) in
+    (omega arith, omega arith)
+
+tick-small : (t : ℕ) → is_tick t ≡ true → t < 2 ^ 64
+tick-small t is = let most : t ≤ 999999999999 = grind (arith, nat_tests, is) in omega arith
+
+labelled_card : (word : List ℕ) (n : ℕ) → length word ≤ 43 → n < 2 ^ 64 → IsCard (word ++ decimal n)
+labelled_card word n few small = let short = labelled word n few small in omega (arith, short)
+
+paired_card : (word : List ℕ) (a b : ℕ) → length word ≤ 20 → a < 2 ^ 64 → b < 2 ^ 64 →
+    IsCard (word ++ decimal a ++ codes " " ++ decimal b)
+paired_card word a b few small_a small_b = let short = paired word a b few small_a small_b in omega (arith, short)
+
+order_cards-short : (a : Asked) → IsWithinLimits a → All IsCard (order_cards a)
+order_cards-short a limits =
+    let delays : All IsCard (map (λ d. codes "/DELAYS " ++ decimal d) a.delays) =
+    mapped_short (λ d. codes "/DELAYS " ++ decimal d) (λ n. is_among 1 255 n ≡ true)
+    (λ n is. labelled_card (codes "/DELAYS ") n (omega arith) (delay-small n is)) a.delays limits.delays.each in
+    let signals : All IsCard (map (λ s. codes "/SIGNAL " ++ decimal s.count ++ codes " " ++ decimal s.indicator) a.signals) =
+    mapped_short (λ s. codes "/SIGNAL " ++ decimal s.count ++ codes " " ++ decimal s.indicator) (λ s. is_signal s ≡ true)
+    (λ s is. paired_card (codes "/SIGNAL ") s.count s.indicator (omega arith) (signal-small s is).0 (signal-small s is).1)
+    a.signals limits.signals.each in
+    let dumps : All IsCard (map (λ p. codes "/DUMP " ++ decimal p.0 ++ codes " " ++ decimal p.1) a.dumps) =
+    mapped_short (λ p. codes "/DUMP " ++ decimal p.0 ++ codes " " ++ decimal p.1) (λ p. is_part p ≡ true)
+    (λ p is. paired_card (codes "/DUMP ") p.0 p.1 (omega arith) (part-small p is).0 (part-small p is).1)
+    a.dumps limits.dumps.each in
+    let budget : IsCard (codes "/BUDGET " ++ decimal a.budget) =
+    let most = limits.budget in
+    labelled_card (codes "/BUDGET ") a.budget (omega arith) (omega (arith, most)) in
+    All-cons IsCard (codes "/BUDGET " ++ decimal a.budget) _ budget
+    (All-append IsCard _ _ (All-append IsCard _ _ delays signals) dumps)
+
+back_cards-short : (k : ℕ) → k ≤ 64 → All IsCard (back_cards k)
+back_cards-short k few =
+    let card = codes "/BACK " ++ decimal k in
+    elim (k == 0) as (λ b. All IsCard (if b then [] else card ∷ [])) [
+      | true ↦ All-nil IsCard
+      | false ↦ one_card card (labelled (codes "/BACK ") k (omega arith) (omega arith))
+    ]
+
+show_cards-short : (a : Asked) → IsWithinLimits a → All IsCard (show_cards a)
+show_cards-short a limits =
+    let snaps : All IsCard (map (λ t. codes "/SNAP " ++ decimal t) a.snaps) =
+    mapped_short (λ t. codes "/SNAP " ++ decimal t) (λ t. is_tick t ≡ true)
+    (λ t is. labelled_card (codes "/SNAP ") t (omega arith) (tick-small t is)) a.snaps limits.snaps.each in
+    let marks = All-append IsCard _ _ (if_asked a.trace (codes "/TRACE") (omega arith)) (if_asked a.time (codes "/TIME") (omega arith)) in
+    let charts = All-append IsCard _ _ marks (if_asked a.chart (codes "/CHART") (omega arith)) in
+    All-append IsCard _ _ (All-append IsCard _ _ charts snaps) (back_cards-short a.back limits.back)
+
+-- each card of a deck has at most 72 characters
+pub deck_cards-short : (p : Program) → IsProgram p → AreWords p.words → All IsCard (deck_cards p)
+deck_cards-short p is words =
+    let whole = is.whole in
+    let few : 0 + length p.words < 2 ^ 64 = omega (arith, whole, words_of_storage_is) in
+    let end = All-cons IsCard (statement_card (end_text p.start)) []
+    (statement_card-short (end_text p.start) (end_text-short p.start is.start)) (All-nil IsCard) in
+    let program = All-append IsCard (word_cards 0 0 p.words) _ (word_cards-short 0 0 p.words few words) end in
+    let orders = All-append IsCard _ (order_cards p.controls) program (order_cards-short p.controls is.limits) in
+    All-append IsCard _ (show_cards p.controls) orders (show_cards-short p.controls is.limits)
+
+-- a deck that is not too long has at most 2,000,000 bytes
+pub deck_text-short : (p : Program) → IsProgram p → AreWords p.words → card_count p ≤ 20000 → length (deck_text p) ≤ 2000000
+unfolding deck_text card_count
+deck_text-short p is words few =
+    let long = deck_of-length (deck_cards p) (deck_cards-short p is words) in
+    omega (arith, few, long)

@@ -1,0 +1,5 @@
+pub mod Fields
+pub mod Counted
+pub mod Spelled
+pub mod Lengths
+pub mod WordRead

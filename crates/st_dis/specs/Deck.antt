@@ -1,0 +1,78 @@
+-- The deck of a program.
+use Rattle.std.specs.Prelude.{ℕ, ◌+◌, ◌==◌, Bool, List, [], ◌∷◌, ◌++◌, length, map, replicate, codes, decimal, if◌then◌else◌}
+use Rattle.std.specs.List.{flat_map}
+use Rattle.st_report.specs.Line.{lf, half_address}
+use Rattle.st_card.specs.Controls.{Asked}
+use Rattle.st_object.specs.Object.{Program}
+use Rattle.st_dis.specs.Spelling.{statements_of}
+
+-- a program by its parts
+abbrev pub program : List ℕ → ℕ → Asked → Program
+program words start asked = record { words = words; start = start; controls = asked }
+
+-- a statement card: the statement stands from column 10 on
+abbrev pub statement_card : List ℕ → List ℕ
+statement_card text = replicate 9 32 ++ text
+
+-- the statement that sets the location to word w
+abbrev pub location_text : ℕ → List ℕ
+location_text w = codes "SLC," ++ decimal w ++ codes ".0"
+
+-- a card that sets the location, where the word before is zero
+abbrev pub location_cards : ℕ → ℕ → List (List ℕ)
+location_cards w before = if before == 0 then statement_card (location_text w) ∷ [] else []
+
+-- the cards of word w, with the word before it: none where it is zero
+unfoldable pub placed : ℕ → ℕ → ℕ → List (List ℕ)
+placed w before word =
+    if word == 0 then [] else location_cards w before ++ map statement_card (statements_of word)
+
+-- the cards of the words from word w on, with the word before
+abbrev pub word_cards : ℕ → ℕ → List ℕ → List (List ℕ)
+word_cards w before [] = []
+word_cards w before (x ∷ xs) = placed w before x ++ word_cards (w + 1) x xs
+
+-- the end of the program, with its start
+abbrev pub end_text : ℕ → List ℕ
+end_text start = codes "END," ++ half_address start
+
+-- a card that stands there where it is asked for
+abbrev pub marked : Bool → List ℕ → List (List ℕ)
+marked asked card = if asked then card ∷ [] else []
+
+-- the control cards up to those for parts of storage
+abbrev pub order_cards : Asked → List (List ℕ)
+order_cards a =
+    (codes "/BUDGET " ++ decimal a.budget) ∷ []
+    ++ map (λ d. codes "/DELAYS " ++ decimal d) a.delays
+    ++ map (λ s. codes "/SIGNAL " ++ decimal s.count ++ codes " " ++ decimal s.indicator) a.signals
+    ++ map (λ p. codes "/DUMP " ++ decimal p.0 ++ codes " " ++ decimal p.1) a.dumps
+
+-- how far the end steps back, where it does
+abbrev pub back_cards : ℕ → List (List ℕ)
+back_cards k = if k == 0 then [] else (codes "/BACK " ++ decimal k) ∷ []
+
+-- those for what is to be shown
+abbrev pub show_cards : Asked → List (List ℕ)
+show_cards a =
+    marked a.trace (codes "/TRACE") ++ marked a.time (codes "/TIME") ++ marked a.chart (codes "/CHART")
+    ++ map (λ t. codes "/SNAP " ++ decimal t) a.snaps
+    ++ back_cards a.back
+
+-- the cards of a program
+abbrev pub deck_cards : Program → List (List ℕ)
+deck_cards p =
+    word_cards 0 0 p.words ++ statement_card (end_text p.start) ∷ [] ++ order_cards p.controls
+    ++ show_cards p.controls
+
+-- cards, each with its line end
+abbrev pub deck_of : List (List ℕ) → List ℕ
+deck_of cards = flat_map (λ card. card ++ lf) cards
+
+-- the deck of a program
+unfoldable pub deck_text : Program → List ℕ
+deck_text p = deck_of (deck_cards p)
+
+-- how many cards it has
+unfoldable pub card_count : Program → ℕ
+card_count p = length (deck_cards p)

@@ -1,0 +1,87 @@
+-- The texts of instructions.
+use Rattle.std.specs.Prelude.{ℕ, suc, zero, ◌-◌, ◌/◌, ◌%◌, ◌^◌, ◌==◌, Bool, true, false, List, [], ◌++◌, codes, decimal, if◌then◌else◌}
+use Rattle.st_report.specs.Line.{bit_address, half_address, flag}
+use Rattle.st_bits.specs.declared.operations.HalfOp.{HalfOp}
+use Rattle.st_bits.specs.declared.operations.HalfOp.TheVariants.{Lvs, R, Ex}
+use Rattle.st_bits.specs.declared.operations.BranchOp.{BranchOp}
+use Rattle.st_bits.specs.declared.operations.BranchOp.TheVariants.{Bew, Nop}
+use Rattle.st_format.specs.declared.instruction.Instr.{Instr}
+use Rattle.st_format.specs.declared.instruction.Instr.TheVariants.{Half, Branch, Floating, Vfl, Connect, Move, BitBranch, IndBranch, StoreCounter, Transfer, Invalid}
+use Rattle.st_dis.specs.Names.{half_name, branch_name, field_name, negation, kind_name, truth_digits, move_name, change_name, turning, order_name, mode_name, form_name}
+
+-- an index word as a field
+abbrev pub index_field : ℕ → List ℕ
+index_field j = codes ",$X" ++ decimal j
+
+-- the index part of an address, where it has one
+abbrev pub index_part : ℕ → List ℕ
+index_part i = if i == 0 then [] else codes "($X" ++ decimal i ++ codes ")"
+
+-- a half-word address, a bit address and a second address as fields
+abbrev pub half_field : ℕ → ℕ → List ℕ
+half_field address i = codes "," ++ half_address address ++ index_part i
+
+abbrev pub bit_field : ℕ → ℕ → List ℕ
+bit_field address i = codes "," ++ bit_address address ++ index_part i
+
+abbrev pub second_field : ℕ → List ℕ
+second_field second = codes "," ++ half_address second
+
+-- a number as a field
+abbrev pub number_field : ℕ → List ℕ
+number_field n = codes "," ++ decimal n
+
+-- an offset as a field, where it is not 0
+abbrev pub offset_field : ℕ → List ℕ
+offset_field offset = if offset == 0 then [] else number_field offset
+
+-- whether a list of index words has index word k: it stands in the first 16 of the 19 bits of an address
+abbrev pub has_index : ℕ → ℕ → Bool
+has_index address k = address / 2 ^ (18 - k) % 2 == 1
+
+-- those of the first n index words that a list has, rising
+unfoldable pub listed_fields : ℕ → ℕ → List ℕ
+listed_fields zero address = []
+listed_fields (suc n) address =
+    listed_fields n address ++ (if has_index address n then index_field n else [])
+
+-- an instruction on an index word: EX has none, R no address, and LVS has a list in its place
+abbrev pub half_text : HalfOp → ℕ → ℕ → ℕ → List ℕ
+half_text Ex address j i = half_name Ex ++ half_field address i
+half_text R address j i = half_name R ++ index_field j
+half_text Lvs address j i = half_name Lvs ++ index_field j ++ listed_fields 16 address
+half_text op address j i = half_name op ++ index_field j ++ half_field address i
+
+-- a branch: BEW and NOP have no address
+abbrev pub branch_text : BranchOp → ℕ → ℕ → List ℕ
+branch_text Bew address i = branch_name Bew
+branch_text Nop address i = branch_name Nop
+branch_text op address i = branch_name op ++ half_field address i
+
+-- the data description, in full
+abbrev pub description : Bool → Bool → ℕ → ℕ → List ℕ
+description decimal_digits unsigned bits byte =
+    codes "(" ++ mode_name decimal_digits unsigned ++ number_field bits ++ number_field byte ++ codes ")"
+
+-- what stands behind the description: the progressive form, the address and the offset
+abbrev pub operand : ℕ → ℕ → ℕ → ℕ → List ℕ
+operand p address i offset = form_name p ++ bit_field address i ++ offset_field offset
+
+-- the text of an instruction; the floating group, and bits that spell none, have no text
+unfoldable pub text_of : Instr → List ℕ
+text_of (Half op address j i) = half_text op address j i
+text_of (Branch op address i) = branch_text op address i
+text_of (Floating number address i) = []
+text_of (Vfl op d u negated p bits byte offset address i) =
+    field_name op ++ negation negated ++ description d u bits byte ++ operand p address i offset
+text_of (Connect kind truth p bits byte offset address i) =
+    kind_name kind ++ truth_digits truth ++ description false true bits byte ++ operand p address i offset
+text_of (Move swap address i second count) =
+    move_name swap ++ bit_field address i ++ second_field second ++ number_field count
+text_of (BitBranch sense change address i second) =
+    codes "BB" ++ flag sense ++ change_name change ++ bit_field address i ++ second_field second
+text_of (IndBranch sense off address i second) =
+    codes "BI" ++ flag sense ++ turning off ++ bit_field address i ++ second_field second
+text_of (StoreCounter address i second) = codes "SIC" ++ bit_field address i ++ second_field second
+text_of (Transfer write address i count) = order_name write ++ bit_field address i ++ number_field count
+text_of (Invalid first second full) = []

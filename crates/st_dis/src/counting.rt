@@ -1,0 +1,100 @@
+//! How many cards a deck has.
+
+ghost use Rattle.std.specs.Prelude.{◌≡◌, ◌≤◌, ◌+◌, ◌*◌, ℕ, List, [], length, if◌then◌else◌};
+ghost use Rattle.st_card.specs.Limits.{IsWithinLimits};
+ghost use Rattle.st_dis.specs.Deck as spec;
+ghost use Rattle.st_dis.specs.Spelling.{statements_of};
+
+use crate::spelling::{half_spelling, left_half, right_half};
+use st_card::Controls;
+use st_expr::Symbols;
+
+// Whether a word is two instructions, each of which has a spelling.
+#[tactic(auto, unfolding(crate::specs::Spelling::statements_of))]
+fn is_pair(symbols: &Symbols, word: u64) -> bool
+    requires { symbols.now ≡ [] }
+    ensures { length (statements_of word) ≡ (if result then 2 else 1) }
+{
+    half_spelling(symbols, left_half(word)).is_some()
+        && half_spelling(symbols, right_half(word)).is_some()
+}
+
+// How many cards a word has that is not zero, with the word before it.
+fn count_filled(symbols: &Symbols, before: u64, word: u64) -> u32
+    requires { symbols.now ≡ [] }
+    ensures count { result ≡ length (spec.location_cards 0 before) + length (statements_of word) }
+    ensures few { result ≤ 3 }
+{
+    u32::from(before == 0) + if is_pair(symbols, word) { 2 } else { 1 }
+}
+
+// How many cards a word has, with the word before it.
+#[tactic(auto, unfolding(crate::specs::Deck::placed))]
+fn count_placed(symbols: &Symbols, before: u64, word: u64) -> u32
+    requires { symbols.now ≡ [] }
+    ensures count { result ≡ length (spec.placed 0 before word) }
+    ensures few { result ≤ 3 }
+{
+    if word == 0 {
+        return 0;
+    }
+    count_filled(symbols, before, word)
+}
+
+// How many cards words have.
+fn count_words(symbols: &Symbols, words: &[u64]) -> u32
+    requires symbols { symbols.now ≡ [] }
+    requires few { length words.now ≤ 98304 }
+    ensures count { result ≡ length (spec.word_cards 0 0 words.now) }
+    ensures few { result ≤ 3 * 98304 }
+{
+    let mut count = 0;
+    let mut before = 0;
+    let mut rest = words;
+    'words: while let [word, after @ ..] = rest {
+        count += count_placed(symbols, before, *word);
+        before = *word;
+        rest = after;
+    }
+    count
+}
+
+// How many control cards there are up to those for parts of storage.
+fn count_orders(controls: &Controls) -> u32
+    requires { IsWithinLimits controls.now }
+    ensures count { result ≡ length (spec.order_cards controls.now) }
+    ensures few { result ≤ 9000 }
+{
+    let delays = controls.delays.len() as u32;
+    let signals = controls.signals.len() as u32;
+    1 + delays + signals + controls.dumps.len() as u32
+}
+
+// One card where it is asked for.
+fn count_mark(asked: bool) -> u32
+    ensures count { (card : List ℕ) → result ≡ length (spec.marked asked card) }
+    ensures few { result ≤ 1 }
+{
+    if asked { 1 } else { 0 }
+}
+
+// How many control cards there are for what is to be shown.
+fn count_shows(controls: &Controls) -> u32
+    requires { IsWithinLimits controls.now }
+    ensures count { result ≡ length (spec.show_cards controls.now) }
+    ensures few { result ≤ 100 }
+{
+    let marks = count_mark(controls.trace) + count_mark(controls.time) + count_mark(controls.chart);
+    marks + controls.snaps.len() as u32 + u32::from(controls.back != 0)
+}
+
+// How many cards the deck of a program has. The table of symbols is empty.
+#[tactic(auto, unfolding(crate::specs::Deck::card_count))]
+pub(crate) fn card_count(symbols: &Symbols, words: &[u64], start: u32, controls: &Controls) -> u32
+    requires symbols { symbols.now ≡ [] }
+    requires few { length words.now ≤ 98304 }
+    requires limits { IsWithinLimits controls.now }
+    ensures { result ≡ spec.card_count (spec.program words.now start controls.now) }
+{
+    count_words(symbols, words) + 1 + count_orders(controls) + count_shows(controls)
+}

@@ -1,0 +1,66 @@
+//! A program as a deck.
+
+ghost use Rattle.std.specs.Prelude.{◌≡◌, ◌≤◌, IfOk, IfErr, length};
+ghost use Rattle.st_object.specs.Object.{IsProgram, AreWords};
+ghost use Rattle.st_dis.specs.Deck.{program, deck_text, card_count as count_of};
+ghost use Rattle.st_dis.specs.Answers.{Explains};
+
+use crate::counting::card_count;
+use crate::writing::push_deck;
+use st_card::Controls;
+use st_expr::Symbols;
+use std::alloc::Global;
+
+// The most cards that a deck has.
+const MOST_CARDS: u32 = 20_000;
+
+/// Why a program has no deck.
+#[derive(Clone, Copy, Debug, PartialEq, Eq)]
+pub enum DisError {
+    /// The deck would have more than 20,000 cards: so many.
+    TooManyCards { cards: u32 },
+    /// Memory ran out.
+    NoMemory,
+}
+
+/// The deck of a program: cards that assemble to it.
+///
+/// The conditions are those of `st_object::write_object`: 98,304 words, the first 32 zero; a half-word address below
+/// 2^19 as the start; controls within their limits, with a budget, a delay at least, and no listing.
+/// `docs/disassembly.md` has the rules.
+pub fn disassemble(
+    alloc: Global,
+    words: &[u64],
+    start: u32,
+    controls: &Controls,
+) -> Result<Vec<u8>, DisError>
+    requires { IsProgram (program words.now start controls.now) }
+
+    // Exactly that deck, where it has few cards.
+    ensures deck { let p = program words.now start controls.now in
+        IfOk result (λ deck. deck.items ≡ deck_text p) }
+    ensures few { let p = program words.now start controls.now in
+        IfOk result (λ deck. count_of p ≤ 20000) }
+    ensures err { IfErr result (Explains (program words.now start controls.now)) }
+    ensures short { IfOk result (λ deck. length deck.items ≤ 2000000) }
+{
+    know_words(words);
+    let symbols = Symbols::new(alloc);
+    let cards = card_count(&symbols, words, start, controls);
+    if cards > MOST_CARDS {
+        return Err(DisError::TooManyCards { cards });
+    }
+    let mut deck = Vec::new(alloc);
+    match push_deck(&mut deck, &symbols, words, start, controls) {
+        Ok(()) => Ok(deck),
+        Err(_) => Err(DisError::NoMemory),
+    }
+}
+
+// Makes known that each word has 64 bits.
+fn know_words(words: &[u64])
+    ensures { AreWords words.now }
+{}
+
+#[cfg(test)]
+mod tests;

@@ -1,0 +1,14 @@
+//! The disassembler: a program in storage as a deck that assembles to it. `docs/disassembly.md` has the rules.
+#![tactic(auto)]
+
+mod counting;
+mod disassembling;
+mod laws;
+mod names;
+mod pieces;
+mod spelling;
+mod texts;
+mod writing;
+
+pub use disassembling::{DisError, disassemble};
+pub use laws::statements_lay_their_word;

@@ -1,0 +1,91 @@
+//! Which instructions have a spelling.
+
+ghost use Rattle.std.specs.Prelude.{◌≡◌, ◌/◌, ◌%◌, ◌^◌, []};
+ghost use Rattle.std.specs.Option.{option_map};
+ghost use Rattle.st_dis.specs.Spelling as spec;
+
+use crate::texts::text_of;
+use st_asm::{LaidBits, laid_alone};
+use st_expr::Symbols;
+use st_format::{Instr, decode};
+use st_report::Line;
+
+// The most characters that a statement has on a card.
+const MOST_CHARACTERS: usize = 63;
+
+// The first half of a word.
+pub(crate) fn left_half(word: u64) -> u32
+    ensures { result ≡ word / 2 ^ 32 }
+{
+    (word >> 32) as u32
+}
+
+// The second half.
+pub(crate) fn right_half(word: u64) -> u32
+    ensures { result ≡ word % 2 ^ 32 }
+{
+    (word % (1 << 32)) as u32
+}
+
+// The spelling of a word that is one instruction. The table of symbols is empty.
+pub(crate) fn word_spelling(symbols: &Symbols, left: u32, right: u32) -> Option<Line>
+    requires { symbols.now ≡ [] }
+    ensures { option_map (λ line. line.bytes) result ≡ spec.word_spelling left right }
+{
+    let decoded = decode(left, right);
+    if decoded.halves != 2 {
+        return None;
+    }
+    let wanted = LaidBits {
+        length: 64,
+        bits: (u64::from(left) << 32) + u64::from(right),
+    };
+    spelling_of(symbols, decoded.instr, wanted)
+}
+
+// The spelling of a half-word that is an instruction by itself. The table of symbols is empty.
+pub(crate) fn half_spelling(symbols: &Symbols, half: u32) -> Option<Line>
+    requires { symbols.now ≡ [] }
+    ensures { option_map (λ line. line.bytes) result ≡ spec.half_spelling half }
+{
+    let decoded = decode(half, 0);
+    if decoded.halves == 2 {
+        return None;
+    }
+    let wanted = LaidBits {
+        length: 32,
+        bits: u64::from(half),
+    };
+    spelling_of(symbols, decoded.instr, wanted)
+}
+
+// The text of an instruction, where it is valid and its text says these bits.
+#[tactic(auto, unfolding(crate::specs::Spelling::spelling_of))]
+fn spelling_of(symbols: &Symbols, instr: Instr, wanted: LaidBits) -> Option<Line>
+    requires { symbols.now ≡ [] }
+    ensures { option_map (λ line. line.bytes) result ≡ spec.spelling_of instr wanted }
+{
+    if !instr.is_valid() {
+        return None;
+    }
+    let text = text_of(instr);
+    if says(symbols, text.as_str().as_bytes(), wanted) {
+        Some(text)
+    } else {
+        None
+    }
+}
+
+// Whether a text has a card's room, and read and laid gives these bits.
+fn says(symbols: &Symbols, text: &[u8], wanted: LaidBits) -> bool
+    requires { symbols.now ≡ [] }
+    ensures { result ≡ spec.says text.now wanted }
+{
+    if text.len() > MOST_CHARACTERS {
+        return false;
+    }
+    match laid_alone(symbols, text) {
+        None => false,
+        Some(laid) => laid.length == wanted.length && laid.bits == wanted.bits,
+    }
+}

@@ -1,0 +1,4 @@
+pub mod Axes
+pub mod Elements
+pub mod Lines
+pub mod Statuses

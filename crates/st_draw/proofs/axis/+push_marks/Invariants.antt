@@ -1,0 +1,5 @@
+-- One turn fewer is left at each call.
+use Rattle.st_draw.proofs.axis.+push_marks.Given as goal
+
+abbrev pub decreases-push_marks : goal.decreases-push_marks
+decreases-push_marks l = l.fuel

@@ -1,0 +1,5 @@
+-- One turn fewer is left at each call.
+use Rattle.st_draw.proofs.axis.+step_from.Given as goal
+
+abbrev pub decreases-step_from : goal.decreases-step_from
+decreases-step_from l = l.fuel

@@ -1,0 +1,13 @@
+-- The entries that are left decide with those before them.
+use Rattle.std.proofs.Common.{◌≡◌, ◌≤◌, ◌-◌, ◌^◌, min, length}
+use Rattle.st_draw.specs.Axis.{lowest}
+use Rattle.st_draw.proofs.axis.lowest.Given as goal
+
+abbrev pub invariant-entries : goal.invariant-entries
+invariant-entries l = record {
+  least : min l.low (lowest l.rest) ≡ lowest l.entries;
+  fits : l.low ≤ 2 ^ 64 - 1;
+}
+
+abbrev pub decreases-entries : goal.decreases-entries
+decreases-entries l = length l.rest

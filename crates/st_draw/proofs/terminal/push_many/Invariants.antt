@@ -1,0 +1,6 @@
+-- So many bytes stand behind the others as turns are done.
+use Rattle.std.proofs.Common.{◌≡◌, ◌++◌, replicate}
+use Rattle.st_draw.proofs.terminal.push_many.Given as goal
+
+abbrev pub invariant-loop : goal.invariant-loop
+invariant-loop l = l.out.items ≡ l.fn.out.items ++ replicate l.counter l.byte

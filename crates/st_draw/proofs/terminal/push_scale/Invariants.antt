@@ -1,0 +1,10 @@
+-- The round ticks that are left go behind the line as it stands.
+use Rattle.std.proofs.Common.{◌≡◌, length}
+use Rattle.st_draw.specs.Terminal.{scale}
+use Rattle.st_draw.proofs.terminal.push_scale.Given as goal
+
+abbrev pub invariant-ticks : goal.invariant-ticks
+invariant-ticks l = scale l.axis l.line.items l.rest ≡ scale l.axis l.fn.line.items l.ticks
+
+abbrev pub decreases-ticks : goal.decreases-ticks
+decreases-ticks l = length l.rest

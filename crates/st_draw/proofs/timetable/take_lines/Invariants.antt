@@ -1,0 +1,12 @@
+-- The lines that are left tell from here what all lines tell from the start.
+use Rattle.std.proofs.Common.{◌≡◌, length}
+use Rattle.st_card.specs.Pieces.{parted}
+use Rattle.st_draw.specs.Timetable.{after_lines, kept_by}
+use Rattle.st_draw.proofs.timetable.take_lines.Given as goal
+
+abbrev pub invariant-lines : goal.invariant-lines
+invariant-lines l =
+    after_lines l.part (kept_by l.told) (parted 10 l.rest) ≡ after_lines l.part (kept_by l.fn.told) (parted 10 l.report)
+
+abbrev pub decreases-lines : goal.decreases-lines
+decreases-lines l = length l.rest

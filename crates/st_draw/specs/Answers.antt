@@ -1,0 +1,86 @@
+-- What each answer of the program says: when it comes, and what was read and written.
+use Rattle.std.specs.Prelude.{◌≡◌, ℕ, ◌+◌, nat_eq, if◌then◌else◌, List, [], ◌∷◌, Option, None, Some}
+use Rattle.st_io.specs.Count.{HasRisen}
+use Rattle.st_io.specs.Input.{InputState, CameWhole, CameWithin, CamePast}
+use Rattle.st_io.specs.Output.{OutputState, Wrote, WroteFront}
+use Rattle.st_draw.specs.Drawing.{svg}
+use Rattle.st_draw.specs.Terminal.{text}
+use Rattle.st_draw.specs.Timetable.{timetable}
+use Rattle.st_draw.specs.declared.status.Status.{Status}
+use Rattle.st_draw.specs.declared.status.Status.TheVariants.{Done, NoRows, Usage, ReportTooLong, ReadFault, WriteFault, NoMemory}
+use Rattle.st_draw.specs.declared.timetable.Entry.{Entry}
+use Rattle.st_draw.specs.declared.timetable.Entry.TheVariants.{Done as DoneEntry, Dropped, Taken, Shown}
+use Rattle.st_draw.specs.declared.words.Choice.{Choice}
+use Rattle.st_draw.specs.declared.words.Kind.{Kind}
+use Rattle.st_draw.specs.declared.words.Kind.TheVariants.{Svg, Text}
+
+-- the longest report, in bytes
+abbrev pub report_limit : ℕ
+report_limit = 16000000
+
+-- how many of the entries are rows
+abbrev pub rows_in : List Entry → ℕ
+rows_in [] = 0
+rows_in (DoneEntry n a p r c ∷ es) = 1 + rows_in es
+rows_in (Dropped a p end ∷ es) = rows_in es
+rows_in (Taken i t ∷ es) = rows_in es
+rows_in (Shown t ∷ es) = rows_in es
+
+-- what is drawn of the entries: nothing, where none of them is a row
+abbrev pub visible : ℕ → List Entry → List Entry
+visible shown entries = if nat_eq shown 0 then [] else entries
+
+-- the bytes of a kind of picture
+abbrev pub picture_of : Kind → List ℕ → List Entry → ℕ → ℕ → List ℕ
+picture_of Svg report entries shown later = svg report entries shown later
+picture_of Text report entries shown later = text report entries shown later
+
+-- the bytes of a picture of these entries, of which some are rows or none
+abbrev pub drawn : Kind → List ℕ → List Entry → ℕ → List ℕ
+drawn kind report entries later = picture_of kind report (visible (rows_in entries) entries) (rows_in entries) later
+
+-- the entries of a report that are asked for
+abbrev pub entries_of : Choice → List ℕ → List Entry
+entries_of choice report = (timetable choice.part report).entries
+
+-- the picture of a report that is asked for
+unfoldable pub picture : Choice → List ℕ → List ℕ
+picture choice report = drawn choice.kind report (entries_of choice report) (timetable choice.part report).later
+
+-- the status of a picture that was written: that a report has no rows is told
+unfoldable pub status_of : Choice → List ℕ → Status
+status_of choice report = if nat_eq (rows_in (entries_of choice report)) 0 then NoRows else Done
+
+-- how a picture was written, by the status: wholly; or up to a write that failed; or not at all, for want of memory
+abbrev pub Writes : Choice → Status → OutputState → OutputState → List ℕ → Type 0
+Writes choice Done before after report = Wrote before after (picture choice report) × (status_of choice report ≡ Done)
+Writes choice NoRows before after report = Wrote before after (picture choice report) × (status_of choice report ≡ NoRows)
+Writes choice WriteFault before after report = WroteFront before after (picture choice report)
+Writes choice NoMemory before after report = after ≡ before
+Writes choice Usage before after report = ⊥
+Writes choice ReportTooLong before after report = ⊥
+Writes choice ReadFault before after report = ⊥
+
+-- a report was read whole, and its picture written
+pub record Drew (choice : Choice) (status : Status) (input input' : InputState) (before after : OutputState) : Type 0 where
+  pub report : List ℕ
+  pub read : CameWhole input input' report_limit report
+  pub written : Writes choice status before after report
+
+-- what a call did to its source and its sink, by the status
+abbrev pub Did : Choice → Status → InputState → InputState → OutputState → OutputState → Type 0
+Did choice Done input input' before after = Drew choice Done input input' before after
+Did choice NoRows input input' before after = Drew choice NoRows input input' before after
+Did choice WriteFault input input' before after = Drew choice WriteFault input input' before after
+Did choice ReportTooLong input input' before after =
+    CamePast input input' report_limit × (input'.faults ≡ input.faults) × (after ≡ before)
+Did choice ReadFault input input' before after =
+    CameWithin input input' report_limit × HasRisen input.faults input'.faults × (after ≡ before)
+Did choice NoMemory input input' before after =
+    CameWithin input input' report_limit × (input'.faults ≡ input.faults) × (after ≡ before)
+Did choice Usage input input' before after = ⊥
+
+-- what a call did, by the meaning of its words: words that mean nothing touch neither source nor sink
+abbrev pub IsAnswer : Option Choice → Status → InputState → InputState → OutputState → OutputState → Type 0
+IsAnswer None status input input' before after = (status ≡ Usage) × (input' ≡ input) × (after ≡ before)
+IsAnswer (Some choice) status input input' before after = Did choice status input input' before after

@@ -1,0 +1,71 @@
+-- The axis of a picture: which ticks it shows, and where a tick stands on it.
+use Rattle.std.specs.Prelude.{ℕ, suc, zero, ◌+◌, ◌-◌, ◌*◌, ◌/◌, ◌^◌, nat_le, min, max, if◌then◌else◌, List, [], ◌∷◌}
+use Rattle.st_draw.specs.declared.axis.Axis.{Axis}
+use Rattle.st_draw.specs.declared.axis.Room.{Room}
+use Rattle.st_draw.specs.declared.timetable.Entry.{Entry}
+use Rattle.st_draw.specs.declared.timetable.Entry.TheVariants.{Done, Dropped, Taken, Shown}
+
+-- the first tick of an entry
+abbrev pub first_tick : Entry → ℕ
+first_tick (Done n a p r c) = p
+first_tick (Dropped a p end) = p
+first_tick (Taken i t) = t
+first_tick (Shown t) = t
+
+-- the last tick of an entry
+abbrev pub last_tick : Entry → ℕ
+last_tick (Done n a p r c) = c
+last_tick (Dropped a p end) = end
+last_tick (Taken i t) = t
+last_tick (Shown t) = t
+
+-- the first tick of entries; the largest number, where there are none
+abbrev pub lowest : List Entry → ℕ
+lowest [] = 2 ^ 64 - 1
+lowest (e ∷ es) = min (first_tick e) (lowest es)
+
+-- the last tick of entries
+abbrev pub highest : List Entry → ℕ
+highest [] = 0
+highest (e ∷ es) = max (last_tick e) (highest es)
+
+-- the first of 1, 2, 5, 10, 20, .. times a unit of which five or fewer make up a span; fuel times ten is tried
+unfoldable pub step_from : ℕ → ℕ → ℕ → ℕ
+step_from zero unit span = unit
+step_from (suc fuel) unit span =
+    if nat_le span (5 * unit) then unit
+    else if nat_le span (10 * unit) then 2 * unit
+    else if nat_le span (25 * unit) then 5 * unit
+    else step_from fuel (10 * unit) span
+
+-- the step of an axis: 1, 2 or 5 with zeros behind it
+abbrev pub round_step : ℕ → ℕ
+round_step span = step_from 20 1 span
+
+-- the last multiple of a step up to a tick
+abbrev pub rounded : ℕ → ℕ → ℕ
+rounded tick step = tick / step * step
+
+-- an axis from the last round tick before the entries to their last tick, and at least so many ticks long
+abbrev pub axis_over : ℕ → ℕ → ℕ → Axis
+axis_over low high least =
+    let step = round_step (high - low) in
+    let start = rounded low step in
+    record { start = start; last = high; step = step; span = max least (high - start) }
+
+-- the axis of entries
+unfoldable pub axis : List Entry → ℕ → Axis
+axis entries least = axis_over (lowest entries) (highest entries) least
+
+-- where a tick stands: within the room, in proportion
+unfoldable pub at : Room → Axis → ℕ → ℕ
+at room axis tick = room.left + min room.width ((tick - axis.start) * room.width / axis.span)
+
+-- the round ticks from one on, up to the last and at most so many
+unfoldable pub marks_from : ℕ → ℕ → ℕ → ℕ → List ℕ
+marks_from zero tick step last = []
+marks_from (suc fuel) tick step last = if nat_le tick last then tick ∷ marks_from fuel (tick + step) step last else []
+
+-- the round ticks of an axis
+abbrev pub marks : Axis → List ℕ
+marks axis = marks_from 8 axis.start axis.step axis.last

@@ -1,0 +1,39 @@
+-- What stands in front of an entry's bar: three short texts.
+use Rattle.std.specs.Prelude.{ℕ, ◌*◌, nat_lt, if◌then◌else◌, List, [], ◌++◌, take, drop, codes, decimal}
+use Rattle.st_draw.specs.Label.{label}
+use Rattle.st_draw.specs.declared.report.Place.{Place}
+use Rattle.st_draw.specs.declared.timetable.Entry.{Entry}
+use Rattle.st_draw.specs.declared.timetable.Entry.TheVariants.{Done, Dropped, Taken, Shown}
+
+-- the names of the indicators 0 to 63, each in four places
+unfoldable pub indicator_names : List ℕ
+indicator_names = codes "MK  IK  IJ  EK  TS  CPUSEKJ UNRJCBJ EPGKUK  EE  EOP CS      OP  AD  USA EXE DS  DF  IF  LC  PF  ZD                                          TF  UF  VF  XF  BTR DTR PG0 PG1 PG2 PG3 PG4 PG5 PG6 XCZ XVLZXVZ XVGZXL  XE  XH  MOP RLZ RZ  RGZ RN  AL  AE  AH      "
+
+-- the name of an indicator; blanks where it has none, and nothing past the last
+unfoldable pub indicator : ℕ → List ℕ
+indicator i = if nat_lt i 64 then take 4 (drop (4 * i) indicator_names) else []
+
+-- a place as word.bit
+abbrev pub place_text : Place → List ℕ
+place_text place = decimal place.word ++ codes "." ++ decimal place.bit
+
+-- the number of an entry that is done, or what else it is
+unfoldable pub first_text : Entry → List ℕ
+first_text (Done n a p r c) = decimal n
+first_text (Dropped a p end) = codes "drop"
+first_text (Taken i t) = codes "INT"
+first_text (Shown t) = codes "SNAP"
+
+-- where an entry stands in storage; the number of an indicator; the tick of a snapshot
+unfoldable pub second_text : Entry → List ℕ
+second_text (Done n a p r c) = place_text a
+second_text (Dropped a p end) = place_text a
+second_text (Taken i t) = decimal i
+second_text (Shown t) = decimal t
+
+-- the text of an entry's card; the name of an indicator
+unfoldable pub third_text : List ℕ → Entry → List ℕ
+third_text report (Done n a p r c) = label report a
+third_text report (Dropped a p end) = label report a
+third_text report (Taken i t) = indicator i
+third_text report (Shown t) = []

@@ -1,0 +1,45 @@
+-- The elements of a picture, and the bytes of each.
+use Rattle.std.specs.Prelude.{ℕ, List, [], ◌∷◌, ◌++◌, codes, decimal}
+use Rattle.st_draw.specs.Escape.{escaped}
+
+-- a number as the value of an attribute
+unfoldable pub attribute : List ℕ → ℕ → List ℕ
+attribute name n = name ++ codes "=\"" ++ decimal n ++ codes "\""
+
+-- the front of an element, with its class
+unfoldable pub front : List ℕ → List ℕ → List ℕ
+front name class = name ++ codes " class=\"" ++ class ++ codes "\""
+
+-- where an element stands
+unfoldable pub corner : ℕ → ℕ → List ℕ
+corner x y = attribute (codes " x") x ++ attribute (codes " y") y
+
+-- how far a box reaches
+unfoldable pub size : ℕ → ℕ → List ℕ
+size width height = attribute (codes " width") width ++ attribute (codes " height") height
+
+-- where a line begins and ends
+unfoldable pub ends : ℕ → ℕ → ℕ → ℕ → List ℕ
+ends x y x' y' =
+    attribute (codes " x1") x ++ attribute (codes " y1") y ++ attribute (codes " x2") x' ++ attribute (codes " y2") y'
+
+-- what a text says, and its end
+unfoldable pub content : List ℕ → List ℕ
+content text = codes ">" ++ escaped text ++ codes "</text>\n"
+
+-- an element of a picture: its class, where it stands, and how far it reaches or what it says
+pub data Element : Type 0 where
+  Box : List ℕ → ℕ → ℕ → ℕ → ℕ → Element
+  Line : List ℕ → ℕ → ℕ → ℕ → ℕ → Element
+  Text : List ℕ → ℕ → ℕ → List ℕ → Element
+
+-- the bytes of an element
+unfoldable pub element_text : Element → List ℕ
+element_text (Box class x y width height) = front (codes "<rect") class ++ corner x y ++ size width height ++ codes "/>\n"
+element_text (Line class x y x' y') = front (codes "<line") class ++ ends x y x' y' ++ codes "/>\n"
+element_text (Text class x y text) = front (codes "<text") class ++ corner x y ++ content text
+
+-- the bytes of elements, one after another
+unfoldable pub elements_text : List Element → List ℕ
+elements_text [] = []
+elements_text (e ∷ es) = element_text e ++ elements_text es

@@ -1,0 +1,11 @@
+pub mod Answers
+pub mod Axis
+pub mod Caption
+pub mod Drawing
+pub mod Element
+pub mod Escape
+pub mod Label
+pub mod Report
+pub mod Terminal
+pub mod Timetable
+pub mod Words

@@ -1,0 +1,74 @@
+-- The timetable that the lines of a report tell, as far as a part of it is asked for.
+use Rattle.std.specs.Prelude.{ℕ, nat_le, nat_lt, ◌&&◌, Bool, if◌then◌else◌, List, [], ◌∷◌, ◌++◌, reverse, Option, None, Some}
+use Rattle.st_card.specs.Pieces.{parted}
+use Rattle.st_io.specs.Count.{counted}
+use Rattle.st_draw.specs.Report.{item}
+use Rattle.st_draw.specs.declared.report.Item.{Item}
+use Rattle.st_draw.specs.declared.report.Item.TheVariants.{Row, Drop, Interrupt, Snapshot}
+use Rattle.st_draw.specs.declared.timetable.Entry.{Entry}
+use Rattle.st_draw.specs.declared.timetable.Entry.TheVariants.{Done, Dropped, Taken, Shown}
+use Rattle.st_draw.specs.declared.timetable.Part.{Part}
+use Rattle.st_draw.specs.declared.timetable.Told.{Told}
+
+-- what the lines told so far: the entries of the part; those of its last segment that were dropped, the youngest first; the number
+-- and the last tick of the last row; how many rows are behind the part
+pub record Timetable : Type 0 where
+  pub entries : List Entry
+  pub dropped : List Entry
+  pub row : ℕ
+  pub end : ℕ
+  pub later : ℕ
+
+-- nothing told yet; what comes before the first row counts to row 1
+abbrev pub untold : Timetable
+untold = record { entries = []; dropped = []; row = 1; end = 0; later = 0 }
+
+-- whether a row is in a part
+abbrev pub is_in : Part → ℕ → Bool
+is_in part n = nat_le part.from n && nat_le n part.to
+
+-- the entries, and an entry that goes with a row, where the part has that row
+abbrev pub kept : Part → ℕ → Entry → List Entry → List Entry
+kept part n entry entries = if is_in part n then entries ++ entry ∷ [] else entries
+
+-- the dropped entries stand behind the others, the oldest first
+abbrev pub settled : Timetable → Timetable
+settled t = record t { entries = t.entries ++ reverse t.dropped; dropped = [] }
+
+-- an entry behind all that were told
+abbrev pub joined : Part → ℕ → Entry → Timetable → Timetable
+joined part n entry t = record t { entries = kept part n entry (t.entries ++ reverse t.dropped); dropped = [] }
+
+-- how many rows are behind a part after a row
+abbrev pub counted_later : Part → ℕ → ℕ → ℕ
+counted_later part n later = if nat_lt part.to n then counted later 1 else later
+
+-- what one more thing tells
+abbrev pub after_item : Part → Timetable → Item → Timetable
+after_item part t (Row n a p r c) =
+    record (joined part n (Done n a p r c) t) { row = n; end = c; later = counted_later part n t.later }
+after_item part t (Drop a p) = record t { dropped = kept part t.row (Dropped a p t.end) t.dropped }
+after_item part t (Interrupt i) = joined part t.row (Taken i t.end) t
+after_item part t (Snapshot tick) = joined part t.row (Shown tick) t
+
+-- what a line tells that says something, or nothing
+abbrev pub after_said : Part → Timetable → Option Item → Timetable
+after_said part t None = t
+after_said part t (Some said) = after_item part t said
+
+-- what one more line tells
+abbrev pub after_line : Part → Timetable → List ℕ → Timetable
+after_line part t line = after_said part t (item line)
+
+-- what lines tell
+abbrev pub after_lines : Part → Timetable → List (List ℕ) → Timetable
+after_lines part t [] = t
+after_lines part t (line ∷ lines) = after_lines part (after_line part t line) lines
+
+-- the timetable that a report tells
+unfoldable pub timetable : Part → List ℕ → Timetable
+timetable part report = settled (after_lines part untold (parted 10 report))
+
+-- what the code keeps of it
+abbrev pub kept_by : Told → Timetable
+kept_by t = record { entries = t.entries.items; dropped = t.dropped.items; row = t.row; end = t.end; later = t.later }

@@ -1,0 +1,154 @@
+//! The axis of a picture: which ticks it shows, and where a tick stands on it.
+ghost use Rattle.std.specs.Prelude.{◌≡◌, ◌+◌, ◌^◌, ◌≤◌, ◌<◌, ◌++◌, IfOk};
+ghost use Rattle.st_draw.specs.Axis as spec;
+
+use crate::timetable::Entry;
+use std::alloc::{AllocError, Global};
+
+/// The ticks that a picture shows.
+#[derive(Clone, Copy, Debug, PartialEq, Eq)]
+pub struct Axis {
+    /// The tick at its left end.
+    pub start: u64,
+    /// The last tick of an entry.
+    pub last: u64,
+    /// How many ticks lie from mark to mark.
+    pub step: u64,
+    /// How many ticks fill the room.
+    pub span: u64,
+}
+
+/// The room of an axis across a picture.
+#[derive(Clone, Copy, Debug, PartialEq, Eq)]
+pub struct Room {
+    /// Its left end.
+    pub left: u16,
+    /// Its width.
+    pub width: u16,
+}
+
+/// The first tick of an entry.
+fn first_tick(entry: &Entry) -> u64
+    ensures { result ≡ spec.first_tick entry.now }
+{
+    match *entry {
+        Entry::Done { prepared, .. } => prepared,
+        Entry::Dropped { prepared, .. } => prepared,
+        Entry::Taken { tick, .. } => tick,
+        Entry::Shown { tick } => tick,
+    }
+}
+
+/// The last tick of an entry.
+fn last_tick(entry: &Entry) -> u64
+    ensures { result ≡ spec.last_tick entry.now }
+{
+    match *entry {
+        Entry::Done { complete, .. } => complete,
+        Entry::Dropped { end, .. } => end,
+        Entry::Taken { tick, .. } => tick,
+        Entry::Shown { tick } => tick,
+    }
+}
+
+/// The first tick of entries.
+#[tactic(auto, using(crate::proofs::Axes::lowest_bound))]
+fn lowest(entries: &[Entry]) -> u64
+    ensures { result ≡ spec.lowest entries.now }
+{
+    let mut low = u64::MAX;
+    let mut rest = entries;
+    'entries: while let [entry, after @ ..] = rest {
+        low = low.min(first_tick(entry));
+        rest = after;
+    }
+    low
+}
+
+/// The last tick of entries.
+fn highest(entries: &[Entry]) -> u64
+    ensures { result ≡ spec.highest entries.now }
+{
+    let mut high = 0;
+    let mut rest = entries;
+    'entries: while let [entry, after @ ..] = rest {
+        high = high.max(last_tick(entry));
+        rest = after;
+    }
+    high
+}
+
+/// The first of 1, 2, 5, 10, 20, .. times a unit of which five or fewer make up a span.
+fn step_from(fuel: u8, unit: u64, span: u64) -> u64
+    requires { 1 ≤ unit }
+    ensures value { result ≡ spec.step_from fuel unit span }
+    ensures some { 1 ≤ result }
+{
+    if fuel == 0 {
+        return unit;
+    }
+    let five = 5 * u128::from(unit);
+    let wanted = u128::from(span);
+    if wanted <= five {
+        unit
+    } else if wanted <= 2 * five {
+        2 * unit
+    } else if wanted <= 5 * five {
+        5 * unit
+    } else {
+        step_from(fuel - 1, 10 * unit, span)
+    }
+}
+
+/// The axis of entries, at least so many ticks long.
+#[tactic(auto, unfolding(crate::specs::Axis::axis))]
+pub fn axis_of(entries: &[Entry], least: u64) -> Axis
+    requires { 1 ≤ least }
+    ensures value { result ≡ spec.axis entries.now least }
+    ensures some { 1 ≤ result.span }
+{
+    let low = lowest(entries);
+    let last = highest(entries);
+    let step = step_from(20, 1, last.saturating_sub(low));
+    let start = low / step * step;
+    Axis {
+        start,
+        last,
+        step,
+        span: least.max(last.saturating_sub(start)),
+    }
+}
+
+/// Where a tick stands.
+#[tactic(auto, unfolding(crate::specs::Axis::at))]
+pub fn at(room: Room, axis: Axis, tick: u64) -> u64
+    requires { 1 ≤ axis.span }
+    ensures value { result ≡ spec.at room axis tick }
+    ensures inside { result ≤ room.left + room.width }
+{
+    let along = u128::from(tick.saturating_sub(axis.start)) * u128::from(room.width)
+        / u128::from(axis.span);
+    u64::from(room.left) + along.min(u128::from(room.width)) as u64
+}
+
+/// Appends the round ticks from one on, up to the last and at most so many.
+fn push_marks(marks: &mut Vec<u64>, fuel: u8, tick: u128, axis: Axis) -> Result<(), AllocError>
+    requires { tick < 2 ^ 65 }
+    ensures { IfOk result (λ _. marks.new.items
+        ≡ marks.old.items ++ spec.marks_from fuel tick axis.step axis.last) }
+{
+    if fuel == 0 || u128::from(axis.last) < tick {
+        return Ok(());
+    }
+    marks.push(tick as u64)?;
+    push_marks(marks, fuel - 1, tick + u128::from(axis.step), axis)
+}
+
+/// The round ticks of an axis.
+pub fn marks_of(alloc: Global, axis: Axis) -> Result<Vec<u64>, AllocError>
+    ensures { IfOk result (λ marks. marks.items ≡ spec.marks axis) }
+{
+    let mut marks = Vec::new(alloc);
+    push_marks(&mut marks, 8, u128::from(axis.start), axis)?;
+    Ok(marks)
+}

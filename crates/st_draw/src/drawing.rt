@@ -1,0 +1,473 @@
+//! The picture of a timetable.
+ghost use Rattle.std.specs.Prelude.{◌≡◌, ◌+◌, ◌^◌, ◌<◌, ◌≤◌, ◌++◌, IfOk, length, codes, decimal, max, ◌-◌, [], ◌∷◌};
+ghost use Rattle.st_draw.specs.Element.{elements_text, element_text, Box, Line, Text};
+ghost use Rattle.st_draw.specs.Drawing as spec;
+ghost use Rattle.st_draw.specs.Axis.{marks};
+ghost use Rattle.st_draw.specs.Drawing.{IsSheet, grid};
+
+use crate::axis::{Axis, Room, at, axis_of, marks_of};
+use crate::caption::{first_text, second_text, third_text};
+use crate::element::{Area, Spot, push_box, push_decimal, push_line, push_text};
+use crate::label::has_listing;
+use crate::timetable::Entry;
+use std::alloc::{AllocError, Global};
+
+/// What all rows of a picture share.
+#[derive(Clone, Copy, Debug, PartialEq, Eq)]
+pub struct Sheet {
+    /// The room of the axis.
+    pub room: Room,
+    /// The ticks that are shown.
+    pub axis: Axis,
+    /// The lower end of the rows.
+    pub bottom: u128,
+}
+
+/// What the classes of elements look like, and the hatch of what is dropped.
+const STYLES: &[u8; 502] =
+    b"\">\n<defs><pattern id=\"h\" width=\"5\" height=\"5\" patternUnits=\"userSpaceOnUse\" patternTransform=\"rotate(45)\"><rect width=\"5\" height=\"5\" fill=\"#fff\"/><rect width=\"2\" height=\"5\" fill=\"#8a3b12\"/></pattern></defs>\n<style>text{font:11px monospace;fill:#111}.n{text-anchor:end}.m{text-anchor:middle;fill:#555}.p{fill:#fff}.g{stroke:#ddd}.w{fill:#bcd7f0;stroke:#335c85}.e{fill:#1d3f66;stroke:#1d3f66}.d{fill:url(#h);stroke:#8a3b12}.i{stroke:#b3261e;stroke-width:2}.s{stroke:#2e7d32;stroke-dasharray:2 3}</style>\n";
+
+/// An entry, and the upper edge of its row.
+#[derive(Clone, Copy, Debug)]
+struct Row {
+    y: u128,
+    entry: Entry,
+}
+
+/// The words before the height of a picture.
+const PREAMBLE: &[u8; 57] = b"<svg xmlns=\"http://www.w3.org/2000/svg\" viewBox=\"0 0 640 ";
+
+/// The words before the height of a picture, as a text.
+#[tactic(auto, unfolding(crate::specs::Drawing::preamble))]
+fn preamble() -> &'static [u8]
+    ensures { result.now ≡ spec.preamble }
+{
+    PREAMBLE
+}
+
+/// What the classes of elements look like, as a text.
+#[tactic(auto, unfolding(crate::specs::Drawing::styles))]
+fn styles() -> &'static [u8]
+    ensures { result.now ≡ spec.styles }
+{
+    STYLES
+}
+
+/// The room of the axis: cards stand before it where the report lists them.
+fn room_of(report: &[u8]) -> Room
+    ensures { result ≡ spec.room_of report.now }
+{
+    if has_listing(report) {
+        Room {
+            left: 284,
+            width: 344,
+        }
+    } else {
+        Room {
+            left: 124,
+            width: 504,
+        }
+    }
+}
+
+/// The sheet of entries.
+#[tactic(auto, unfolding(crate::specs::Drawing::sheet))]
+fn sheet_of(report: &[u8], entries: &[Entry]) -> Sheet
+    ensures value { result ≡ spec.sheet report.now entries.now }
+    ensures good { IsSheet result }
+{
+    Sheet {
+        room: room_of(report),
+        axis: axis_of(entries, 1),
+        bottom: 36 + 16 * entries.len() as u128,
+    }
+}
+
+/// Where a tick stands on a sheet.
+fn across(sheet: &Sheet, tick: u64) -> u128
+    requires { IsSheet sheet.now }
+    ensures { result ≡ spec.across sheet.now tick }
+{
+    u128::from(at(sheet.room, sheet.axis, tick))
+}
+
+/// Appends a line down the sheet.
+fn push_down(out: &mut Vec<u8>, class: &[u8], sheet: &Sheet, x: u128) -> Result<(), AllocError>
+    ensures { IfOk result (λ _. out.new.items ≡ out.old.items
+        ++ element_text (Line class.now x 28 x sheet.now.bottom)) }
+{
+    let area = Area {
+        x,
+        y: 28,
+        across: x,
+        down: sheet.bottom,
+    };
+    push_line(out, class, area)
+}
+
+/// Appends a number as a text.
+fn push_number(alloc: Global, out: &mut Vec<u8>, x: u128, n: u64) -> Result<(), AllocError>
+    ensures { IfOk result (λ _. out.new.items ≡ out.old.items
+        ++ element_text (Text (codes "m") x 22 (decimal n))) }
+{
+    let mut number = Vec::new(alloc);
+    push_decimal(&mut number, u128::from(n))?;
+    push_text(out, b"m", Spot { x, y: 22 }, number.as_slice())
+}
+
+/// Appends a round tick: a line down the sheet and its number above.
+#[tactic(auto, unfolding(crate::specs::Drawing::mark, crate::specs::Element::elements_text))]
+fn push_mark(alloc: Global, out: &mut Vec<u8>, sheet: &Sheet, tick: u64) -> Result<(), AllocError>
+    requires { IsSheet sheet.now }
+    ensures { IfOk result (λ _. out.new.items ≡ out.old.items
+        ++ elements_text (spec.mark sheet.now tick)) }
+{
+    let x = across(sheet, tick);
+    push_down(out, b"g", sheet, x)?;
+    push_number(alloc, out, x, tick)
+}
+
+/// Appends round ticks.
+fn push_grid(
+    alloc: Global,
+    out: &mut Vec<u8>,
+    sheet: &Sheet,
+    ticks: &[u64],
+) -> Result<(), AllocError>
+    requires { IsSheet sheet.now }
+    ensures { IfOk result (λ _. out.new.items ≡ out.old.items
+        ++ elements_text (spec.grid sheet.now ticks.now)) }
+{
+    let mut rest = ticks;
+    'ticks: while let [tick, after @ ..] = rest {
+        push_mark(alloc, out, sheet, *tick)?;
+        rest = after;
+    }
+    Ok(())
+}
+
+/// Appends a line in a row.
+fn push_along(out: &mut Vec<u8>, class: &[u8], room: Room, y: u128) -> Result<(), AllocError>
+    requires { y < 2 ^ 70 }
+    ensures { IfOk result (λ _. out.new.items ≡ out.old.items
+        ++ element_text (Line class.now room.left (y + 8) (room.left + room.width) (y + 8))) }
+{
+    let area = Area {
+        x: u128::from(room.left),
+        y: y + 8,
+        across: u128::from(room.left) + u128::from(room.width),
+        down: y + 8,
+    };
+    push_line(out, class, area)
+}
+
+/// Appends a tick of its own: a line in its row and one down the sheet.
+#[tactic(auto, unfolding(crate::specs::Element::elements_text))]
+fn push_upright(
+    out: &mut Vec<u8>,
+    class: &[u8],
+    sheet: &Sheet,
+    y: u128,
+    tick: u64,
+) -> Result<(), AllocError>
+    requires sheet { IsSheet sheet.now }
+    requires low { y < 2 ^ 70 }
+    ensures { IfOk result (λ _. out.new.items ≡ out.old.items
+        ++ elements_text (spec.upright class.now sheet.now y tick)) }
+{
+    push_along(out, class, sheet.room, y)?;
+    push_down(out, class, sheet, across(sheet, tick))
+}
+
+/// A bar in the row at y from one place to another, at least so wide.
+fn bar(y: u128, least: u128, from: u128, to: u128) -> Area
+    requires { y < 2 ^ 70 }
+    ensures { result ≡ record { x = from; y = y + 3; across = max least (to - from); down = 10 } }
+{
+    Area {
+        x: from,
+        y: y + 3,
+        across: least.max(to.saturating_sub(from)),
+        down: 10,
+    }
+}
+
+/// Appends the bars of an entry in the row at y.
+#[tactic(auto, unfolding(crate::specs::Drawing::bars, crate::specs::Element::elements_text))]
+fn push_bars(out: &mut Vec<u8>, sheet: &Sheet, y: u128, entry: Entry) -> Result<(), AllocError>
+    requires sheet { IsSheet sheet.now }
+    requires low { y < 2 ^ 70 }
+    ensures { IfOk result (λ _. out.new.items ≡ out.old.items
+        ++ elements_text (spec.bars sheet.now y entry)) }
+{
+    match entry {
+        Entry::Done {
+            prepared,
+            ready,
+            complete,
+            ..
+        } => {
+            let middle = across(sheet, ready);
+            push_box(out, b"w", bar(y, 0, across(sheet, prepared), middle))?;
+            push_box(out, b"e", bar(y, 1, middle, across(sheet, complete)))
+        }
+        Entry::Dropped { prepared, end, .. } => {
+            push_box(
+                out,
+                b"d",
+                bar(y, 1, across(sheet, prepared), across(sheet, end)),
+            )
+        }
+        Entry::Taken { tick, .. } => push_upright(out, b"i", sheet, y, tick),
+        Entry::Shown { tick } => push_upright(out, b"s", sheet, y, tick),
+    }
+}
+
+/// Appends what stands in front of an entry's bars.
+#[tactic(auto, unfolding(crate::specs::Drawing::caption, crate::specs::Element::elements_text))]
+fn push_caption(
+    alloc: Global,
+    out: &mut Vec<u8>,
+    report: &[u8],
+    y: u128,
+    entry: Entry,
+) -> Result<(), AllocError>
+    requires { y < 2 ^ 70 }
+    ensures { IfOk result (λ _. out.new.items ≡ out.old.items
+        ++ elements_text (spec.caption report.now y entry)) }
+{
+    let first = first_text(alloc, entry)?;
+    let second = second_text(alloc, entry)?;
+    let y = y + 12;
+    push_text(out, b"n", Spot { x: 48, y }, first.as_slice())?;
+    push_text(out, b"n", Spot { x: 110, y }, second.as_slice())?;
+    push_text(out, b"c", Spot { x: 120, y }, third_text(report, entry))
+}
+
+/// Appends the row of an entry at y.
+#[tactic(auto, unfolding(crate::specs::Drawing::row), using(crate::proofs::Elements::elements_joined))]
+fn push_row(
+    alloc: Global,
+    out: &mut Vec<u8>,
+    sheet: &Sheet,
+    report: &[u8],
+    row: Row,
+) -> Result<(), AllocError>
+    requires sheet { IsSheet sheet.now }
+    requires low { row.y < 2 ^ 70 }
+    ensures { IfOk result (λ _. out.new.items ≡ out.old.items
+        ++ elements_text (spec.row sheet.now report.now row.y row.entry)) }
+{
+    push_caption(alloc, out, report, row.y, row.entry)?;
+    push_bars(out, sheet, row.y, row.entry)
+}
+
+/// Appends the rows of entries, one below the other.
+fn push_rows(
+    alloc: Global,
+    out: &mut Vec<u8>,
+    sheet: &Sheet,
+    report: &[u8],
+    entries: &[Entry],
+) -> Result<(), AllocError>
+    requires { IsSheet sheet.now }
+    ensures { IfOk result (λ _. out.new.items ≡ out.old.items
+        ++ elements_text (spec.rows sheet.now report.now 36 entries.now)) }
+{
+    let mut y = 36;
+    let mut rest = entries;
+    'entries: while let [entry, after @ ..] = rest {
+        push_row(alloc, out, sheet, report, Row { y, entry: *entry })?;
+        y += 16;
+        rest = after;
+    }
+    Ok(())
+}
+
+/// Appends what an element of the legend means, that stands at (x, y).
+fn push_meaning(out: &mut Vec<u8>, x: u16, y: u128, meaning: &[u8]) -> Result<(), AllocError>
+    requires { y < 2 ^ 71 }
+    ensures { IfOk result (λ _. out.new.items ≡ out.old.items
+        ++ element_text (Text (codes "c") (x + 26) (y + 9) meaning.now)) }
+{
+    let spot = Spot {
+        x: u128::from(x) + 26,
+        y: y + 9,
+    };
+    push_text(out, b"c", spot, meaning)
+}
+
+/// Appends what a box of the legend means.
+#[tactic(auto, unfolding(crate::specs::Drawing::box_key, crate::specs::Element::elements_text))]
+fn push_box_key(
+    out: &mut Vec<u8>,
+    class: &[u8],
+    x: u16,
+    y: u128,
+    meaning: &[u8],
+) -> Result<(), AllocError>
+    requires { y < 2 ^ 71 }
+    ensures { IfOk result (λ _. out.new.items ≡ out.old.items
+        ++ elements_text (spec.box_key class.now x y meaning.now)) }
+{
+    let area = Area {
+        x: u128::from(x),
+        y,
+        across: 20,
+        down: 10,
+    };
+    push_box(out, class, area)?;
+    push_meaning(out, x, y, meaning)
+}
+
+/// Appends what a line of the legend means.
+#[tactic(auto, unfolding(crate::specs::Drawing::line_key, crate::specs::Element::elements_text))]
+fn push_line_key(
+    out: &mut Vec<u8>,
+    class: &[u8],
+    x: u16,
+    y: u128,
+    meaning: &[u8],
+) -> Result<(), AllocError>
+    requires { y < 2 ^ 71 }
+    ensures { IfOk result (λ _. out.new.items ≡ out.old.items
+        ++ elements_text (spec.line_key class.now x y meaning.now)) }
+{
+    let area = Area {
+        x: u128::from(x),
+        y: y + 5,
+        across: u128::from(x) + 20,
+        down: y + 5,
+    };
+    push_line(out, class, area)?;
+    push_meaning(out, x, y, meaning)
+}
+
+/// Appends what the boxes mean.
+#[tactic(auto, unfolding(crate::specs::Drawing::box_keys), using(crate::proofs::Elements::elements_joined))]
+fn push_box_keys(out: &mut Vec<u8>, y: u128) -> Result<(), AllocError>
+    requires { y < 2 ^ 71 }
+    ensures { IfOk result (λ _. out.new.items ≡ out.old.items ++ elements_text (spec.box_keys y)) }
+{
+    push_box_key(out, b"w", 12, y, b"waiting")?;
+    push_box_key(out, b"e", 112, y, b"executing")?;
+    push_box_key(out, b"d", 226, y, b"dropped")
+}
+
+/// Appends what the lines mean.
+#[tactic(auto, unfolding(crate::specs::Drawing::line_keys), using(crate::proofs::Elements::elements_joined))]
+fn push_line_keys(out: &mut Vec<u8>, y: u128) -> Result<(), AllocError>
+    requires { y < 2 ^ 71 }
+    ensures { IfOk result (λ _. out.new.items ≡ out.old.items
+        ++ elements_text (spec.line_keys y)) }
+{
+    push_line_key(out, b"i", 326, y, b"interrupt")?;
+    push_line_key(out, b"s", 440, y, b"snapshot")
+}
+
+/// Appends the legend.
+#[tactic(auto, unfolding(crate::specs::Drawing::legend), using(crate::proofs::Elements::elements_joined))]
+fn push_legend(out: &mut Vec<u8>, y: u128) -> Result<(), AllocError>
+    requires { y < 2 ^ 71 }
+    ensures { IfOk result (λ _. out.new.items ≡ out.old.items ++ elements_text (spec.legend y)) }
+{
+    push_box_keys(out, y)?;
+    push_line_keys(out, y)
+}
+
+/// How many rows are shown, and how many follow.
+#[tactic(auto, unfolding(crate::specs::Drawing::remark))]
+pub fn remark(alloc: Global, shown: u64, later: u64) -> Result<Vec<u8>, AllocError>
+    ensures { IfOk result (λ text. text.items ≡ spec.remark shown later) }
+{
+    let mut text = Vec::new(alloc);
+    push_decimal(&mut text, u128::from(shown))?;
+    text.extend_from_slice(b" rows, ")?;
+    push_decimal(&mut text, u128::from(later))?;
+    text.extend_from_slice(b" follow")?;
+    Ok(text)
+}
+
+/// Appends the ground of the picture, and what is said where there is no entry.
+#[tactic(auto, unfolding(crate::specs::Drawing::ground, crate::specs::Drawing::notice, crate::specs::Element::elements_text))]
+fn push_ground(out: &mut Vec<u8>, height: u128, entries: &[Entry]) -> Result<(), AllocError>
+    ensures { IfOk result (λ _. out.new.items ≡ out.old.items
+        ++ elements_text (spec.ground height entries.now)) }
+{
+    let area = Area {
+        x: 0,
+        y: 0,
+        across: 640,
+        down: height,
+    };
+    push_box(out, b"p", area)?;
+    if entries.is_empty() {
+        push_text(out, b"c", Spot { x: 12, y: 20 }, b"no rows")?;
+    }
+    Ok(())
+}
+
+/// Appends the axis and the rows.
+#[tactic(auto, unfolding(crate::specs::Drawing::chart), using(crate::proofs::Elements::elements_joined))]
+fn push_chart(
+    alloc: Global,
+    out: &mut Vec<u8>,
+    sheet: &Sheet,
+    report: &[u8],
+    entries: &[Entry],
+) -> Result<(), AllocError>
+    requires { IsSheet sheet.now }
+    ensures { IfOk result (λ _. out.new.items ≡ out.old.items
+        ++ elements_text (spec.chart sheet.now report.now entries.now)) }
+{
+    let marks = marks_of(alloc, sheet.axis)?;
+    push_grid(alloc, out, sheet, marks.as_slice())?;
+    push_rows(alloc, out, sheet, report, entries)
+}
+
+/// Appends the legend and the remark under it.
+#[tactic(auto, unfolding(crate::specs::Drawing::foot), using(crate::proofs::Elements::elements_joined, crate::proofs::Elements::elements_one, crate::proofs::Elements::elements_none))]
+fn push_foot(out: &mut Vec<u8>, bottom: u128, remark: &[u8]) -> Result<(), AllocError>
+    requires { bottom < 2 ^ 70 }
+    ensures { IfOk result (λ _. out.new.items ≡ out.old.items
+        ++ elements_text (spec.foot bottom remark.now)) }
+{
+    push_legend(out, bottom + 8)?;
+    let spot = Spot {
+        x: 12,
+        y: bottom + 38,
+    };
+    push_text(out, b"c", spot, remark)
+}
+
+/// Appends the front of a picture of a height.
+#[tactic(auto, unfolding(crate::specs::Drawing::opening))]
+fn push_opening(out: &mut Vec<u8>, height: u128) -> Result<(), AllocError>
+    ensures { IfOk result (λ _. out.new.items ≡ out.old.items ++ spec.opening height) }
+{
+    out.extend_from_slice(preamble())?;
+    push_decimal(out, height)?;
+    out.extend_from_slice(styles())
+}
+
+/// Draws entries: `shown` of them are rows, and `later` rows follow.
+#[tactic(auto, unfolding(crate::specs::Drawing::svg, crate::specs::Drawing::drawing), using(crate::proofs::Elements::elements_joined))]
+pub fn draw_svg(
+    alloc: Global,
+    report: &[u8],
+    entries: &[Entry],
+    shown: u64,
+    later: u64,
+) -> Result<Vec<u8>, AllocError>
+    ensures { IfOk result (λ out. out.items ≡ spec.svg report.now entries.now shown later) }
+{
+    let sheet = sheet_of(report, entries);
+    let remark = remark(alloc, shown, later)?;
+    let mut out = Vec::new(alloc);
+    push_opening(&mut out, sheet.bottom + 44)?;
+    push_ground(&mut out, sheet.bottom + 44, entries)?;
+    push_chart(alloc, &mut out, &sheet, report, entries)?;
+    push_foot(&mut out, sheet.bottom, remark.as_slice())?;
+    out.extend_from_slice(b"</svg>\n")?;
+    Ok(out)
+}

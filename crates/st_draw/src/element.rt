@@ -1,0 +1,130 @@
+//! The elements of a picture.
+ghost use Rattle.std.specs.Prelude.{◌≡◌, ◌++◌, IfOk, codes, decimal};
+ghost use Rattle.st_draw.specs.Element.{attribute, front, corner, size, ends, content, element_text, Box, Line, Text};
+
+use crate::escape::push_escaped;
+use itoa::Buffer;
+use std::alloc::AllocError;
+
+/// Where an element stands, and how far it reaches, or where a line ends.
+#[derive(Clone, Copy, Debug, PartialEq, Eq)]
+pub struct Area {
+    /// The left edge.
+    pub x: u128,
+    /// The upper edge.
+    pub y: u128,
+    /// The width, or the right end of a line.
+    pub across: u128,
+    /// The height, or the lower end of a line.
+    pub down: u128,
+}
+
+/// Where a text stands: one of its ends or its middle, and the line under it.
+#[derive(Clone, Copy, Debug, PartialEq, Eq)]
+pub struct Spot {
+    pub x: u128,
+    pub y: u128,
+}
+
+/// Appends a number in decimal digits.
+pub fn push_decimal(out: &mut Vec<u8>, n: u128) -> Result<(), AllocError>
+    ensures { IfOk result (λ _. out.new.items ≡ out.old.items ++ decimal n) }
+{
+    out.extend_from_slice(Buffer::new().format(n).as_bytes())
+}
+
+/// Appends a number as the value of an attribute.
+#[tactic(auto, unfolding(crate::specs::Element::attribute))]
+fn push_attribute(out: &mut Vec<u8>, name: &[u8], n: u128) -> Result<(), AllocError>
+    ensures { IfOk result (λ _. out.new.items ≡ out.old.items ++ attribute name.now n) }
+{
+    out.extend_from_slice(name)?;
+    out.extend_from_slice(b"=\"")?;
+    push_decimal(out, n)?;
+    out.extend_from_slice(b"\"")
+}
+
+/// Appends the front of an element, with its class.
+#[tactic(auto, unfolding(crate::specs::Element::front))]
+fn push_front(out: &mut Vec<u8>, name: &[u8], class: &[u8]) -> Result<(), AllocError>
+    ensures { IfOk result (λ _. out.new.items ≡ out.old.items ++ front name.now class.now) }
+{
+    out.extend_from_slice(name)?;
+    out.extend_from_slice(b" class=\"")?;
+    out.extend_from_slice(class)?;
+    out.extend_from_slice(b"\"")
+}
+
+/// Appends where an element stands.
+#[tactic(auto, unfolding(crate::specs::Element::corner))]
+fn push_corner(out: &mut Vec<u8>, x: u128, y: u128) -> Result<(), AllocError>
+    ensures { IfOk result (λ _. out.new.items ≡ out.old.items ++ corner x y) }
+{
+    push_attribute(out, b" x", x)?;
+    push_attribute(out, b" y", y)
+}
+
+/// Appends how far a box reaches.
+#[tactic(auto, unfolding(crate::specs::Element::size))]
+fn push_size(out: &mut Vec<u8>, width: u128, height: u128) -> Result<(), AllocError>
+    ensures { IfOk result (λ _. out.new.items ≡ out.old.items ++ size width height) }
+{
+    push_attribute(out, b" width", width)?;
+    push_attribute(out, b" height", height)
+}
+
+/// Appends where a line begins and ends.
+#[tactic(auto, unfolding(crate::specs::Element::ends))]
+fn push_ends(out: &mut Vec<u8>, area: Area) -> Result<(), AllocError>
+    ensures { IfOk result (λ _. out.new.items ≡ out.old.items
+        ++ ends area.x area.y area.across area.down) }
+{
+    push_attribute(out, b" x1", area.x)?;
+    push_attribute(out, b" y1", area.y)?;
+    push_attribute(out, b" x2", area.across)?;
+    push_attribute(out, b" y2", area.down)
+}
+
+/// Appends what a text says, and its end.
+#[tactic(auto, unfolding(crate::specs::Element::content))]
+fn push_content(out: &mut Vec<u8>, text: &[u8]) -> Result<(), AllocError>
+    ensures { IfOk result (λ _. out.new.items ≡ out.old.items ++ content text.now) }
+{
+    out.extend_from_slice(b">")?;
+    push_escaped(out, text)?;
+    out.extend_from_slice(b"</text>\n")
+}
+
+/// Appends a box.
+#[tactic(auto, unfolding(crate::specs::Element::element_text))]
+pub fn push_box(out: &mut Vec<u8>, class: &[u8], area: Area) -> Result<(), AllocError>
+    ensures { IfOk result (λ _. out.new.items ≡ out.old.items
+        ++ element_text (Box class.now area.x area.y area.across area.down)) }
+{
+    push_front(out, b"<rect", class)?;
+    push_corner(out, area.x, area.y)?;
+    push_size(out, area.across, area.down)?;
+    out.extend_from_slice(b"/>\n")
+}
+
+/// Appends a line.
+#[tactic(auto, unfolding(crate::specs::Element::element_text))]
+pub fn push_line(out: &mut Vec<u8>, class: &[u8], area: Area) -> Result<(), AllocError>
+    ensures { IfOk result (λ _. out.new.items ≡ out.old.items
+        ++ element_text (Line class.now area.x area.y area.across area.down)) }
+{
+    push_front(out, b"<line", class)?;
+    push_ends(out, area)?;
+    out.extend_from_slice(b"/>\n")
+}
+
+/// Appends a text, whose left end, right end or middle stands at x by its class.
+#[tactic(auto, unfolding(crate::specs::Element::element_text))]
+pub fn push_text(out: &mut Vec<u8>, class: &[u8], spot: Spot, text: &[u8]) -> Result<(), AllocError>
+    ensures { IfOk result (λ _. out.new.items ≡ out.old.items
+        ++ element_text (Text class.now spot.x spot.y text.now)) }
+{
+    push_front(out, b"<text", class)?;
+    push_corner(out, spot.x, spot.y)?;
+    push_content(out, text)
+}

@@ -1,0 +1,30 @@
+//! Text as it may stand between the elements of a picture.
+ghost use Rattle.std.specs.Prelude.{◌≡◌, ◌++◌, IfOk};
+ghost use Rattle.st_draw.specs.Escape as spec;
+
+use std::alloc::AllocError;
+
+/// Appends a byte as it may stand there.
+fn push_escaped_byte(out: &mut Vec<u8>, byte: u8) -> Result<(), AllocError>
+    ensures { IfOk result (λ _. out.new.items ≡ out.old.items ++ spec.escaped_byte byte) }
+{
+    match byte {
+        b'<' => out.extend_from_slice(b"&lt;"),
+        b'>' => out.extend_from_slice(b"&gt;"),
+        b'&' => out.extend_from_slice(b"&amp;"),
+        b' '..=b'~' => out.extend_from_slice(&[byte]),
+        _ => out.extend_from_slice(b"?"),
+    }
+}
+
+/// Appends a text as it may stand there.
+pub fn push_escaped(out: &mut Vec<u8>, text: &[u8]) -> Result<(), AllocError>
+    ensures { IfOk result (λ _. out.new.items ≡ out.old.items ++ spec.escaped text.now) }
+{
+    let mut rest = text;
+    'bytes: while let [byte, after @ ..] = rest {
+        push_escaped_byte(out, *byte)?;
+        rest = after;
+    }
+    Ok(())
+}

@@ -1,0 +1,88 @@
+//! The words of a command line.
+ghost use Rattle.std.specs.Prelude.{◌≡◌, map};
+ghost use Rattle.std.specs.String.{string_bytes};
+ghost use Rattle.st_draw.specs.Words as spec;
+
+use crate::report::number;
+use crate::timetable::Part;
+
+/// A kind of picture.
+#[derive(Clone, Copy, Debug, PartialEq, Eq)]
+pub enum Kind {
+    /// A picture for a browser.
+    Svg,
+    /// Lines for a terminal.
+    Text,
+}
+
+/// What is to be drawn.
+#[derive(Clone, Copy, Debug, PartialEq, Eq)]
+pub struct Choice {
+    pub kind: Kind,
+    pub part: Part,
+}
+
+/// The rows that are drawn where no word names them.
+const FIRST_PART: Part = Part { from: 1, to: 200 };
+
+/// The kind of picture that a word is.
+fn kind_named(word: &str) -> Option<Kind>
+    ensures { result ≡ spec.kind_named word.now }
+{
+    match word {
+        "svg" => Some(Kind::Svg),
+        "text" => Some(Kind::Text),
+        _ => None,
+    }
+}
+
+/// The part from a row to a row: at least one row, and at most 200.
+fn part_between(from: u64, to: u64) -> Option<Part>
+    ensures { result ≡ spec.part_between from to }
+{
+    if from < 1 || to < from {
+        return None;
+    }
+    Some(Part {
+        from,
+        to: to.min(from.saturating_add(199)),
+    })
+}
+
+/// The part that two words name.
+#[tactic(auto, unfolding(crate::specs::Words::part_named))]
+fn part_named(from: &str, to: &str) -> Option<Part>
+    ensures { result ≡ spec.part_named from.now to.now }
+{
+    let from = number(from.as_bytes())?;
+    let to = number(to.as_bytes())?;
+    part_between(from, to)
+}
+
+/// The picture that a word and two more ask for.
+fn chosen(word: &str, from: &str, to: &str) -> Option<Choice>
+    ensures { result ≡ spec.chosen word.now from.now to.now }
+{
+    let kind = kind_named(word)?;
+    let part = part_named(from, to)?;
+    Some(Choice { kind, part })
+}
+
+/// What the words ask for; None where they mean nothing.
+#[tactic(auto, unfolding(crate::specs::Words::choice_of))]
+pub fn read_words(words: &[String]) -> Option<Choice>
+    ensures { result ≡ spec.choice_of (map string_bytes words.now) }
+{
+    match words {
+        [] => Some(Choice {
+            kind: Kind::Svg,
+            part: FIRST_PART,
+        }),
+        [word] => Some(Choice {
+            kind: kind_named(word.as_str())?,
+            part: FIRST_PART,
+        }),
+        [word, from, to] => chosen(word.as_str(), from.as_str(), to.as_str()),
+        _ => None,
+    }
+}

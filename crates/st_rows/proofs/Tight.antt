@@ -1,0 +1,256 @@
+-- The ticks of a front stay close together from entry to entry.
+use Rattle.std.specs.Prelude.{if◌then◌else◌, nat_lt, Bool}
+use Rattle.std.proofs.Common.{ℕ, zero, suc, ◌+◌, ◌*◌, ◌<◌, ◌≤◌, max, true, false, List, take, Option, None, Some, arith}
+use Rattle.std.proofs.Math.Nat.{max-le}
+use Rattle.std.proofs.lemmas.List.Elements.{All-cons, All-set, All-take, All-weaker}
+use Rattle.st_bits.specs.Storage.{words_of_storage}
+use Rattle.st_banks.specs.Bank.{bank_of}
+use Rattle.st_fetch.specs.Planned.{tick_of}
+use Rattle.st_fetch.specs.declared.fetched.Fetched.{Fetched}
+use Rattle.st_rows.specs.BusTimes.{accept_at, answer_at, after_read, requested_if, answer_if, requested, answer_of}
+use Rattle.st_rows.specs.Entries.{latest_done}
+use Rattle.st_rows.specs.Ranges.{AreDelays, IsNear, IsTight, IsEntry}
+use Rattle.st_rows.specs.Rows.{fetch_word, fetch_words, wanted_from, fetched, addressed, is_forwarded, bus_sided, side_there, prepared, read_word, read_words, operands_read, request_inside, bus_followed, tick_a, bus_a, tick_y, tick_p, operands, tick_c, after}
+use Rattle.st_rows.specs.declared.bus.Bus.{Bus}
+use Rattle.st_rows.specs.declared.entry.Entry.{Entry}
+use Rattle.st_rows.specs.declared.past.Past.{Past}
+use Rattle.st_rows.specs.declared.fetching.Fetching.{Fetching}
+use Rattle.st_rows.specs.declared.reading.Reading.{Reading}
+use Rattle.st_rows.specs.declared.front.Front.{Front}
+use Rattle.st_rows.proofs.Within.{at-within, delay-bounds, past-weaker}
+
+module _ (most : ℕ) (ds : List ℕ) (are : AreDelays most ds) where
+  -- ---- one read
+
+  -- it is accepted when the bus is free and when it is wanted, and soon after both
+  pub accept-bounds : (b : Bus) (w want : ℕ) → IsNear most b
+      → (b.free ≤ accept_at b w want) × (want ≤ accept_at b w want) × (accept_at b w want ≤ max (b.free + most) want)
+  accept-bounds b w want is =
+      let bank = at-within (b.free + most) b.banks.ticks (bank_of w) is.banks in
+      (omega arith, omega arith, max-le (max-le (omega arith) (omega arith)) (omega arith))
+
+  -- the bus is free before the answer
+  pub free-answer : (b : Bus) (w want : ℕ) → (after_read ds b w want).free ≤ answer_at ds b w want
+  unfolding after_read
+  free-answer b w want = omega (arith, delay-bounds most ds (accept_at b w want) are)
+
+  pub free-later : (b : Bus) (w want : ℕ) → b.free < (after_read ds b w want).free
+  unfolding after_read
+  free-later b w want = omega arith
+
+  pub near-read : (b : Bus) (w want : ℕ) → IsNear most b → IsNear most (after_read ds b w want)
+  unfolding after_read
+  near-read b w want is =
+      let later : b.free ≤ accept_at b w want = omega arith in
+      let known = delay-bounds most ds (accept_at b w want) are in
+      record {
+        banks = All-set (λ t. t ≤ accept_at b w want + 1 + most) b.banks.ticks (bank_of w) _ (omega arith)
+            (All-weaker (λ t. t ≤ b.free + most) (λ t. t ≤ accept_at b w want + 1 + most) (λ t low. omega arith) b.banks.ticks is.banks);
+        held = All-weaker (λ (h : Fetched). h.tick ≤ b.free + most) (λ (h : Fetched). h.tick ≤ accept_at b w want + 1 + most) (λ h low. omega arith) b.held.words is.held;
+      }
+
+  -- ---- an instruction word
+
+  near-requested_if : (o : Option ℕ) (b : Bus) (w want : ℕ) → IsNear most b → IsNear most (requested_if o ds b w want)
+  unfolding after_read
+  near-requested_if (Some t) b w want is = is
+  near-requested_if None b w want is =
+      let made = near-read b w want is in
+      let known = delay-bounds most ds (accept_at b w want) are in
+      record {
+        banks = made.banks;
+        held = All-cons (λ (h : Fetched). h.tick ≤ accept_at b w want + 1 + most) _ (take 3 b.held.words) (omega arith)
+            (All-take (λ (h : Fetched). h.tick ≤ accept_at b w want + 1 + most) 3 b.held.words made.held);
+      }
+
+  free-requested_if : (o : Option ℕ) (b : Bus) (w want : ℕ) → (requested_if o ds b w want).free ≤ max b.free (answer_if o ds b w want)
+  free-requested_if (Some t) b w want = omega arith
+  free-requested_if None b w want = omega (arith, free-answer b w want)
+
+  soon-requested_if : (o : Option ℕ) (b : Bus) (w want : ℕ) → IsNear most b → (requested_if o ds b w want).free ≤ max (b.free + most) want + 1
+  unfolding after_read
+  soon-requested_if (Some t) b w want is = omega arith
+  soon-requested_if None b w want is = omega (arith, (accept-bounds b w want is).2)
+
+  pub near-requested : (b : Bus) (w want : ℕ) → IsNear most b → IsNear most (requested ds b w want)
+  unfolding requested
+  near-requested b w want is = near-requested_if (tick_of b.held.words w) b w want is
+
+  pub free-requested : (b : Bus) (w want : ℕ) → (requested ds b w want).free ≤ max b.free (answer_of ds b w want)
+  unfolding requested answer_of
+  free-requested b w want = free-requested_if (tick_of b.held.words w) b w want
+
+  pub soon-requested : (b : Bus) (w want : ℕ) → IsNear most b → (requested ds b w want).free ≤ max (b.free + most) want + 1
+  unfolding requested
+  soon-requested b w want is = soon-requested_if (tick_of b.held.words w) b w want is
+
+  -- ---- the instruction words of an entry, behind a bus that is free at the tick `free`
+
+  module _ (past : List Past) (from : ℕ) where
+    pub near-fetch : (s : Fetching) (w n : ℕ) → IsNear most s.bus → IsNear most (fetch_words ds past s from w n).bus
+    unfolding fetch_word fetch_words
+    near-fetch s w zero is = is
+    near-fetch s w (suc n) is = near-fetch (fetch_word ds past s w from) (w + 1) n (near-requested s.bus w _ is)
+
+    pub free-fetch : (free : ℕ) (s : Fetching) (w n : ℕ) → s.bus.free ≤ max free s.answered
+        → (fetch_words ds past s from w n).bus.free ≤ max free (fetch_words ds past s from w n).answered
+    unfolding fetch_word fetch_words
+    free-fetch free s w zero is = is
+    free-fetch free s w (suc n) is =
+        let want = max (max from s.answered) s.awaited in
+        let one = free-requested s.bus w want in
+        free-fetch free (fetch_word ds past s w from) (w + 1) n (omega arith)
+
+  -- ---- operands
+
+  near-read_if : (late : Bool) (past : List Past) (s : Reading) (w p : ℕ) → IsNear most s.bus
+      → IsNear most (if late then s else record { bus = after_read ds s.bus w p; answered = max s.answered (answer_at ds s.bus w p) }).bus
+  near-read_if true past s w p is = is
+  near-read_if false past s w p is = near-read s.bus w p is
+
+  free-read_if : (late : Bool) (past : List Past) (s : Reading) (w p : ℕ) → s.bus.free ≤ s.answered
+      → (if late then s else record { bus = after_read ds s.bus w p; answered = max s.answered (answer_at ds s.bus w p) }).bus.free
+      ≤ (if late then s else record { bus = after_read ds s.bus w p; answered = max s.answered (answer_at ds s.bus w p) }).answered
+  free-read_if true past s w p is = is
+  free-read_if false past s w p is = omega (arith, free-answer s.bus w p)
+
+  later-read_if : (late : Bool) (past : List Past) (s : Reading) (w p : ℕ)
+      → s.answered ≤ (if late then s else record { bus = after_read ds s.bus w p; answered = max s.answered (answer_at ds s.bus w p) }).answered
+  later-read_if true past s w p = omega arith
+  later-read_if false past s w p = omega arith
+
+  module _ (past : List Past) (p : ℕ) where
+    pub near-reads : (s : Reading) (w n : ℕ) → IsNear most s.bus → IsNear most (read_words ds past s p w n).bus
+    unfolding read_word read_words
+    near-reads s w zero is = is
+    near-reads s w (suc n) is = near-reads (read_word ds past s w p) (w + 1) n (near-read_if (is_forwarded past w p) past s w p is)
+
+    pub free-reads : (s : Reading) (w n : ℕ) → s.bus.free ≤ s.answered
+        → (read_words ds past s p w n).bus.free ≤ (read_words ds past s p w n).answered
+    unfolding read_word read_words
+    free-reads s w zero is = is
+    free-reads s w (suc n) is = free-reads (read_word ds past s w p) (w + 1) n (free-read_if (is_forwarded past w p) past s w p is)
+
+    pub later-reads : (s : Reading) (w n : ℕ) → s.answered ≤ (read_words ds past s p w n).answered
+    unfolding read_word read_words
+    later-reads s w zero = omega arith
+    later-reads s w (suc n) =
+        let rest = later-reads (read_word ds past s w p) (w + 1) n in
+        omega (arith, rest, later-read_if (is_forwarded past w p) past s w p)
+
+  -- ---- the index-side word
+
+  near-side_if : (late : Bool) (b : Bus) (w a : ℕ) → IsNear most b → IsNear most (if late then b else after_read ds b w a)
+  near-side_if true b w a is = is
+  near-side_if false b w a is = near-read b w a is
+
+  pub near-sided : (past : List Past) (b : Bus) (side : Option ℕ) (a : ℕ) → IsNear most b → IsNear most (bus_sided ds past b side a)
+  unfolding bus_sided
+  near-sided past b None a is = is
+  near-sided past b (Some w) a is = near-side_if (is_forwarded past w a) b w a is
+
+  free-side_if : (late : Bool) (b : Bus) (w a done : ℕ) → b.free ≤ a
+      → (if late then b else after_read ds b w a).free ≤ max a (if late then done else answer_at ds b w a)
+  free-side_if true b w a done is = omega arith
+  free-side_if false b w a done is = omega (arith, free-answer b w a)
+
+  pub free-sided : (past : List Past) (b : Bus) (side : Option ℕ) (a : ℕ) → b.free ≤ a
+      → (bus_sided ds past b side a).free ≤ max a (side_there ds past b side a)
+  unfolding bus_sided side_there
+  free-sided past b None a is = omega arith
+  free-sided past b (Some w) a is = free-side_if (is_forwarded past w a) b w a (latest_done past w) is
+
+  -- ---- following words, of which each is wanted by the tick c at the latest
+
+  near-inside_if : (inside : Bool) (b : Bus) (w p : ℕ) → IsNear most b → IsNear most (if inside then requested ds b w p else b)
+  near-inside_if true b w p is = near-requested b w p is
+  near-inside_if false b w p is = is
+
+  soon-inside_if : (inside : Bool) (b : Bus) (w p c : ℕ) → IsNear most b → p ≤ c → b.free ≤ c
+      → (if inside then requested ds b w p else b).free ≤ c + most + 1
+  soon-inside_if true b w p c is early free = omega (arith, soon-requested b w p is)
+  soon-inside_if false b w p c is early free = omega arith
+
+  near-follow_if : (follows : Bool) (b : Bus) (w p : ℕ) → IsNear most b
+      → IsNear most (if follows then request_inside ds (request_inside ds b w p) (w + 1) p else b)
+  near-follow_if false b w p is = is
+  near-follow_if true b w p is =
+      near-inside_if (nat_lt (w + 1) words_of_storage) (request_inside ds b w p) (w + 1) p (near-inside_if (nat_lt w words_of_storage) b w p is)
+
+  soon-follow_if : (follows : Bool) (b : Bus) (w p c : ℕ) → IsNear most b → p ≤ c → b.free ≤ c
+      → (if follows then request_inside ds (request_inside ds b w p) (w + 1) p else b).free ≤ c + 2 * most + 2
+  soon-follow_if false b w p c is early free = omega arith
+  soon-follow_if true b w p c is early free =
+      let one = soon-inside_if (nat_lt w words_of_storage) b w p c is early free in
+      let near = near-inside_if (nat_lt w words_of_storage) b w p is in
+      let two = soon-inside_if (nat_lt (w + 1) words_of_storage) (request_inside ds b w p) (w + 1) p (c + most + 1) near (omega arith) one in
+      omega arith
+
+  -- ---- the whole
+
+  module _ (n : ℕ) (f : Front) (e : Entry) (entry : IsEntry e) (tight : IsTight most f) where
+    near-fetched : IsNear most (fetched ds f e).bus
+    unfolding fetched
+    near-fetched = near-fetch f.past (max (wanted_from f) f.c) _ e.target.first e.target.len (near-fetch f.past (wanted_from f) _ e.own.first e.own.len tight.near)
+
+    free-fetched : (fetched ds f e).bus.free ≤ max f.bus.free (fetched ds f e).answered
+    unfolding fetched
+    free-fetched =
+        free-fetch f.past (max (wanted_from f) f.c) f.bus.free _ e.target.first e.target.len
+        (free-fetch f.past (wanted_from f) f.bus.free _ e.own.first e.own.len (omega arith))
+
+    pub free-a : (fetched ds f e).bus.free ≤ tick_a ds f e
+    unfolding tick_a addressed
+    free-a = omega (arith, free-fetched)
+
+    pub free-bus_a : (bus_a ds f e).free ≤ max (tick_a ds f e) (tick_y ds f e)
+    unfolding bus_a tick_y
+    free-bus_a = free-sided f.past (fetched ds f e).bus e.side (tick_a ds f e) free-a
+
+    pub near-bus_a : IsNear most (bus_a ds f e)
+    unfolding bus_a
+    near-bus_a = near-sided f.past (fetched ds f e).bus e.side (tick_a ds f e) near-fetched
+
+    pub free-p : (bus_a ds f e).free ≤ tick_p ds n f e
+    unfolding tick_p prepared
+    free-p = omega (arith, free-bus_a)
+
+    pub near-operands : IsNear most (operands ds n f e).bus
+    unfolding operands operands_read
+    near-operands =
+        near-reads f.past (tick_p ds n f e) _ e.reads.two.first e.reads.two.len
+        (near-reads f.past (tick_p ds n f e) _ e.reads.one.first e.reads.one.len near-bus_a)
+
+    pub free-r : (operands ds n f e).bus.free ≤ (operands ds n f e).answered
+    unfolding operands operands_read
+    free-r =
+        free-reads f.past (tick_p ds n f e) _ e.reads.two.first e.reads.two.len
+        (free-reads f.past (tick_p ds n f e) _ e.reads.one.first e.reads.one.len free-p)
+
+    pub later-r : tick_p ds n f e ≤ (operands ds n f e).answered
+    unfolding operands operands_read
+    later-r =
+        let one = later-reads f.past (tick_p ds n f e) (record { bus = bus_a ds f e; answered = tick_p ds n f e }) e.reads.one.first e.reads.one.len in
+        let two = later-reads f.past (tick_p ds n f e) (read_words ds f.past (record { bus = bus_a ds f e; answered = tick_p ds n f e }) (tick_p ds n f e) e.reads.one.first e.reads.one.len)
+        e.reads.two.first e.reads.two.len in
+        omega (arith, one, two)
+
+    pub later-c : (f.c < tick_c ds n f e) × ((operands ds n f e).answered < tick_c ds n f e)
+    unfolding tick_c
+    later-c = (omega (arith, entry.costs.0), omega (arith, entry.costs.0))
+
+    pub tight-after : IsTight most (after ds n f e)
+    unfolding after bus_followed
+    tight-after =
+        let late = later-c in
+        let done = later-r in
+        let free = free-r in
+        record {
+          prepared = omega arith;
+          done = record {
+            each = All-cons (λ (d : Past). d.c ≤ tick_c ds n f e) _ (take 7 f.past) (omega arith)
+                (All-take (λ (d : Past). d.c ≤ tick_c ds n f e) 7 f.past (past-weaker f.c (tick_c ds n f e) f.past (omega arith) tight.done).each);
+          };
+          free = soon-follow_if e.follows (operands ds n f e).bus (e.own.first + e.own.len) (tick_p ds n f e) (tick_c ds n f e) near-operands (omega arith) (omega arith);
+          near = near-follow_if e.follows (operands ds n f e).bus (e.own.first + e.own.len) (tick_p ds n f e) near-operands;
+        }

@@ -1,0 +1,43 @@
+-- When reads are accepted and answered. The list of delays is ds throughout.
+use Rattle.std.specs.Prelude.{ℕ, ◌+◌, List, replicate, Option, None, Some}
+use Rattle.st_banks.specs.Bank.{accept_tick, answered_at}
+use Rattle.st_banks.specs.Delay.{answer_tick}
+use Rattle.st_banks.specs.declared.answers.LastAnswers.{LastAnswers}
+use Rattle.st_fetch.specs.Planned.{nothing, tick_of, asked_for}
+use Rattle.st_rows.specs.declared.bus.Bus.{Bus}
+
+-- the bus of a segment that starts at the tick: no word is held
+abbrev pub no_reads : LastAnswers → ℕ → Bus
+no_reads banks start = record { banks = banks; free = start; held = record { words = replicate 4 nothing } }
+
+-- the tick at which a read of the word w is accepted that is wanted from the want on, and the tick of its answer
+abbrev pub accept_at : Bus → ℕ → ℕ → ℕ
+accept_at b w want = accept_tick b.banks.ticks w b.free want
+
+abbrev pub answer_at : List ℕ → Bus → ℕ → ℕ → ℕ
+answer_at ds b w want = answer_tick ds (accept_at b w want)
+
+-- the bus after that read
+unfoldable pub after_read : List ℕ → Bus → ℕ → ℕ → Bus
+after_read ds b w want = record b {
+  banks = record { ticks = answered_at b.banks.ticks w (answer_at ds b w want) };
+  free = accept_at b w want + 1;
+}
+
+-- the bus after the instruction word w was asked for, given the tick of its answer if it is held: then no read is
+-- made, and else it is held from now on
+abbrev pub requested_if : Option ℕ → List ℕ → Bus → ℕ → ℕ → Bus
+requested_if (Some tick) ds b w want = b
+requested_if None ds b w want =
+    record (after_read ds b w want) { held = record { words = asked_for b.held.words w (answer_at ds b w want) } }
+
+abbrev pub answer_if : Option ℕ → List ℕ → Bus → ℕ → ℕ → ℕ
+answer_if (Some tick) ds b w want = tick
+answer_if None ds b w want = answer_at ds b w want
+
+unfoldable pub requested : List ℕ → Bus → ℕ → ℕ → Bus
+requested ds b w want = requested_if (tick_of b.held.words w) ds b w want
+
+-- the tick of its answer
+unfoldable pub answer_of : List ℕ → Bus → ℕ → ℕ → ℕ
+answer_of ds b w want = answer_if (tick_of b.held.words w) ds b w want

@@ -1,0 +1,21 @@
+-- Which words are in a run, and when the entry is done that wrote a word last.
+use Rattle.std.specs.Prelude.{ℕ, ◌+◌, Bool, ◌&&◌, ◌||◌, nat_lt, nat_le, if◌then◌else◌, List, [], ◌∷◌}
+use Rattle.st_rows.specs.declared.entry.Run.{Run}
+use Rattle.st_rows.specs.declared.entry.Runs.{Runs}
+use Rattle.st_rows.specs.declared.past.Past.{Past}
+
+-- the word w is in the run, or in one of two runs
+unfoldable pub is_in : ℕ → Run → Bool
+is_in w run = nat_le run.first w && nat_lt w (run.first + run.len)
+
+unfoldable pub is_among : ℕ → Runs → Bool
+is_among w runs = is_in w runs.one || is_in w runs.two
+
+-- no words
+abbrev pub no_words : Runs
+no_words = record { one = record { first = 0; len = 0 }; two = record { first = 0; len = 0 } }
+
+-- the tick at which the latest of the entries is done that writes the word w, 0 where none does; they stand newest first
+unfoldable pub latest_done : List Past → ℕ → ℕ
+latest_done [] w = 0
+latest_done (entry ∷ past) w = if is_among w entry.writes then entry.c else latest_done past w

@@ -1,0 +1,76 @@
+-- When the ticks of one machine are nowhere later than those of another.
+use Rattle.std.specs.Prelude.{ℕ, ◌≡◌, ◌+◌, ◌≤◌, ◌<◌, false, List, [], ◌∷◌, length, get_or, All, IfSome}
+use Rattle.std.specs.List.{AllZip}
+use Rattle.st_fetch.specs.declared.fetched.Fetched.{Fetched}
+use Rattle.st_rows.specs.Entries.{is_among, no_words}
+use Rattle.st_rows.specs.Ranges.{ArePastWithin}
+use Rattle.st_rows.specs.Rows.{row, after}
+use Rattle.st_rows.specs.declared.bus.Bus.{Bus}
+use Rattle.st_rows.specs.declared.entry.Run.{Run}
+use Rattle.st_rows.specs.declared.entry.Runs.{Runs}
+use Rattle.st_rows.specs.declared.entry.Entry.{Entry}
+use Rattle.st_rows.specs.declared.past.Past.{Past}
+use Rattle.st_rows.specs.declared.front.Front.{Front}
+use Rattle.st_rows.specs.declared.front.Row.{Row}
+
+-- each read takes d ticks
+pub record AreEqual (d : ℕ) (ds : List ℕ) : Type 0 where
+  pub some : 1 ≤ length ds
+  pub each : All (λ x. x ≡ d) ds
+
+-- a bus, the entries before, a front and a row with no tick later than those of another one; words and marks are the same
+abbrev pub IsHeldSooner : Fetched → Fetched → Type 0
+IsHeldSooner g h = (g.w ≡ h.w) × (g.tick ≤ h.tick)
+
+pub record IsBusSooner (b d : Bus) : Type 0 where
+  pub free : b.free ≤ d.free
+  pub banks : AllZip (λ s t. s ≤ t) b.banks.ticks d.banks.ticks
+  pub held : AllZip IsHeldSooner b.held.words d.held.words
+
+abbrev pub IsPastSooner : Past → Past → Type 0
+IsPastSooner s t = (s.c ≤ t.c) × (s.writes ≡ t.writes)
+
+pub record IsFrontSooner (f g : Front) : Type 0 where
+  pub bus : IsBusSooner f.bus g.bus
+  pub prepared : f.p ≤ g.p
+  pub done : f.c ≤ g.c
+  pub serial : f.serial ≡ g.serial
+  pub past : AllZip IsPastSooner f.past g.past
+
+pub record IsRowSooner (x y : Row) : Type 0 where
+  pub address : x.a ≤ y.a
+  pub prepared : x.p ≤ y.p
+  pub ready : x.r ≤ y.r
+  pub done : x.c ≤ y.c
+
+-- the entries before are done in their order, none after the last one
+pub record AreInOrder (f : Front) : Type 0 where
+  pub done : ArePastWithin f.c f.past
+  pub falls : (i j : ℕ) → i ≤ j →
+      (get_or f.past j (record { c = 0; writes = no_words })).c ≤ (get_or f.past i (record { c = 0; writes = no_words })).c
+
+-- none of these writes the word, and none writes a word that the entry reads besides its instruction words
+abbrev pub IsUnwritten : List Runs → ℕ → Type 0
+IsUnwritten earlier w = All (λ writes. is_among w writes ≡ false) earlier
+
+abbrev pub IsRunUnwritten : List Runs → Run → Type 0
+IsRunUnwritten earlier run = (w : ℕ) → run.first ≤ w → w < run.first + run.len → IsUnwritten earlier w
+
+pub record IsCalm (earlier : List Runs) (e : Entry) : Type 0 where
+  pub side : IfSome e.side (IsUnwritten earlier)
+  pub one : IsRunUnwritten earlier e.reads.one
+  pub two : IsRunUnwritten earlier e.reads.two
+
+-- nor does one entry of a list write such a word of a later one
+abbrev pub AreCalm : List Runs → List Entry → Type 0
+AreCalm earlier [] = Unit {0}
+AreCalm earlier (e ∷ es) = IsCalm earlier e × AreCalm (e.writes ∷ earlier) es
+
+-- the words that are written by the entries that are kept are among those
+abbrev pub AreCovered : List Past → List Runs → Type 0
+AreCovered past earlier = (w : ℕ) → IsUnwritten earlier w → All (λ entry. is_among w entry.writes ≡ false) past
+
+-- the rows of the entries of a list, one behind the other
+unfoldable pub rows : List ℕ → ℕ → Front → List Entry → List Row
+rows ds n f [] = []
+rows ds n f (e ∷ es) = row ds n f e ∷ rows ds n (after ds n f e) es

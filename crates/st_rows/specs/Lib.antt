@@ -1,0 +1,5 @@
+pub mod BusTimes
+pub mod Entries
+pub mod Levels
+pub mod Ranges
+pub mod Rows

@@ -1,0 +1,66 @@
+-- What holds of the numbers of entries, buses and fronts.
+use Rattle.std.specs.Prelude.{ℕ, ◌≡◌, ◌+◌, ◌*◌, ◌≤◌, ◌<◌, true, List, length, All, IfSome}
+use Rattle.st_bits.specs.Storage.{words_of_storage}
+use Rattle.st_rows.specs.declared.bus.Bus.{Bus}
+use Rattle.st_rows.specs.declared.entry.Run.{Run}
+use Rattle.st_rows.specs.declared.entry.Entry.{Entry}
+use Rattle.st_rows.specs.declared.fetching.Fetching.{Fetching}
+use Rattle.st_rows.specs.declared.front.Front.{Front}
+use Rattle.st_rows.specs.declared.past.Past.{Past}
+use Rattle.st_rows.specs.declared.reading.Reading.{Reading}
+
+-- the words of a run lie in storage, above the registers
+pub record IsReadable (run : Run) : Type 0 where
+  pub above : 1 ≤ run.len → 32 ≤ run.first
+  pub inside : 1 ≤ run.len → run.first + run.len ≤ words_of_storage
+
+-- the words of an entry that are read do; its numbers are in their ranges; it asks for following words only where it has a
+-- word that they follow
+pub record IsEntry (e : Entry) : Type 0 where
+  pub own : IsReadable e.own
+  pub own_few : e.own.len ≤ 2
+  pub target : IsReadable e.target
+  pub target_few : e.target.len ≤ 2
+  pub side : IfSome e.side (λ w. (32 ≤ w) × (w < words_of_storage))
+  pub one : IsReadable e.reads.one
+  pub one_few : e.reads.one.len ≤ 16
+  pub two : IsReadable e.reads.two
+  pub two_few : e.reads.two.len ≤ 16
+  pub costs : (1 ≤ e.cost) × (e.cost ≤ 24)
+  pub follows : e.follows ≡ true → 1 ≤ e.own.len
+
+-- a list of delays of which none is longer than so many ticks
+pub record AreDelays (most : ℕ) (ds : List ℕ) : Type 0 where
+  pub some : 1 ≤ length ds
+  pub each : All (λ d. (1 ≤ d) × (d ≤ most)) ds
+
+-- no tick of the bus is past m
+pub record IsBusWithin (m : ℕ) (b : Bus) : Type 0 where
+  pub free : b.free ≤ m
+  pub banks : All (λ t. t ≤ m) b.banks.ticks
+  pub held : All (λ h. h.tick ≤ m) b.held.words
+
+-- nor one of the words that are fetched so far, of the operands, and of the entries before
+pub record IsFetchingWithin (m : ℕ) (s : Fetching) : Type 0 where
+  pub bus : IsBusWithin m s.bus
+  pub answered : s.answered ≤ m
+  pub awaited : s.awaited ≤ m
+
+pub record IsReadingWithin (m : ℕ) (s : Reading) : Type 0 where
+  pub bus : IsBusWithin m s.bus
+  pub answered : s.answered ≤ m
+
+pub record ArePastWithin (m : ℕ) (past : List Past) : Type 0 where
+  pub each : All (λ entry. entry.c ≤ m) past
+
+-- what is on its way on the bus is answered soon, where no read takes more than so many ticks
+pub record IsNear (most : ℕ) (b : Bus) : Type 0 where
+  pub banks : All (λ t. t ≤ b.free + most) b.banks.ticks
+  pub held : All (λ h. h.tick ≤ b.free + most) b.held.words
+
+-- the ticks of a front lie close together, where no read takes more than so many ticks
+pub record IsTight (most : ℕ) (f : Front) : Type 0 where
+  pub prepared : f.p ≤ f.c
+  pub done : ArePastWithin f.c f.past
+  pub free : f.bus.free ≤ f.c + 2 * most + 2
+  pub near : IsNear most f.bus

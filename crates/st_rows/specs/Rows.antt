@@ -1,0 +1,150 @@
+-- The row of an entry, and what is computed of it for the next one, for a machine with the delays ds and with n levels.
+-- A stage takes the bus where the stage before it left it.
+use Rattle.std.specs.Prelude.{ℕ, zero, suc, ◌+◌, ◌-◌, max, Bool, false, ◌||◌, nat_lt, if◌then◌else◌, List, ◌∷◌, get_or, take, replicate, Option, None, Some}
+use Rattle.st_bits.specs.Storage.{words_of_storage}
+use Rattle.st_banks.specs.declared.answers.LastAnswers.{LastAnswers}
+use Rattle.st_rows.specs.BusTimes.{no_reads, after_read, answer_at, requested, answer_of}
+use Rattle.st_rows.specs.Entries.{no_words, latest_done}
+use Rattle.st_rows.specs.declared.bus.Bus.{Bus}
+use Rattle.st_rows.specs.declared.entry.Runs.{Runs}
+use Rattle.st_rows.specs.declared.entry.Entry.{Entry}
+use Rattle.st_rows.specs.declared.past.Past.{Past}
+use Rattle.st_rows.specs.declared.fetching.Fetching.{Fetching}
+use Rattle.st_rows.specs.declared.reading.Reading.{Reading}
+use Rattle.st_rows.specs.declared.front.Front.{Front}
+use Rattle.st_rows.specs.declared.front.Row.{Row}
+
+-- the front of a segment that starts at the tick
+abbrev pub opening : LastAnswers → ℕ → Front
+opening banks start = record {
+  bus = no_reads banks start;
+  p = start;
+  c = start;
+  serial = false;
+  past = replicate 8 (record { c = 0; writes = no_words });
+}
+
+-- ---- instruction words: each is wanted once the words before it are answered and the entries are done that write them
+
+unfoldable pub fetch_word : List ℕ → List Past → Fetching → ℕ → ℕ → Fetching
+fetch_word ds past s w from = record {
+  bus = requested ds s.bus w (max (max from s.answered) s.awaited);
+  answered = max s.answered (answer_of ds s.bus w (max (max from s.answered) s.awaited));
+  awaited = max s.awaited (latest_done past w);
+}
+
+-- n words from the word w on
+unfoldable pub fetch_words : List ℕ → List Past → Fetching → ℕ → ℕ → ℕ → Fetching
+fetch_words ds past s from w zero = s
+fetch_words ds past s from w (suc n) = fetch_words ds past (fetch_word ds past s w from) from (w + 1) n
+
+-- behind an entry that is done alone, words are wanted once it is done; before, once it is prepared
+abbrev pub wanted_from : Front → ℕ
+wanted_from f = if f.serial then max f.p f.c else f.p
+
+-- the entry's own words and then those of the target of EX, which wait for the last entry
+unfoldable pub fetched : List ℕ → Front → Entry → Fetching
+fetched ds f e =
+    fetch_words ds f.past
+    (fetch_words ds f.past (record { bus = f.bus; answered = 0; awaited = 0 }) (wanted_from f) e.own.first e.own.len)
+    (max (wanted_from f) f.c) e.target.first e.target.len
+
+-- ---- the address: one tick after the words are there and all that is awaited is done, and after the reads of the
+-- entries before; an entry that is done alone, and the one behind it, await the last entry
+
+unfoldable pub addressed : Front → Entry → ℕ → ℕ → ℕ
+addressed f e answered awaited =
+    max (max (max (max answered awaited) f.p) (if e.serial || f.serial then f.c else 0) + 1) f.bus.free
+
+-- ---- the index-side word: it is read, or comes from its latest writer where that is not done at the address's tick
+
+abbrev pub is_forwarded : List Past → ℕ → ℕ → Bool
+is_forwarded past w tick = nat_lt tick (latest_done past w)
+
+unfoldable pub bus_sided : List ℕ → List Past → Bus → Option ℕ → ℕ → Bus
+bus_sided ds past b None a = b
+bus_sided ds past b (Some w) a = if is_forwarded past w a then b else after_read ds b w a
+
+unfoldable pub side_there : List ℕ → List Past → Bus → Option ℕ → ℕ → ℕ
+side_there ds past b None a = 0
+side_there ds past b (Some w) a = if is_forwarded past w a then latest_done past w else answer_at ds b w a
+
+-- ---- preparation: one tick later, and later than the completion of the entry n before
+
+abbrev pub done_before : ℕ → List Past → ℕ
+done_before n past = (get_or past (n - 1) (record { c = 0; writes = no_words })).c
+
+unfoldable pub prepared : ℕ → List Past → ℕ → ℕ → ℕ
+prepared n past a y = max (max a y) (done_before n past) + 1
+
+-- ---- operands: each is read, or comes from its latest writer at that one's completion
+
+unfoldable pub read_word : List ℕ → List Past → Reading → ℕ → ℕ → Reading
+read_word ds past s w p =
+    if is_forwarded past w p then s
+    else record { bus = after_read ds s.bus w p; answered = max s.answered (answer_at ds s.bus w p) }
+
+-- n words from the word w on
+unfoldable pub read_words : List ℕ → List Past → Reading → ℕ → ℕ → ℕ → Reading
+read_words ds past s p w zero = s
+read_words ds past s p w (suc n) = read_words ds past (read_word ds past s w p) p (w + 1) n
+
+unfoldable pub operands_read : List ℕ → List Past → Bus → Runs → ℕ → Reading
+operands_read ds past b reads p =
+    read_words ds past
+    (read_words ds past (record { bus = b; answered = p }) p reads.one.first reads.one.len)
+    p reads.two.first reads.two.len
+
+-- ---- completion
+
+abbrev pub completed : Front → Entry → ℕ → ℕ
+completed f e r = max f.c r + e.cost
+
+-- ---- the two following words, where they are words of storage
+
+abbrev pub request_inside : List ℕ → Bus → ℕ → ℕ → Bus
+request_inside ds b w p = if nat_lt w words_of_storage then requested ds b w p else b
+
+unfoldable pub bus_followed : List ℕ → Bus → Entry → ℕ → Bus
+bus_followed ds b e p =
+    if e.follows
+    then request_inside ds (request_inside ds b (e.own.first + e.own.len) p) (e.own.first + e.own.len + 1) p
+    else b
+
+-- ---- the row of the entry e behind the front f
+
+unfoldable pub tick_a : List ℕ → Front → Entry → ℕ
+tick_a ds f e = addressed f e (fetched ds f e).answered (fetched ds f e).awaited
+
+unfoldable pub bus_a : List ℕ → Front → Entry → Bus
+bus_a ds f e = bus_sided ds f.past (fetched ds f e).bus e.side (tick_a ds f e)
+
+unfoldable pub tick_y : List ℕ → Front → Entry → ℕ
+tick_y ds f e = side_there ds f.past (fetched ds f e).bus e.side (tick_a ds f e)
+
+unfoldable pub tick_p : List ℕ → ℕ → Front → Entry → ℕ
+tick_p ds n f e = prepared n f.past (tick_a ds f e) (tick_y ds f e)
+
+unfoldable pub operands : List ℕ → ℕ → Front → Entry → Reading
+operands ds n f e = operands_read ds f.past (bus_a ds f e) e.reads (tick_p ds n f e)
+
+unfoldable pub tick_c : List ℕ → ℕ → Front → Entry → ℕ
+tick_c ds n f e = completed f e (operands ds n f e).answered
+
+unfoldable pub row : List ℕ → ℕ → Front → Entry → Row
+row ds n f e = record {
+  a = tick_a ds f e;
+  p = tick_p ds n f e;
+  r = (operands ds n f e).answered;
+  c = tick_c ds n f e;
+}
+
+-- the front behind it
+unfoldable pub after : List ℕ → ℕ → Front → Entry → Front
+after ds n f e = record {
+  bus = bus_followed ds (operands ds n f e).bus e (tick_p ds n f e);
+  p = tick_p ds n f e;
+  c = tick_c ds n f e;
+  serial = e.serial;
+  past = record { c = tick_c ds n f e; writes = e.writes } ∷ take 7 f.past;
+}

@@ -1,0 +1,62 @@
+ghost use Rattle.std.specs.Prelude.{◌≡◌, ◌+◌, ◌-◌, ◌<◌, ◌≤◌, ◌^◌};
+ghost use Rattle.st_rows.specs.BusTimes.{no_reads, after_read, answer_at, requested, answer_of};
+ghost use Rattle.st_rows.specs.Ranges.{IsBusWithin};
+
+use st_banks::{Delays, LastAnswers};
+use st_fetch::HeldWords;
+
+/// The way to storage: at most one read is accepted a tick, in the order in which reads are asked for.
+#[derive(Clone, Copy, Debug, PartialEq, Eq)]
+pub struct Bus {
+    /// The last answer of each bank.
+    pub banks: LastAnswers,
+    /// The first tick at which the next read can be accepted.
+    pub free: u64,
+    /// The instruction words that were asked for last.
+    pub held: HeldWords,
+}
+
+impl Bus {
+    /// The bus of a segment that starts at the tick `start`, where the banks have these last answers.
+    pub fn new(banks: LastAnswers, start: u64) -> Bus
+        ensures { result ≡ no_reads banks start }
+    {
+        Bus {
+            banks,
+            free: start,
+            held: HeldWords::new(),
+        }
+    }
+
+    /// Reads the word `w`, which is wanted from the tick `want` on. The result is the tick of the answer.
+    #[tactic(auto, unfolding(crate::specs::BusTimes::after_read))]
+    pub fn read(&mut self, delays: &Delays, w: u32, want: u64) -> u64
+        requires room { IsBusWithin (2 ^ 63 - 512) self.old }
+        requires early { want ≤ 2 ^ 63 - 512 }
+        ensures value { result ≡ answer_at delays.now self.old w want }
+        ensures after { self.new ≡ after_read delays.now self.old w want }
+    {
+        let tick = self.banks.accept_tick(w, self.free, want);
+        let answer = delays.answer(tick);
+        self.banks = self.banks.after(w, answer);
+        self.free = tick + 1;
+        answer
+    }
+
+    /// Asks for the instruction word `w`, which is wanted from the tick `want` on: if it is held, no read is made, and else it is
+    /// held from now on. The result is the tick of the answer.
+    #[tactic(auto, unfolding(crate::specs::BusTimes::after_read, crate::specs::BusTimes::requested, crate::specs::BusTimes::answer_of))]
+    pub fn request(&mut self, delays: &Delays, w: u32, want: u64) -> u64
+        requires room { IsBusWithin (2 ^ 63 - 512) self.old }
+        requires early { want ≤ 2 ^ 63 - 512 }
+        ensures value { result ≡ answer_of delays.now self.old w want }
+        ensures after { self.new ≡ requested delays.now self.old w want }
+    {
+        if let Some(answer) = self.held.tick_of(w) {
+            return answer;
+        }
+        let answer = self.read(delays, w, want);
+        self.held = self.held.requested(w, answer);
+        answer
+    }
+}

@@ -1,0 +1,62 @@
+ghost use Rattle.std.specs.Prelude.{◌≡◌};
+ghost use Rattle.st_rows.specs.Entries.{is_in, is_among};
+
+/// A run of words.
+#[derive(Clone, Copy, Debug, Default, PartialEq, Eq)]
+pub struct Run {
+    /// The address of its first word.
+    pub first: u32,
+    /// The number of its words, 0 to 16.
+    pub len: u8,
+}
+
+/// The words of two runs, the first run before the second.
+#[derive(Clone, Copy, Debug, Default, PartialEq, Eq)]
+pub struct Runs {
+    /// The first run.
+    pub one: Run,
+    /// The second run.
+    pub two: Run,
+}
+
+/// An entry as the timetable sees it: which words are read for it and written by it, and how long it takes. Registers
+/// make no read, so each word that is read is one from 32 up.
+#[derive(Clone, Copy, Debug, Default, PartialEq, Eq)]
+pub struct Entry {
+    /// Its own instruction words, up to the first one that is forbidden.
+    pub own: Run,
+    /// The instruction words of the target of EX, likewise.
+    pub target: Run,
+    /// Its index-side word.
+    pub side: Option<u32>,
+    /// Its operand words, in order.
+    pub reads: Runs,
+    /// The words that it writes.
+    pub writes: Runs,
+    /// The ticks from the arrival of its operands to its completion, 1 to 24.
+    pub cost: u8,
+    /// Whether it is done alone.
+    pub serial: bool,
+    /// Whether it asks for the words that follow its own.
+    pub follows: bool,
+}
+
+impl Run {
+    /// Whether the word `w` is in the run.
+    #[tactic(auto, unfolding(crate::specs::Entries::is_in))]
+    pub fn has(self, w: u32) -> bool
+        ensures { result ≡ is_in w self }
+    {
+        self.first <= w && u64::from(w) < u64::from(self.first) + u64::from(self.len)
+    }
+}
+
+impl Runs {
+    /// Whether the word `w` is in one of the runs.
+    #[tactic(auto, unfolding(crate::specs::Entries::is_among))]
+    pub fn has(self, w: u32) -> bool
+        ensures { result ≡ is_among w self }
+    {
+        self.one.has(w) || self.two.has(w)
+    }
+}

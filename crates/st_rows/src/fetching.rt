@@ -1,0 +1,66 @@
+ghost use Rattle.std.specs.Prelude.{◌≡◌, ◌+◌, ◌*◌, ◌-◌, ◌<◌, ◌≤◌, ◌^◌, All};
+ghost use Rattle.st_rows.specs.Rows.{fetch_word, fetch_words};
+ghost use Rattle.st_rows.specs.Ranges.{IsFetchingWithin, ArePastWithin, IsReadable};
+
+use crate::bus::Bus;
+use crate::entry::Run;
+use crate::past::{Past, latest_done};
+use st_banks::Delays;
+
+/// How far the instruction words of an entry are fetched.
+#[derive(Clone, Copy, Debug, PartialEq, Eq)]
+pub struct Fetching {
+    /// The bus after the words so far.
+    pub bus: Bus,
+    /// The latest of their answers, 0 before the first one.
+    pub answered: u64,
+    /// The latest completion of an entry that writes one of them, 0 where none does.
+    pub awaited: u64,
+}
+
+impl Fetching {
+    /// No word is fetched yet.
+    pub fn new(bus: Bus) -> Fetching
+        ensures { result ≡ record { bus = bus; answered = 0; awaited = 0 } }
+    {
+        Fetching {
+            bus,
+            answered: 0,
+            awaited: 0,
+        }
+    }
+
+    /// Fetches the next instruction word, which is wanted from `from` on.
+    #[tactic(auto, unfolding(crate::specs::Rows::fetch_word))]
+    pub fn word(&mut self, delays: &Delays, past: &[Past; 8], w: u32, from: u64)
+        requires room { IsFetchingWithin (2 ^ 63 - 512) self.old }
+        requires before { ArePastWithin (2 ^ 63 - 512) past.now }
+        requires early { from ≤ 2 ^ 63 - 512 }
+        ensures { self.new ≡ fetch_word delays.now past.now self.old w from }
+    {
+        let want = from.max(self.answered).max(self.awaited);
+        let answer = self.bus.request(delays, w, want);
+        self.answered = self.answered.max(answer);
+        self.awaited = self.awaited.max(latest_done(past, w));
+    }
+
+    /// Fetches the next instruction words.
+    #[tactic(auto, unfolding(crate::specs::Rows::fetch_words))]
+    pub fn words(&mut self, delays: &Delays, past: &[Past; 8], run: Run, from: u64)
+        requires room { IsFetchingWithin (2 ^ 63 - 2 ^ 16) self.old }
+        requires before { ArePastWithin (2 ^ 63 - 2 ^ 16) past.now }
+        requires early { from ≤ 2 ^ 63 - 2 ^ 16 }
+        requires words { IsReadable run }
+        requires few { run.len ≤ 16 }
+        ensures { self.new ≡ fetch_words delays.now past.now self.old from run.first run.len }
+    {
+        delays.shape();
+        let mut w = run.first;
+        let mut left = run.len;
+        'words: while left > 0 {
+            self.word(delays, past, w, from);
+            w += 1;
+            left -= 1;
+        }
+    }
+}

@@ -1,0 +1,259 @@
+ghost use Rattle.std.specs.Prelude.{◌≡◌, ◌+◌, ◌*◌, ◌-◌, ◌<◌, ◌≤◌, ◌^◌, max, All};
+ghost use Rattle.st_rows.specs.BusTimes.{requested};
+ghost use Rattle.st_rows.specs.Rows.{opening, wanted_from, fetched, addressed, bus_sided, side_there, prepared as prepared_of, operands_read, request_inside as request_inside_of, bus_followed, tick_a, bus_a, tick_p, row as row_of, after};
+ghost use Rattle.st_rows.specs.Ranges.{IsEntry, IsTight, IsBusWithin, IsFetchingWithin, ArePastWithin};
+
+use crate::bus::Bus;
+use crate::entry::Entry;
+use crate::fetching::Fetching;
+use crate::past::{Past, latest_done, with_newest};
+use crate::reading::Reading;
+use st_banks::{Delays, LastAnswers};
+
+/// The number of words of storage.
+const WORDS: u32 = 98_304;
+
+/// The ticks of an entry.
+#[derive(Clone, Copy, Debug, Default, PartialEq, Eq)]
+pub struct Row {
+    /// When its address is formed, one tick after its instruction words are there.
+    pub a: u64,
+    /// When it is prepared.
+    pub p: u64,
+    /// When its operands are there.
+    pub r: u64,
+    /// When it is done.
+    pub c: u64,
+}
+
+/// What the row of the next entry is computed from.
+#[derive(Clone, Copy, Debug, PartialEq, Eq)]
+pub struct Front {
+    /// The bus after the reads of the entries so far.
+    pub bus: Bus,
+    /// When the last entry was prepared, the start of the segment before the first one.
+    pub p: u64,
+    /// When the last entry is done, the start of the segment before the first one.
+    pub c: u64,
+    /// Whether the last entry is done alone.
+    pub serial: bool,
+    /// The last eight entries of the segment, the newest one first.
+    pub past: [Past; 8],
+}
+
+/// An entry that is prepared.
+#[derive(Clone, Copy)]
+struct Prepared {
+    /// The bus after its index-side word.
+    bus: Bus,
+    a: u64,
+    p: u64,
+}
+
+impl Front {
+    /// The front of a segment that starts at the tick `start`, where the banks have these last answers.
+    pub fn new(banks: LastAnswers, start: u64) -> Front
+        requires { All (λ t. t ≤ start + 255) banks.ticks }
+        ensures value { result ≡ opening banks start }
+        ensures tight { IsTight 255 result }
+    {
+        Front {
+            bus: Bus::new(banks, start),
+            p: start,
+            c: start,
+            serial: false,
+            past: [Past::default(); 8],
+        }
+    }
+
+    /// The tick from which on the first instruction word of the next entry is wanted.
+    pub fn wanted_from(&self) -> u64
+        ensures { result ≡ wanted_from self.now }
+    {
+        if self.serial {
+            self.p.max(self.c)
+        } else {
+            self.p
+        }
+    }
+
+    /// The instruction words of the next entry are fetched.
+    #[tactic(auto, unfolding(crate::specs::Rows::fetched))]
+    pub fn fetch(&self, delays: &Delays, entry: &Entry) -> Fetching
+        requires entry { IsEntry entry.now }
+        requires tight { IsTight 255 self.now }
+        requires early { self.now.c ≤ 2 ^ 62 }
+        ensures { result ≡ fetched delays.now self.now entry.now }
+    {
+        delays.shape();
+        let mut words = Fetching::new(self.bus);
+        let from = self.wanted_from();
+        words.words(delays, &self.past, entry.own, from);
+        words.words(delays, &self.past, entry.target, from.max(self.c));
+        words
+    }
+
+    /// The tick at which the address of the next entry is formed.
+    #[tactic(auto, unfolding(crate::specs::Rows::addressed))]
+    fn address(&self, entry: &Entry, words: Fetching) -> u64
+        requires tight { IsTight 255 self.now }
+        requires early { self.now.c ≤ 2 ^ 62 }
+        requires room { IsFetchingWithin (self.now.c + 1791) words }
+        ensures value { result ≡ addressed self.now entry.now words.answered words.awaited }
+        ensures bound { result ≤ self.now.c + 1792 }
+    {
+        let alone = if entry.serial || self.serial {
+            self.c
+        } else {
+            0
+        };
+        let there = words.answered.max(words.awaited).max(self.p).max(alone);
+        (there + 1).max(self.bus.free)
+    }
+
+    /// The next entry is prepared, whose instruction words are fetched.
+    fn prepare(&self, delays: &Delays, levels: usize, entry: &Entry, words: Fetching) -> Prepared
+        requires entry { IsEntry entry.now }
+        requires tight { IsTight 255 self.now }
+        requires early { self.now.c ≤ 2 ^ 62 }
+        requires levels { (1 ≤ levels) × (levels ≤ 8) }
+        requires words { words ≡ fetched delays.now self.now entry.now }
+        ensures address { result.a ≡ tick_a delays.now self.now entry.now }
+        ensures bus { result.bus ≡ bus_a delays.now self.now entry.now }
+        ensures tick { result.p ≡ tick_p delays.now levels self.now entry.now }
+    {
+        delays.shape();
+        let a = self.address(entry, words);
+        let mut bus = words.bus;
+        let y = side(&mut bus, delays, &self.past, entry.side, a);
+        let p = prepared_at(levels, &self.past, a, y);
+        Prepared { bus, a, p }
+    }
+
+    /// Goes on behind the next entry, and gives its row; `levels` are those of the machine, 1 to 8.
+    pub fn next(&mut self, delays: &Delays, levels: usize, entry: &Entry) -> Row
+        requires entry { IsEntry entry.now }
+        requires tight { IsTight 255 self.old }
+        requires early { self.old.c ≤ 2 ^ 62 }
+        requires levels { (1 ≤ levels) × (levels ≤ 8) }
+        ensures value { result ≡ row_of delays.now levels self.old entry.now }
+        ensures after { self.new ≡ after delays.now levels self.old entry.now }
+        ensures tight { IsTight 255 self.new }
+        ensures bound { self.new.c ≤ self.old.c + 16576 }
+    {
+        let words = self.fetch(delays, entry);
+        self.finish(delays, levels, entry, words)
+    }
+
+    /// The same where the instruction words of the entry are fetched already.
+    pub fn finish(&mut self, delays: &Delays, levels: usize, entry: &Entry, words: Fetching) -> Row
+        requires entry { IsEntry entry.now }
+        requires tight { IsTight 255 self.old }
+        requires early { self.old.c ≤ 2 ^ 62 }
+        requires levels { (1 ≤ levels) × (levels ≤ 8) }
+        requires words { words ≡ fetched delays.now self.old entry.now }
+        ensures value { result ≡ row_of delays.now levels self.old entry.now }
+        ensures after { self.new ≡ after delays.now levels self.old entry.now }
+        ensures tight { IsTight 255 self.new }
+        ensures bound { self.new.c ≤ self.old.c + 16576 }
+    {
+        delays.shape();
+        let prepared = self.prepare(delays, levels, entry, words);
+        let operands = read_operands(delays, &self.past, entry, prepared.bus, prepared.p);
+        let c = self.c.max(operands.answered) + u64::from(entry.cost);
+        self.bus = follow(operands.bus, delays, entry, prepared.p);
+        self.p = prepared.p;
+        self.c = c;
+        self.serial = entry.serial;
+        self.past = with_newest(
+            self.past,
+            Past {
+                c,
+                writes: entry.writes,
+            },
+        );
+        Row {
+            a: prepared.a,
+            p: prepared.p,
+            r: operands.answered,
+            c,
+        }
+    }
+}
+
+/// Reads the index-side word, if there is one, of an entry whose address is formed at `a`, unless an earlier entry writes it that
+/// is done later. The result is the tick at which it is there, 0 where there is none.
+#[tactic(auto, unfolding(crate::specs::Rows::bus_sided, crate::specs::Rows::side_there))]
+fn side(bus: &mut Bus, delays: &Delays, past: &[Past; 8], word: Option<u32>, a: u64) -> u64
+    requires room { IsBusWithin (2 ^ 63 - 512) bus.old }
+    requires early { a ≤ 2 ^ 63 - 512 }
+    ensures value { result ≡ side_there delays.now past.now bus.old word a }
+    ensures after { bus.new ≡ bus_sided delays.now past.now bus.old word a }
+{
+    let Some(w) = word else {
+        return 0;
+    };
+    let done = latest_done(past, w);
+    if done > a {
+        return done;
+    }
+    bus.read(delays, w, a)
+}
+
+/// The tick at which an entry is prepared.
+#[tactic(auto, unfolding(crate::specs::Rows::prepared))]
+fn prepared_at(levels: usize, past: &[Past; 8], a: u64, y: u64) -> u64
+    requires some { 1 ≤ levels }
+    requires most { levels ≤ 8 }
+    requires before { ArePastWithin (2 ^ 63 - 512) past.now }
+    requires address { a ≤ 2 ^ 63 - 512 }
+    requires side { y ≤ 2 ^ 63 - 512 }
+    ensures { result ≡ prepared_of levels past.now a y }
+{
+    a.max(y).max(past[levels - 1].c) + 1
+}
+
+/// The operand words are read of an entry that is prepared at `p`.
+#[tactic(auto, unfolding(crate::specs::Rows::operands_read))]
+fn read_operands(delays: &Delays, past: &[Past; 8], entry: &Entry, bus: Bus, p: u64) -> Reading
+    requires entry { IsEntry entry.now }
+    requires before { ArePastWithin (2 ^ 63 - 2 ^ 17) past.now }
+    requires room { IsBusWithin (2 ^ 63 - 2 ^ 17) bus }
+    requires early { p ≤ 2 ^ 63 - 2 ^ 17 }
+    ensures { result ≡ operands_read delays.now past.now bus entry.now.reads p }
+{
+    delays.shape();
+    let mut operands = Reading { bus, answered: p };
+    operands.words(delays, past, entry.reads.one, p);
+    operands.words(delays, past, entry.reads.two, p);
+    operands
+}
+
+/// The bus after the following words of an entry that is prepared at `p`.
+#[tactic(auto, unfolding(crate::specs::Rows::bus_followed))]
+fn follow(bus: Bus, delays: &Delays, entry: &Entry, p: u64) -> Bus
+    requires entry { IsEntry entry.now }
+    requires room { IsBusWithin (2 ^ 63 - 1024) bus }
+    requires early { p ≤ 2 ^ 63 - 1024 }
+    ensures { result ≡ bus_followed delays.now bus entry.now p }
+{
+    delays.shape();
+    let mut bus = bus;
+    if entry.follows {
+        let w = entry.own.first + u32::from(entry.own.len);
+        request_inside(&mut bus, delays, w, p);
+        request_inside(&mut bus, delays, w + 1, p);
+    }
+    bus
+}
+
+/// Asks for the word `w`, if it is a word of storage.
+fn request_inside(bus: &mut Bus, delays: &Delays, w: u32, p: u64)
+    requires room { IsBusWithin (2 ^ 63 - 512) bus.old }
+    requires early { p ≤ 2 ^ 63 - 512 }
+    ensures { bus.new ≡ request_inside_of delays.now bus.old w p }
+{
+    if w < WORDS {
+        bus.request(delays, w, p);
+    }
+}

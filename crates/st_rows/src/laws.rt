@@ -1,0 +1,64 @@
+//! What holds of the ticks of all entries.
+ghost use Rattle.std.specs.Prelude.{◌≡◌, ℕ, List, [], ◌∷◌, ◌+◌, ◌*◌, ◌<◌, ◌≤◌, ◌||◌, true};
+ghost use Rattle.st_rows.specs.Ranges.{AreDelays, IsEntry, IsTight};
+ghost use Rattle.st_rows.specs.Entries.{latest_done};
+ghost use Rattle.st_rows.specs.Rows.{opening, fetched, done_before, row, after};
+ghost use Rattle.std.specs.List.{AllZip};
+ghost use Rattle.st_banks.specs.declared.answers.LastAnswers.{LastAnswers};
+ghost use Rattle.st_rows.specs.BusTimes.{after_read, answer_at, requested, answer_of};
+ghost use Rattle.st_rows.specs.Levels.{AreEqual, IsBusSooner, IsFrontSooner, IsRowSooner, AreInOrder, IsCalm, AreCalm, AreCovered, rows};
+ghost use Rattle.st_rows.specs.declared.bus.Bus.{Bus};
+ghost use Rattle.st_rows.specs.declared.entry.Entry.{Entry};
+ghost use Rattle.st_rows.specs.declared.entry.Runs.{Runs};
+ghost use Rattle.st_rows.specs.declared.front.Front.{Front};
+
+/// The ticks of a row stand in their order, and behind those of the row before.
+pub fn rows_are_in_order()
+    ensures address { (most n : ℕ) (ds : List ℕ) (f : Front) (e : Entry) → AreDelays most ds → IsEntry e → IsTight most f →
+        (f.p < (row ds n f e).a) × ((fetched ds f e).answered < (row ds n f e).a) × (f.bus.free ≤ (row ds n f e).a) }
+    ensures awaited { (ds : List ℕ) (n : ℕ) (f : Front) (e : Entry) → (fetched ds f e).awaited < (row ds n f e).a }
+    ensures writers { (ds : List ℕ) (f : Front) (e : Entry) (i : ℕ) →
+        (i < e.own.len → latest_done f.past (e.own.first + i) ≤ (fetched ds f e).awaited)
+        × (i < e.target.len → latest_done f.past (e.target.first + i) ≤ (fetched ds f e).awaited) }
+    ensures alone { (ds : List ℕ) (n : ℕ) (f : Front) (e : Entry) → (e.serial || f.serial) ≡ true →
+        f.c < (row ds n f e).a }
+    ensures prepared { (ds : List ℕ) (n : ℕ) (f : Front) (e : Entry) → (row ds n f e).a < (row ds n f e).p }
+    ensures levels { (ds : List ℕ) (n : ℕ) (f : Front) (e : Entry) → done_before n f.past < (row ds n f e).p }
+    ensures ready { (most n : ℕ) (ds : List ℕ) (f : Front) (e : Entry) → AreDelays most ds → IsEntry e → IsTight most f →
+        ((row ds n f e).p ≤ (row ds n f e).r) × ((row ds n f e).r < (row ds n f e).c) × (f.c < (row ds n f e).c) }
+{}
+
+/// The ticks of a front stay close together, and no entry takes longer than 64 reads with four ticks more each.
+pub fn completions_are_bounded()
+    ensures tight { (most n : ℕ) (ds : List ℕ) (f : Front) (e : Entry) → AreDelays most ds →
+        IsEntry e → IsTight most f → IsTight most (after ds n f e) }
+    ensures bound { (most n : ℕ) (ds : List ℕ) (f : Front) (e : Entry) → AreDelays most ds →
+        IsEntry e → IsTight most f → (after ds n f e).c ≤ f.c + 64 * (most + 4) }
+{}
+
+/// Where all reads take the same time, a read that is wanted no later on a bus that is nowhere later is answered no later.
+pub fn reads_are_no_later()
+    ensures read { (d : ℕ) (ds : List ℕ) (b c : Bus) (w want late : ℕ) → AreEqual d ds → IsBusSooner b c → want ≤ late →
+        IsBusSooner (after_read ds b w want) (after_read ds c w late) × (answer_at ds b w want ≤ answer_at ds c w late) }
+    ensures word { (d : ℕ) (ds : List ℕ) (b c : Bus) (w want late : ℕ) → AreEqual d ds → IsBusSooner b c → want ≤ late →
+        IsBusSooner (requested ds b w want) (requested ds c w late) × (answer_of ds b w want ≤ answer_of ds c w late) }
+{}
+
+/// The same of an entry of which no word is written by an entry before, instruction words aside, and of as many levels or more.
+pub fn entries_are_no_later()
+    ensures row { (d m n : ℕ) (ds : List ℕ) (f g : Front) (e : Entry) (earlier : List Runs) → AreEqual d ds → n ≤ m →
+        IsFrontSooner f g → AreInOrder g → AreCovered f.past earlier → IsCalm earlier e →
+        IsRowSooner (row ds m f e) (row ds n g e) }
+    ensures after { (d m n : ℕ) (ds : List ℕ) (f g : Front) (e : Entry) (earlier : List Runs) → AreEqual d ds → n ≤ m →
+        IsFrontSooner f g → AreInOrder g → AreCovered f.past earlier → IsCalm earlier e →
+        IsFrontSooner (after ds m f e) (after ds n g e) × AreInOrder (after ds n g e)
+        × AreCovered (after ds m f e).past (e.writes ∷ earlier) }
+{}
+
+/// With more levels no entry of a segment is later, where all reads take the same time and no entry reads a word that an earlier
+/// one writes, instruction words aside.
+pub fn more_levels_are_no_later()
+    ensures { (d m n start : ℕ) (ds : List ℕ) (banks : LastAnswers) (es : List Entry) → AreEqual d ds → n ≤ m →
+        AreCalm [] es →
+        AllZip IsRowSooner (rows ds m (opening banks start) es) (rows ds n (opening banks start) es) }
+{}

@@ -1,0 +1,25 @@
+//! The numbers of the timetable: when the entries of a segment are fetched, addressed, prepared, ready and done.
+//! `docs/timetable.md` has the rules.
+#![tactic(auto, using(st_bits::specs::Storage::words_of_storage_is))]
+
+mod bus;
+mod entry;
+mod fetching;
+mod front;
+mod laws;
+mod past;
+mod reading;
+
+pub use bus::Bus;
+pub use entry::{Entry, Run, Runs};
+pub use fetching::Fetching;
+pub use front::{Front, Row};
+pub use laws::{
+    completions_are_bounded, entries_are_no_later, more_levels_are_no_later, reads_are_no_later,
+    rows_are_in_order,
+};
+pub use past::Past;
+pub use reading::Reading;
+
+#[cfg(test)]
+mod tests;

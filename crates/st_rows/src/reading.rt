@@ -1,0 +1,54 @@
+ghost use Rattle.std.specs.Prelude.{◌≡◌, ◌+◌, ◌*◌, ◌-◌, ◌<◌, ◌≤◌, ◌^◌, All};
+ghost use Rattle.st_rows.specs.Rows.{read_word, read_words};
+ghost use Rattle.st_rows.specs.Ranges.{IsReadingWithin, ArePastWithin, IsReadable};
+
+use crate::bus::Bus;
+use crate::entry::Run;
+use crate::past::{Past, latest_done};
+use st_banks::Delays;
+
+/// How far the operand words of an entry are read.
+#[derive(Clone, Copy, Debug, PartialEq, Eq)]
+pub struct Reading {
+    /// The bus after the words so far.
+    pub bus: Bus,
+    /// The latest of the answers so far and of the tick at which the entry was prepared.
+    pub answered: u64,
+}
+
+impl Reading {
+    /// Reads the next operand word of an entry that is prepared at `p`, unless an earlier entry writes it that is done later.
+    #[tactic(auto, unfolding(crate::specs::Rows::read_word))]
+    pub fn word(&mut self, delays: &Delays, past: &[Past; 8], w: u32, p: u64)
+        requires room { IsReadingWithin (2 ^ 63 - 512) self.old }
+        requires before { ArePastWithin (2 ^ 63 - 512) past.now }
+        requires early { p ≤ 2 ^ 63 - 512 }
+        ensures { self.new ≡ read_word delays.now past.now self.old w p }
+    {
+        if latest_done(past, w) > p {
+            return;
+        }
+        let answer = self.bus.read(delays, w, p);
+        self.answered = self.answered.max(answer);
+    }
+
+    /// Reads the next operand words.
+    #[tactic(auto, unfolding(crate::specs::Rows::read_words))]
+    pub fn words(&mut self, delays: &Delays, past: &[Past; 8], run: Run, p: u64)
+        requires room { IsReadingWithin (2 ^ 63 - 2 ^ 16) self.old }
+        requires before { ArePastWithin (2 ^ 63 - 2 ^ 16) past.now }
+        requires early { p ≤ 2 ^ 63 - 2 ^ 16 }
+        requires words { IsReadable run }
+        requires few { run.len ≤ 16 }
+        ensures { self.new ≡ read_words delays.now past.now self.old p run.first run.len }
+    {
+        delays.shape();
+        let mut w = run.first;
+        let mut left = run.len;
+        'words: while left > 0 {
+            self.word(delays, past, w, p);
+            w += 1;
+            left -= 1;
+        }
+    }
+}
