@@ -34,7 +34,6 @@ pub fn add_value(x: u64, d: i32) -> u64
     requires { unsigned_abs d < 2 ^ 25 }
     ensures word { result ≡ with_added x d }
     ensures rest { part result 25 39 ≡ part x 25 39 }
-    ensures bound { result < 2 ^ 64 }
 {
     with_value(x, value_of(x) + d)
 }
@@ -53,7 +52,6 @@ pub fn count_down(x: u64) -> u64
     ensures word { result ≡ with_lower_count x }
     ensures count { count result ≡ one_less (count x) }
     ensures value { value result ≡ value x }
-    ensures bound { result < 2 ^ 64 }
 {
     with_count(x, lower(count_of(x)))
 }

@@ -1,7 +1,8 @@
 //! What holds of rules that stand in two crates: they are one rule.
-ghost use Rattle.std.specs.Prelude.{◌≡◌, ◌≤◌, ◌<◌, ◌+◌, ◌*◌, ◌^◌, ◌==◌, ◌&&◌, ◌||◌, nat_le, nat_lt, All, ℕ, List, length, sum, decimal};
+ghost use Rattle.std.specs.Prelude.{◌≡◌, ◌≤◌, ◌<◌, ◌+◌, ◌*◌, ◌^◌, ◌==◌, ◌&&◌, ◌||◌, nat_le, nat_lt, All, ℕ, List, Some, map, codes, length, sum, decimal};
 ghost use Rattle.st_text.specs.Blanks.{without_end_blanks};
 ghost use Rattle.st_bits.specs.Bits.{part};
+ghost use Rattle.st_bits.specs.declared.register.TheConstants.{COUNTS, FIRST_INDEX_WORD, FIRST_STORAGE_WORD};
 ghost use Rattle.st_bits.specs.Registers.{fixed};
 ghost use Rattle.st_bits.specs.Storage.{words_of_storage};
 ghost use Rattle.st_bin.specs.Digits.{value_of, digits_of};
@@ -12,6 +13,9 @@ ghost use Rattle.st_state.specs.Interrupts.{is_on};
 ghost use Rattle.st_exec.specs.Outcome.{counts_of};
 ghost use Rattle.st_card.specs.Controls.{number_in as number_on_card};
 ghost use Rattle.st_card.specs.Limits.{is_part};
+ghost use Rattle.st_card.specs.Tables.{row_of};
+ghost use Rattle.st_expr.specs.System.{index_words, system_symbols};
+ghost use Rattle.st_strap.specs.Reading.{index_fields};
 ghost use Rattle.st_object.specs.Meaning.{number_in as number_on_line};
 ghost use Rattle.st_asm.specs.Lines.{without_end};
 ghost use Rattle.st_asm.specs.Checks.{in_storage};
@@ -23,14 +27,24 @@ pub fn digits_agree()
     ensures digits { (n v : ℕ) → digits_of n v ≡ joined 4 (digits n v) }
 {}
 
-/// The counts that a connective leaves stand in word 7 where that register keeps bits, each in its place.
+/// The counts that a connective leaves stand in their register where that register keeps bits, each in its place.
 pub fn counts_agree()
     ensures zeros { (bs : List ℕ) → length bs ≤ 64 → sum bs ≤ 64
         → part (counts_of bs) 17 7 ≡ leading_zeros bs }
     ensures ones { (bs : List ℕ) → length bs ≤ 64 → sum bs ≤ 64
         → part (counts_of bs) 44 7 ≡ sum bs }
     ensures kept { (bs : List ℕ) → length bs ≤ 64 → sum bs ≤ 64
-        → fixed 7 (counts_of bs) ≡ counts_of bs }
+        → fixed COUNTS (counts_of bs) ≡ counts_of bs }
+{}
+
+/// The system symbols stand for the places that the machine has: `$X0` to `$X15` for the index words that index fields name, `$LZC`
+/// and `$AOC` for the two counts.
+#[tactic(auto, unfolding(st_strap::specs::Reading::index_fields, st_expr::specs::System::system_symbols))]
+pub fn symbols_agree()
+    ensures index_words { index_words
+        ≡ map (λ row. (row.0, 64 * (FIRST_INDEX_WORD + row.1))) index_fields }
+    ensures zeros_count { row_of (codes "$LZC") system_symbols ≡ Some (64 * COUNTS + 17) }
+    ensures ones_count { row_of (codes "$AOC") system_symbols ≡ Some (64 * COUNTS + 44) }
 {}
 
 /// An indicator is on for an operation where it is on for an interrupt.
@@ -47,7 +61,7 @@ pub fn end_blanks_agree()
 pub fn sizes_of_storage_agree()
     ensures shown { (p : ℕ × ℕ) → is_part p ≡ (nat_le p.0 p.1 && nat_lt p.1 words_of_storage) }
     ensures laid { (place bits : ℕ) → in_storage place bits
-        ≡ (bits == 0 || (nat_le (64 * 32) place && nat_le (place + bits) (64 * words_of_storage))) }
+        ≡ (bits == 0 || (nat_le (64 * FIRST_STORAGE_WORD) place && nat_le (place + bits) (64 * words_of_storage))) }
 {}
 
 /// The numbers of control cards are those of the lines of an object text, as far as the one spelling goes that a line has;

@@ -7,6 +7,6 @@ mod numbers;
 
 pub use agreement::{
     counts_agree, digits_agree, end_blanks_agree, indicators_agree, numbers_agree,
-    sizes_of_storage_agree,
+    sizes_of_storage_agree, symbols_agree,
 };
 pub use numbers::laid_numbers_are_read;
