@@ -4,3 +4,4 @@ pub mod ReadLemmas
 pub mod StatementLemmas
 pub mod Digits
 pub mod NumberCards
+pub mod PlaceCards

@@ -12,6 +12,6 @@ mod reading;
 mod shapes;
 mod statement;
 
-pub use laws::numbers_of_words_are_read;
+pub use laws::{numbers_of_words_are_read, places_are_read};
 pub use reading::read_statement;
 pub use statement::{Form, Spot, Statement};
