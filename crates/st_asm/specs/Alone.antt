@@ -1,5 +1,5 @@
 -- What a statement lays by itself: on a card without a name, where words may be laid.
-use Rattle.std.specs.Prelude.{ℕ, ◌&&◌, List, [], Option, Some, None, is_none, Result, Ok, Err, if◌then◌else◌}
+use Rattle.std.specs.Prelude.{ℕ, List, [], Option, Some, None, is_none, Result, Ok, Err, if◌then◌else◌}
 use Rattle.st_card.specs.declared.faults.Fault.{Fault}
 use Rattle.st_strap.specs.Saying.{statement_of}
 use Rattle.st_strap.specs.declared.statement.Statement.{Statement}

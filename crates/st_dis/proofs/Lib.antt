@@ -3,3 +3,4 @@ pub mod Counted
 pub mod Spelled
 pub mod Lengths
 pub mod WordRead
+pub mod PlacesRead

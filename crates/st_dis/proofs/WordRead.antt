@@ -1,18 +1,15 @@
 -- The statements of a word, read one after another, lay the word.
-use Rattle.std.proofs.Common.{◌≡◌, ◌<◌, ◌+◌, ◌*◌, ◌/◌, ◌%◌, ◌^◌, ◌==◌, ◌&&◌, ℕ, Bool, true, false, not, nat_le, nat_lt, List, [], ◌∷◌, length, Option, Some, None, if◌then◌else◌, is_none, refl, ap, sym, ◌∙◌, arith}
+use Rattle.std.proofs.Common.{◌≡◌, ◌<◌, ◌+◌, ◌*◌, ◌/◌, ◌%◌, ◌^◌, ◌==◌, ℕ, true, false, nat_le, nat_lt, List, [], ◌∷◌, length, Option, Some, None, if◌then◌else◌, is_none, refl, ap, ◌∙◌, arith}
 use Rattle.std.proofs.lemmas.Bool.{and_parts as both}
 use Rattle.std.proofs.lemmas.Bool.Decides.{nat_tests}
-use Rattle.st_strap.specs.Saying.{statement_of}
-use Rattle.st_strap.specs.declared.statement.Statement.{Statement}
 use Rattle.st_strap.specs.declared.statement.Statement.TheVariants.{Data}
-use Rattle.st_asm.specs.Symbols.{accepts_all, is_defined}
+use Rattle.st_asm.specs.Symbols.{accepts_all}
 use Rattle.st_asm.specs.Values.{values_of}
 use Rattle.st_asm.specs.Numbers.{holds, field_of}
-use Rattle.st_asm.specs.Places.{role_of, length_in}
 use Rattle.st_asm.specs.Naming.{unnamed}
 use Rattle.st_asm.specs.Checks.{value_fault, in_range, fits, on_boundary, in_storage}
 use Rattle.st_asm.specs.Laying.{bits_of}
-use Rattle.st_asm.specs.Alone.{laid_alone, laid_if_read, laid_by, laid_with}
+use Rattle.st_asm.specs.Alone.{laid_alone, laid_if_read, laid_by}
 use Rattle.st_asm.specs.declared.alone.LaidBits.{LaidBits}
 use Rattle.st_dis.specs.Spelling.{is_laid, says, number_text, statements_of}
 use Rattle.st_dis.specs.Read.{bits_of_length, laid_behind, laid_together}

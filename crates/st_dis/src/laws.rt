@@ -1,6 +1,10 @@
 //! What holds of the cards of a deck, and not of one call.
 
-ghost use Rattle.std.specs.Prelude.{◌≡◌, ◌<◌, ◌^◌, ℕ, Some};
+ghost use Rattle.std.specs.Prelude.{◌≡◌, ◌<◌, ◌*◌, ◌^◌, ℕ, [], Some, Ok};
+ghost use Rattle.st_strap.specs.Reading.{number_expr};
+ghost use Rattle.st_strap.specs.Saying.{statement_of};
+ghost use Rattle.st_strap.specs.declared.statement.Statement.TheVariants.{SetLocation, End};
+ghost use Rattle.st_dis.specs.Deck.{location_text, end_text};
 ghost use Rattle.st_dis.specs.Spelling.{statements_of};
 ghost use Rattle.st_dis.specs.Read.{bits_of_length, laid_together};
 
@@ -8,4 +12,13 @@ ghost use Rattle.st_dis.specs.Read.{bits_of_length, laid_together};
 pub fn statements_lay_their_word()
     ensures { (word : ℕ) → word < 2 ^ 64 →
         laid_together (statements_of word) ≡ Some (bits_of_length 64 word) }
+{}
+
+/// The card before a run of words sets the location to the first of them, and the end gives the start: both as bit
+/// addresses.
+pub fn places_come_back()
+    ensures location { (w : ℕ) → w < 98304 →
+        statement_of [] (location_text w) ≡ Ok (SetLocation (number_expr (64 * w))) }
+    ensures start { (start : ℕ) → start < 2 ^ 19 →
+        statement_of [] (end_text start) ≡ Ok (End (number_expr (32 * start))) }
 {}

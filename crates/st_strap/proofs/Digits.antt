@@ -1,5 +1,5 @@
 -- Decimal digits are read as their number, and have no byte that parts a statement.
-use Rattle.std.proofs.Common.{◌≡◌, ◌≢◌, ◌≤◌, ◌<◌, ◌+◌, ◌-◌, ◌^◌, ◌==◌, ◌&&◌, ◌||◌, ℕ, suc, zero, Bool, true, false, not, nat_le, List, [], ◌∷◌, ◌++◌, Option, Some, None, if◌then◌else◌, length, take, drop, filter, decimal, refl, ap, sym, ◌∙◌, arith, rules}
+use Rattle.std.proofs.Common.{◌≡◌, ◌≤◌, ◌<◌, ◌+◌, ◌-◌, ◌^◌, ◌==◌, ◌&&◌, ◌||◌, ℕ, suc, Bool, true, false, not, nat_le, List, [], ◌∷◌, if◌then◌else◌, length, take, filter, decimal, refl, ap, ◌∙◌, arith, rules}
 use Rattle.std.specs.Prelude.{slice_get}
 use Rattle.std.specs.Option.{option_map_or}
 use Rattle.std.proofs.lemmas.Bool.{and_parts as both, and_from as and_true, le-leb as within}
@@ -11,7 +11,6 @@ use Rattle.std.proofs.lemmas.Str.Parse.{IsNumeralModel, numerals_by_fold}
 use Rattle.std.proofs.lemmas.Fmt.{digits_decimal, digits_value-decimal, decimal_nonempty}
 use Rattle.st_card.specs.Number.{is_filled, is_number, value, value_after, reading}
 use Rattle.st_card.specs.Pieces.{parted, onto_first, lacks}
-use Rattle.st_card.specs.declared.numbers.Reading.{Reading}
 use Rattle.st_card.specs.declared.numbers.Reading.TheVariants.{Bad, Large, Good}
 use Rattle.st_strap.specs.Text.{stop, begins_with, ends_with, clean}
 

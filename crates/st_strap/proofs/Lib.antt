@@ -5,3 +5,4 @@ pub mod StatementLemmas
 pub mod FaultLemmas
 pub mod Digits
 pub mod NumberCards
+pub mod PlaceCards

@@ -1,25 +1,20 @@
 -- A number laid by DD is read as it stands.
-use Rattle.std.proofs.Common.{◌≡◌, ◌≤◌, ◌<◌, ◌+◌, ◌^◌, ◌==◌, ◌&&◌, ◌||◌, ℕ, Bool, true, false, not, List, [], ◌∷◌, ◌++◌, Option, Some, None, unwrap_or, if◌then◌else◌, length, take, drop, codes, decimal, Result, Ok, Err, refl, ap, sym, ◌∙◌, arith}
-use Rattle.std.proofs.lemmas.Bool.Decides.{nat_tests}
+use Rattle.std.proofs.Common.{◌≡◌, ◌<◌, ◌^◌, ◌==◌, ◌||◌, ℕ, true, false, List, [], ◌∷◌, ◌++◌, Option, Some, None, unwrap_or, if◌then◌else◌, length, take, drop, codes, decimal, Ok, Err, refl, ap, ◌∙◌, arith}
 use Rattle.std.proofs.lemmas.List.{take_all, drop_all}
 use Rattle.std.specs.Option.{option_and_then}
-use Rattle.st_card.specs.Number.{reading}
-use Rattle.st_card.specs.Pieces.{parted, lacks}
-use Rattle.st_card.specs.declared.faults.Fault.{Fault}
+use Rattle.st_card.specs.Pieces.{lacks}
 use Rattle.st_card.specs.declared.faults.Fault.TheVariants.{BadName, UnknownOperation, BadDataDescription, BadProgressive}
-use Rattle.st_strap.specs.Text.{clean, word_of, behind_word, group_length, group, behind_group, fields_of}
+use Rattle.st_strap.specs.Text.{group_length, group, behind_group, fields_of}
 use Rattle.st_strap.specs.Table.{operation_of, other_operations}
 use Rattle.st_strap.specs.Order.{judged, mapped}
 use Rattle.st_strap.specs.Describing.{modes, plain_form, number_to, in_mode, description_of, may_have, described}
-use Rattle.st_strap.specs.Forming.{forms, unclosed, is_form, description_in, behind_description, form_number, may_have_form, is_end, with_number, progressed}
-use Rattle.st_strap.specs.Reading.{last_open, index_start, front, index_part, unindexed, number_in, number_of, signed_of, signed_number}
+use Rattle.st_strap.specs.Forming.{forms, unclosed, is_form, description_in, behind_description, form_number, may_have_form, is_end, progressed}
+use Rattle.st_strap.specs.Reading.{last_open, index_start, front, index_part, unindexed, number_of, signed_of, signed_number}
 use Rattle.st_strap.specs.Saying.{number_alone, with_fields, is_misnamed, formed, said, clean_statement_of, statement_of}
 use Rattle.st_strap.specs.declared.statement.Form.{Form}
-use Rattle.st_strap.specs.declared.statement.Statement.{Statement}
 use Rattle.st_strap.specs.declared.statement.Statement.TheVariants.{Data}
 use Rattle.st_strap.specs.declared.operations.Operation.TheVariants.{Data as DataOperation}
-use Rattle.st_strap.specs.declared.descriptions.Description.TheVariants.{InForm}
-use Rattle.st_strap.proofs.Digits.{AreDigits, decimal-digits, reading-decimal, digits-lack, low_other, high_other, lacks-ends, lacks-begins, lacks-parted, clean-is}
+use Rattle.st_strap.proofs.Digits.{decimal-digits, reading-decimal, digits-lack, low_other, high_other, lacks-ends, lacks-begins, lacks-parted, clean-is}
 
 -- the form of a whole word
 abbrev pub word_form : Form
@@ -60,7 +55,7 @@ field-read n small =
     ∙ ap (λ r. mapped (λ p. Data word_form p.0 p.1) r) (number-decimal n small)
 
 -- no progressive form stands before it
-is_end-comma : (text : List ℕ) → is_end (44 ∷ text) ≡ true
+pub is_end-comma : (text : List ℕ) → is_end (44 ∷ text) ≡ true
 is_end-comma text = elim (length (44 ∷ text) == 0) as (λ b. (b || true) ≡ true) [ true ↦ refl | false ↦ refl ]
 
 progressed-none : (text : List ℕ) → progressed DataOperation word_form (44 ∷ text) ≡ Some word_form

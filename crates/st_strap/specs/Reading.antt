@@ -11,6 +11,7 @@ use Rattle.st_card.specs.declared.numbers.Reading.{Reading}
 use Rattle.st_card.specs.declared.numbers.Reading.TheVariants.{Bad, Large, Good}
 use Rattle.st_expr.specs.Expression.{expr_of}
 use Rattle.st_expr.specs.declared.terms.Term.{Term}
+use Rattle.st_expr.specs.declared.terms.Atom.TheVariants.{Number}
 use Rattle.st_strap.specs.Order.{earlier, both_of, mapped}
 use Rattle.st_strap.specs.Text.{begins_with, ends_with}
 use Rattle.st_strap.specs.declared.statement.Spot.{Spot}
@@ -111,3 +112,7 @@ with_selected (Err e) list = Err BadIndex
 abbrev pub selected : List (List ℕ) → Result ℕ Fault
 selected [] = Ok 0
 selected (field ∷ more) = with_selected (index_field field) (selected more)
+
+-- the expression that is one number
+abbrev pub number_expr : ℕ → ArrayVec Term
+number_expr n = record { items = record { minus = false; atom = Number n } ∷ [] }

@@ -1,11 +1,12 @@
 //! What holds of statement cards, whatever they say.
 
-ghost use Rattle.std.specs.Prelude.{◌≡◌, ◌<◌, ◌^◌, ◌++◌, ℕ, List, [], false, true, codes, decimal, Ok};
+ghost use Rattle.std.specs.Prelude.{◌≡◌, ◌≤◌, ◌<◌, ◌+◌, ◌*◌, ◌^◌, ◌++◌, ℕ, List, [], false, true, codes, decimal, Ok};
 ghost use Rattle.st_card.specs.Cards.{first_fault};
 ghost use Rattle.st_strap.specs.Describing.{plain_form};
 ghost use Rattle.st_strap.specs.Faults.{fault_in, faults_on};
 ghost use Rattle.st_strap.specs.Saying.{statement_of};
-ghost use Rattle.st_strap.specs.declared.statement.Statement.TheVariants.{Data};
+ghost use Rattle.st_strap.specs.declared.statement.Statement.TheVariants.{Data, SetLocation, End};
+ghost use Rattle.st_strap.specs.Reading.{number_expr};
 
 /// A statement card has a fault exactly where it has one of the list, each told by itself, and it is refused for the
 /// first of those that it has.
@@ -18,4 +19,14 @@ pub fn the_first_fault_of_the_list_counts()
 pub fn numbers_of_words_are_read()
     ensures { (n : ℕ) → n < 2 ^ 64 → statement_of [] (codes "DD(BU,64)," ++ decimal n)
         ≡ Ok (Data (plain_form false true 64 8) false n) }
+{}
+
+/// A place, word w and bit b, is read as bit address 64w + b where it stands behind `SLC,` or `END,`.
+pub fn places_are_read()
+    ensures set { (w b : ℕ) → w ≤ 262143 → b ≤ 63 →
+        statement_of [] (codes "SLC," ++ decimal w ++ codes "." ++ decimal b)
+        ≡ Ok (SetLocation (number_expr (64 * w + b))) }
+    ensures end { (w b : ℕ) → w ≤ 262143 → b ≤ 63 →
+        statement_of [] (codes "END," ++ decimal w ++ codes "." ++ decimal b)
+        ≡ Ok (End (number_expr (64 * w + b))) }
 {}

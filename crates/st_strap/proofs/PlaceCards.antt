@@ -1,0 +1,201 @@
+-- Places are read as their bit addresses, by the cards that set the location and that end a program.
+use Rattle.std.proofs.Common.{◌≡◌, ◌≤◌, ◌<◌, ◌+◌, ◌*◌, ◌^◌, ◌==◌, ◌&&◌, ℕ, Bool, true, false, not, nat_le, List, [], ◌∷◌, ◌++◌, Option, Some, None, if◌then◌else◌, length, take, drop, codes, decimal, Ok, Err, refl, ap, ◌∙◌, append_assoc, arith}
+use Rattle.std.proofs.lemmas.Bool.{and_parts as both, and_from as and_true}
+use Rattle.std.proofs.lemmas.Bool.Decides.{nat_tests}
+use Rattle.std.proofs.lemmas.List.{take_all, drop_all}
+use Rattle.std.proofs.lemmas.List.Folds.{list_all-append}
+use Rattle.std.specs.Char.{is_ascii_digit, is_ascii_uppercase}
+use Rattle.std.specs.List.{list_all}
+use Rattle.st_card.specs.Number.{is_filled, reading}
+use Rattle.st_card.specs.Pieces.{parted, onto_first, lacks}
+use Rattle.st_card.specs.declared.faults.Fault.TheVariants.{BadName, UnknownOperation, BadProgressive}
+use Rattle.st_card.specs.declared.numbers.Reading.TheVariants.{Good}
+use Rattle.st_expr.specs.Name.{is_name_byte, is_name, is_system_word}
+use Rattle.st_expr.specs.Term.{atom_of, place_of, bit_address}
+use Rattle.st_expr.specs.Expression.{onto_part, parts_after, parts, expr_in, expr_of}
+use Rattle.st_strap.specs.Text.{clean, group_length, fields_of}
+use Rattle.st_strap.specs.Table.{operation_of, other_operations}
+use Rattle.st_strap.specs.Order.{judged, mapped}
+use Rattle.st_strap.specs.Describing.{default_form, description_of, described}
+use Rattle.st_strap.specs.Forming.{forms, unclosed, description_in, behind_description, form_number, may_have_form, progressed}
+use Rattle.st_strap.specs.Reading.{front, index_part, unindexed, expression, number_expr}
+use Rattle.st_strap.specs.Saying.{expression_alone, with_fields, is_misnamed, formed, said, clean_statement_of, statement_of}
+use Rattle.st_strap.specs.declared.statement.Form.{Form}
+use Rattle.st_strap.specs.declared.statement.Statement.TheVariants.{SetLocation, End}
+use Rattle.st_strap.specs.declared.operations.Operation.{Operation}
+use Rattle.st_strap.specs.declared.operations.Operation.TheVariants.{SetLocation as SetLocationOperation, End as EndOperation}
+use Rattle.st_strap.proofs.Digits.{AreDigits, decimal-digits, reading-decimal, unequal, digits-lack, IsOther, low_other, high_other, lacks-parted, clean-is}
+use Rattle.st_strap.proofs.NumberCards.{no_index_part, is_end-comma}
+
+-- word w and bit b as text
+abbrev pub place_text : ℕ → ℕ → List ℕ
+place_text w b = decimal w ++ 46 ∷ decimal b
+
+-- a place has digits and a point alone
+place-lacks : (at w b : ℕ) → IsOther at → not (46 == at) ≡ true → w < 2 ^ 64 → b < 2 ^ 64 → lacks at (place_text w b) ≡ true
+place-lacks at w b other point small_w small_b =
+    list_all-append (λ c. not (c == at)) (decimal w) (46 ∷ decimal b)
+    ∙ and_true (lacks at (decimal w)) (lacks at (46 ∷ decimal b)) (digits-lack at (decimal w) other (decimal-digits w small_w))
+    (and_true (not (46 == at)) (lacks at (decimal b)) point (digits-lack at (decimal b) other (decimal-digits b small_b)))
+
+-- without signs a text is one part
+parts_after-plain : (m : Bool) (text : List ℕ) → lacks 43 text ≡ true → lacks 45 text ≡ true → parts_after m text ≡ (m, text) ∷ []
+parts_after-plain m [] plus minus = refl
+parts_after-plain m (c ∷ cs) plus minus =
+    let p = both (not (c == 43)) (lacks 43 cs) plus in
+    let q = both (not (c == 45)) (lacks 45 cs) minus in
+    let step = λ (x y : Bool). if x then (m, []) ∷ parts_after false cs
+    else (if y then (m, []) ∷ parts_after true cs else onto_part c (parts_after m cs)) in
+    ap (λ x. step x (c == 45)) (unequal (c == 43) p.0)
+    ∙ (ap (λ y. step false y) (unequal (c == 45) q.0) ∙ ap (λ ps. onto_part c ps) (parts_after-plain m cs p.1 q.1))
+
+parts-plain : (text : List ℕ) → lacks 43 text ≡ true → lacks 45 text ≡ true → parts text ≡ (false, text) ∷ []
+parts-plain [] plus minus = refl
+parts-plain (c ∷ cs) plus minus =
+    let p = both (not (c == 43)) (lacks 43 cs) plus in
+    let q = both (not (c == 45)) (lacks 45 cs) minus in
+    let step = λ (x y : Bool). if x then parts_after false cs
+    else (if y then parts_after true cs else parts_after false (c ∷ cs)) in
+    ap (λ x. step x (c == 45)) (unequal (c == 43) p.0)
+    ∙ (ap (λ y. step false y) (unequal (c == 45) q.0) ∙ parts_after-plain false (c ∷ cs) plus minus)
+
+-- what begins with a digit is no name
+no_letter : (c : ℕ) → is_ascii_digit c ≡ true → is_ascii_uppercase c ≡ false
+no_letter c digit = grind (arith, nat_tests)
+
+no_dollar : (c : ℕ) → is_ascii_digit c ≡ true → (c == 36) ≡ false
+no_dollar c digit = grind (arith, nat_tests)
+
+no_name : (ds rest : List ℕ) → AreDigits ds → is_name (ds ++ rest) ≡ false
+no_name [] rest digits = let some = digits.some in let no : ⊥ = omega (arith, some) in absurd no
+no_name (c ∷ cs) rest digits =
+    let first = (both (is_ascii_digit c) (list_all is_ascii_digit cs) digits.each).0 in
+    ap (λ b. b && list_all is_name_byte (cs ++ rest) && nat_le (length (cs ++ rest)) 7) (no_letter c first)
+
+no_system_word : (ds rest : List ℕ) → AreDigits ds → is_system_word (ds ++ rest) ≡ false
+no_system_word [] rest digits = let some = digits.some in let no : ⊥ = omega (arith, some) in absurd no
+no_system_word (c ∷ cs) rest digits =
+    let first = (both (is_ascii_digit c) (list_all is_ascii_digit cs) digits.each).0 in
+    ap (λ b. b && is_filled (cs ++ rest) && list_all is_name_byte (cs ++ rest) && nat_le (length (cs ++ rest)) 7) (no_dollar c first)
+
+-- a text is cut at a byte that it has once
+parted-once : (at : ℕ) (ahead back : List ℕ) → lacks at ahead ≡ true → parted at (ahead ++ at ∷ back) ≡ ahead ∷ parted at back
+parted-once at [] back lack =
+    let same : (at == at) ≡ true = grind (arith, nat_tests) in
+    ap (λ b. if b then [] ∷ parted at back else onto_first at (parted at back)) same
+parted-once at (c ∷ cs) back lack =
+    let tests = both (not (c == at)) (lacks at cs) lack in
+    ap (λ b. if b then [] ∷ parted at (cs ++ at ∷ back) else onto_first c (parted at (cs ++ at ∷ back))) (unequal (c == at) tests.0)
+    ∙ ap (λ (ps : List (List ℕ)). onto_first c ps) (parted-once at cs back tests.1)
+
+-- a place is read as its word and its bit
+place-pieces : (w b : ℕ) → w ≤ 262143 → b ≤ 63 → place_of (parted 46 (place_text w b)) ≡ bit_address (Good w) (Good b)
+place-pieces w b fits_w fits_b =
+    let ds = decimal-digits w (omega arith) in
+    let bs = decimal-digits b (omega arith) in
+    let cut : parted 46 (place_text w b) ≡ decimal w ∷ decimal b ∷ [] =
+    parted-once 46 (decimal w) (decimal b) (digits-lack 46 (decimal w) (low_other 46 (omega arith)) ds)
+    ∙ ap (λ (ps : List (List ℕ)). decimal w ∷ ps) (lacks-parted 46 (decimal b) (digits-lack 46 (decimal b) (low_other 46 (omega arith)) bs)) in
+    ap (λ (ps : List (List ℕ)). place_of ps) cut
+    ∙ (ap (λ r. bit_address r (reading 63 (decimal b))) (reading-decimal 262143 w fits_w (omega arith))
+    ∙ ap (λ r. bit_address (Good w) r) (reading-decimal 63 b fits_b (omega arith)))
+
+place-atom : (w b : ℕ) → w ≤ 262143 → b ≤ 63 → atom_of (place_text w b) ≡ bit_address (Good w) (Good b)
+place-atom w b fits_w fits_b =
+    let ds = decimal-digits w (omega arith) in
+    let word = no_name (decimal w) (46 ∷ decimal b) ds in
+    let system = no_system_word (decimal w) (46 ∷ decimal b) ds in
+    let pieces = place-pieces w b fits_w fits_b in
+    rw (word, system, pieces)
+
+one_good : (text : List ℕ) (w b : ℕ) → atom_of text ≡ bit_address (Good w) (Good b) →
+    expr_in ((false, text) ∷ []) ≡ Ok (number_expr (64 * w + b))
+one_good text w b good = rw good
+
+place-expr : (w b : ℕ) → w ≤ 262143 → b ≤ 63 → expr_of (place_text w b) ≡ Ok (number_expr (64 * w + b))
+place-expr w b fits_w fits_b =
+    let text = place_text w b in
+    let no_plus = place-lacks 43 w b (low_other 43 (omega arith)) refl (omega arith) (omega arith) in
+    let no_minus = place-lacks 45 w b (low_other 45 (omega arith)) refl (omega arith) (omega arith) in
+    ap (λ (ps : List (Bool × List ℕ)). expr_in ps) (parts-plain text no_plus no_minus)
+    ∙ one_good text w b (place-atom w b fits_w fits_b)
+
+place-expression : (w b : ℕ) → w ≤ 262143 → b ≤ 63 → expression (place_text w b) ≡ Ok (number_expr (64 * w + b))
+unfolding expression
+place-expression w b fits_w fits_b =
+    let text = place_text w b in
+    let start = no_index_part text (place-lacks 41 w b (low_other 41 (omega arith)) refl (omega arith) (omega arith)) in
+    let whole : front text ≡ text = ap (λ k. take k text) start ∙ take_all (length text) text (omega arith) in
+    let nothing : index_part text ≡ [] = ap (λ k. drop k text) start ∙ drop_all (length text) text (omega arith) in
+    ap (λ (part : List ℕ). unindexed part (expr_of (front text))) nothing
+    ∙ (ap (λ (t : List ℕ). expr_of t) whole ∙ place-expr w b fits_w fits_b)
+
+-- the one field of a card
+place-field : (w b : ℕ) → w ≤ 262143 → b ≤ 63 →
+    expression_alone (fields_of (44 ∷ place_text w b)) ≡ Ok (number_expr (64 * w + b))
+unfolding expression_alone fields_of
+place-field w b fits_w fits_b =
+    ap (λ (fields : List (List ℕ)). expression_alone fields)
+    (lacks-parted 44 (place_text w b) (place-lacks 44 w b (low_other 44 (omega arith)) refl (omega arith) (omega arith)))
+    ∙ place-expression w b fits_w fits_b
+
+-- an operation without description and progressive form
+plain-progressed : (op : Operation) (text : List ℕ) → progressed op default_form (44 ∷ text) ≡ Some default_form
+unfolding progressed group_length form_number may_have_form
+plain-progressed op text = ap (λ b. if b then Some default_form else None) (is_end-comma text)
+
+plain-said : (op : Operation) (text : List ℕ) → said op (44 ∷ text) ≡ with_fields op default_form (fields_of (44 ∷ text))
+unfolding said description_in behind_description group_length unclosed forms description_of described formed
+plain-said op text =
+    ap (λ (f : Option Form). judged BadProgressive f (λ f. with_fields op f (fields_of (44 ∷ text)))) (plain-progressed op text)
+
+set-operation : operation_of (codes "SLC") ≡ Some SetLocationOperation
+unfolding operation_of other_operations
+set-operation = refl
+
+end-operation : operation_of (codes "END") ≡ Some EndOperation
+unfolding operation_of other_operations
+end-operation = refl
+
+set-clean : (text : List ℕ) → clean_statement_of [] (codes "SLC," ++ text) ≡ said SetLocationOperation (44 ∷ text)
+unfolding clean_statement_of is_misnamed
+set-clean text =
+    ap (λ op. if is_misnamed [] op then Err BadName else judged UnknownOperation op (λ found. said found (44 ∷ text))) set-operation
+
+end-clean : (text : List ℕ) → clean_statement_of [] (codes "END," ++ text) ≡ said EndOperation (44 ∷ text)
+unfolding clean_statement_of is_misnamed
+end-clean text =
+    ap (λ op. if is_misnamed [] op then Err BadName else judged UnknownOperation op (λ found. said found (44 ∷ text))) end-operation
+
+set-fields : (w b : ℕ) → w ≤ 262143 → b ≤ 63 →
+    with_fields SetLocationOperation default_form (fields_of (44 ∷ place_text w b)) ≡ Ok (SetLocation (number_expr (64 * w + b)))
+unfolding with_fields
+set-fields w b fits_w fits_b = ap (λ r. mapped (λ at. SetLocation at) r) (place-field w b fits_w fits_b)
+
+end-fields : (w b : ℕ) → w ≤ 262143 → b ≤ 63 →
+    with_fields EndOperation default_form (fields_of (44 ∷ place_text w b)) ≡ Ok (End (number_expr (64 * w + b)))
+unfolding with_fields
+end-fields w b fits_w fits_b = ap (λ r. mapped (λ at. End at) r) (place-field w b fits_w fits_b)
+
+-- the card that sets the location, and the one that ends a program
+pub set-read : (w b : ℕ) → w ≤ 262143 → b ≤ 63 →
+    statement_of [] (codes "SLC," ++ decimal w ++ codes "." ++ decimal b) ≡ Ok (SetLocation (number_expr (64 * w + b)))
+set-read w b fits_w fits_b =
+    let text = codes "SLC," ++ place_text w b in
+    let same : codes "SLC," ++ decimal w ++ codes "." ++ decimal b ≡ text = simp append_assoc refl in
+    let plain : clean text ≡ text = clean-is text (place-lacks 59 w b (high_other 59 (omega arith)) refl (omega arith) (omega arith))
+    (place-lacks 32 w b (low_other 32 (omega arith)) refl (omega arith) (omega arith)) in
+    ap (λ (t : List ℕ). statement_of [] t) same
+    ∙ (ap (λ (t : List ℕ). clean_statement_of [] t) plain
+    ∙ (set-clean (place_text w b) ∙ (plain-said SetLocationOperation (place_text w b) ∙ set-fields w b fits_w fits_b)))
+
+pub end-read : (w b : ℕ) → w ≤ 262143 → b ≤ 63 →
+    statement_of [] (codes "END," ++ decimal w ++ codes "." ++ decimal b) ≡ Ok (End (number_expr (64 * w + b)))
+end-read w b fits_w fits_b =
+    let text = codes "END," ++ place_text w b in
+    let same : codes "END," ++ decimal w ++ codes "." ++ decimal b ≡ text = simp append_assoc refl in
+    let plain : clean text ≡ text = clean-is text (place-lacks 59 w b (high_other 59 (omega arith)) refl (omega arith) (omega arith))
+    (place-lacks 32 w b (low_other 32 (omega arith)) refl (omega arith) (omega arith)) in
+    ap (λ (t : List ℕ). statement_of [] t) same
+    ∙ (ap (λ (t : List ℕ). clean_statement_of [] t) plain
+    ∙ (end-clean (place_text w b) ∙ (plain-said EndOperation (place_text w b) ∙ end-fields w b fits_w fits_b)))
