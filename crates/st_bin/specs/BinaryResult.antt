@@ -10,6 +10,7 @@ use Rattle.st_bin.specs.declared.outcome.Done.{Done}
 use Rattle.st_bin.specs.declared.fields.Field.{Field}
 use Rattle.st_bin.specs.declared.fields.Shape.{Shape}
 use Rattle.st_bits.specs.Indicators.{indicator}
+use Rattle.st_bits.specs.declared.indicators.TheConstants.{BINARY_TRANSIT, ZERO_DIVISOR}
 use Rattle.st_bin.specs.Indicators.{lost_carry, partial_field, flag_indicators, by_number, by_order, by_order_if_equal, by_range}
 use Rattle.st_bin.specs.BinaryOperand.{magnitude_bits, zone_of, sign_of, flags_of, sign_byte, field_of, field_bits}
 use Rattle.st_bin.specs.Numbers.{signed, exactly_one, sign_after, exceeds}
@@ -77,7 +78,7 @@ operand_kept a f h on = done_with a (by_number false (operand_minus f h) f.mag o
 -- LTRS: the magnitude goes to the transit register
 unfoldable pub transit_set : Acc → Field → Shape → Done
 transit_set a f h =
-    record (operand_kept a f h (flag_indicators f.flags + indicator 39)) { tr = Some f.mag }
+    record (operand_kept a f h (flag_indicators f.flags + indicator BINARY_TRANSIT)) { tr = Some f.mag }
 
 -- LFT: the magnitude goes to the factor register
 unfoldable pub factor_set : Acc → Field → Shape → Done
@@ -203,7 +204,7 @@ product_added a f h ft = product_summed a f h (ft * f.mag * 2 ^ h.offset)
 -- /: the quotient, and the remainder in its register; for a zero divisor ZD comes on, and that is all
 unfoldable pub divided : Acc → Field → Shape → Done
 divided a f h =
-    if f.mag == 0 then done_with a (record { on = indicator 24; off = 0 })
+    if f.mag == 0 then done_with a (record { on = indicator ZERO_DIVISOR; off = 0 })
     else record (multiplied a f h (from_offset a h / f.mag) (flag_indicators f.flags)) {
       rm = Some (from_offset a h % f.mag);
     }

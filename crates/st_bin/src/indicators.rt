@@ -1,5 +1,4 @@
-//! The indicators that an operation on a field sets, and what it turns on and off in the end. Indicator n of a word is
-//! the bit of value 2^(63 - n).
+//! The indicators that an operation on a field sets, and what it turns on and off in the end.
 ghost use Rattle.std.specs.Prelude.{◌≡◌, ◌<◌, ◌≤◌, ◌^◌};
 ghost use Rattle.st_bin.specs.Indicators.{flag_indicators as flag_indicators_of, number_indicators as number_indicators_of};
 ghost use Rattle.st_bin.specs.Indicators.{by_number as by_number_of, without_number as without_number_of, by_order as by_order_of};
@@ -7,36 +6,36 @@ ghost use Rattle.st_bin.specs.Indicators.{by_order_if_equal as by_order_if_equal
 ghost use Rattle.st_bin.specs.Indicators.{lost_carry as lost_carry_of, partial_field as partial_field_of};
 
 use crate::signed::Signed;
-use st_bits::Ind;
+use st_bits::indicators::{
+    ACCUMULATOR_EQUAL, ACCUMULATOR_HIGH, ACCUMULATOR_LOW, FLAG_V, LOST_CARRY, PARTIAL_FIELD,
+    RESULT_GREATER, RESULT_LESS, RESULT_NEGATIVE, RESULT_ZERO, TO_MEMORY_OPERATION,
+};
+use st_bits::{Ind, indicator};
 use std::cmp::Ordering;
 
-/// ZD: the divisor is zero.
-pub const ZERO_DIVISOR: u64 = 1 << 39;
-/// BTR: a binary number went to the transit register.
-pub const BINARY_TRANSIT: u64 = 1 << 24;
-/// MOP: the operation wrote its field.
-const TO_MEMORY: u64 = 1 << 8;
-/// RLZ: the result number is below zero.
-const RESULT_BELOW: u64 = 1 << 7;
-/// RZ: the result number is zero.
-const RESULT_ZERO: u64 = 1 << 6;
-/// RGZ: the result number is above zero.
-const RESULT_ABOVE: u64 = 1 << 5;
-/// RN: the sign of the result number is minus.
-const RESULT_MINUS: u64 = 1 << 4;
-/// AL: the accumulator's side of a comparison is below the operand.
-const LOW: u64 = 1 << 3;
-/// AE: both sides of a comparison are equal.
-const EQUAL: u64 = 1 << 2;
-/// AH: the accumulator's side of a comparison is above the operand.
-const HIGH: u64 = 1 << 1;
+// The bits of the indicators that several functions name.
+const TO_MEMORY: u64 = 1 << (63 - TO_MEMORY_OPERATION);
+
+const LESS: u64 = 1 << (63 - RESULT_LESS);
+
+const ZERO: u64 = 1 << (63 - RESULT_ZERO);
+
+const GREATER: u64 = 1 << (63 - RESULT_GREATER);
+
+const NEGATIVE: u64 = 1 << (63 - RESULT_NEGATIVE);
+
+const LOW: u64 = 1 << (63 - ACCUMULATOR_LOW);
+
+const EQUAL: u64 = 1 << (63 - ACCUMULATOR_EQUAL);
+
+const HIGH: u64 = 1 << (63 - ACCUMULATOR_HIGH);
 
 /// LC, where a carry is lost.
 pub fn lost_carry(is_lost: bool) -> u64
     ensures value { result ≡ lost_carry_of is_lost }
     ensures bound { result ≤ 2 ^ 41 }
 {
-    if is_lost { 1 << 41 } else { 0 }
+    if is_lost { indicator(LOST_CARRY) } else { 0 }
 }
 
 /// PF, where a part of a field is lost.
@@ -44,7 +43,7 @@ pub fn partial_field(is_lost: bool) -> u64
     ensures value { result ≡ partial_field_of is_lost }
     ensures bound { result ≤ 2 ^ 40 }
 {
-    if is_lost { 1 << 40 } else { 0 }
+    if is_lost { indicator(PARTIAL_FIELD) } else { 0 }
 }
 
 /// TF, UF and VF, by the flags T, U and V.
@@ -53,7 +52,7 @@ pub fn flag_indicators(flags: u8) -> u64
     ensures value { result ≡ flag_indicators_of flags }
     ensures bound { result < 2 ^ 29 }
 {
-    u64::from(flags) << 26
+    u64::from(flags) << (63 - FLAG_V)
 }
 
 /// RLZ, RZ or RGZ, by a result number, and RN where its sign is minus.
@@ -62,10 +61,10 @@ fn number_indicators(number: Signed) -> u64
     ensures bound { result < 2 ^ 8 }
 {
     match (number.mag, number.negative) {
-        (0, false) => RESULT_ZERO,
-        (0, true) => RESULT_ZERO + RESULT_MINUS,
-        (_, false) => RESULT_ABOVE,
-        (_, true) => RESULT_BELOW + RESULT_MINUS,
+        (0, false) => ZERO,
+        (0, true) => ZERO + NEGATIVE,
+        (_, false) => GREATER,
+        (_, true) => LESS + NEGATIVE,
     }
 }
 
@@ -77,7 +76,7 @@ pub fn by_number(wrote: bool, number: Signed, on: u64) -> Ind
     let memory = if wrote { TO_MEMORY } else { 0 };
     Ind {
         on: on + (memory + number_indicators(number)),
-        off: TO_MEMORY + RESULT_BELOW + RESULT_ZERO + RESULT_ABOVE + RESULT_MINUS,
+        off: TO_MEMORY + LESS + ZERO + GREATER + NEGATIVE,
     }
 }
 

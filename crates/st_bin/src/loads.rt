@@ -4,9 +4,11 @@ ghost use Rattle.st_bin.specs.BinaryResult.{loaded, loaded_with_flags, transit_s
 
 use crate::accumulator::Acc;
 use crate::fields::{Field, Shape, sign_byte};
-use crate::indicators::{BINARY_TRANSIT, by_number, flag_indicators};
+use crate::indicators::{by_number, flag_indicators};
 use crate::operand::{Placed, operand, place};
 use crate::outcome::{Done, done_with, in_accumulator};
+use st_bits::indicator;
+use st_bits::indicators::BINARY_TRANSIT;
 
 /// Load: the operand at the offset, with no zone and no flags.
 #[tactic(auto, unfolding(crate::specs::BinaryResult::loaded))]
@@ -45,7 +47,7 @@ pub fn load_transit(acc: &Acc, f: &Field, shape: &Shape) -> Done
     requires room { HasRoom f.now shape.now }
     ensures { result ≡ transit_set acc.now f.now shape.now }
 {
-    let on = flag_indicators(f.flags) + BINARY_TRANSIT;
+    let on = flag_indicators(f.flags) + indicator(BINARY_TRANSIT);
     Done {
         tr: Some(f.mag),
         ..done_with(acc, by_number(false, operand(f, shape), on))

@@ -4,11 +4,12 @@ ghost use Rattle.st_bin.specs.BinaryResult.{multiplied as multiplied_of, product
 
 use crate::accumulator::{Acc, number, with_number};
 use crate::fields::{Field, Shape, is_minus};
-use crate::indicators::{ZERO_DIVISOR, flag_indicators, lost_carry, partial_field};
+use crate::indicators::{flag_indicators, lost_carry, partial_field};
 use crate::operand::{operand, shift};
 use crate::outcome::{Done, done_with, in_accumulator};
 use crate::signed::{Signed, add, exactly_one, exceeds, low_bits};
-use st_bits::Ind;
+use st_bits::indicators::ZERO_DIVISOR;
+use st_bits::{Ind, indicator};
 
 /// A product or quotient goes to the accumulator: minus where exactly one of accumulator and operand is minus.
 fn multiplied(acc: &Acc, f: &Field, shape: &Shape, mag: u128, on: u64) -> Done
@@ -64,7 +65,7 @@ pub fn divide(acc: &Acc, f: &Field, shape: &Shape) -> Done
         return done_with(
             acc,
             Ind {
-                on: ZERO_DIVISOR,
+                on: indicator(ZERO_DIVISOR),
                 off: 0,
             },
         );

@@ -3,17 +3,20 @@
 
 mod fields;
 mod index_words;
+pub mod indicators;
+pub mod limits;
 mod operations;
 mod parts;
-mod register;
+pub mod register;
 mod storage;
 
 pub use fields::{get_field, put_field};
 pub use index_words::{count_of, refill_of, value_of, with_count, with_refill, with_value};
+pub use limits::WORDS;
 pub use operations::{BranchOp, ConnKind, HalfOp, VflOp};
 pub use parts::{part, with_part};
 pub use register::fix_register;
-pub use storage::{Ind, NoMemory, WORDS, indicator, words_are_those_of_storage};
+pub use storage::{Ind, NoMemory, indicator, words_are_those_of_storage};
 
 #[cfg(test)]
 mod tests;

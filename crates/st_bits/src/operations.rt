@@ -1,3 +1,5 @@
+//! The operations by name. The number of a variant is the operation's number in an instruction.
+
 /// An operation of the half-word format, but for the branch group.
 ///
 /// The index word is the one that the instruction's J field names; the effective address is its address part with the
@@ -5,130 +7,130 @@
 #[derive(Clone, Copy, Debug, PartialEq, Eq)]
 pub enum HalfOp {
     /// Load index: the index word becomes a word of storage.
-    Lx,
+    Lx = 1,
     /// Load value: the value and its sign are taken from a word of storage.
-    Lv,
+    Lv = 2,
     /// Load count: the count is taken from a word of storage.
-    Lc,
+    Lc = 3,
     /// Load refill: the refill address is taken from a word of storage.
-    Lr,
+    Lr = 4,
     /// Store index: a word of storage becomes the index word.
-    Sx,
+    Sx = 5,
     /// Store value: a word of storage gets the value and its sign.
-    Sv,
+    Sv = 6,
     /// Store count: a word of storage gets the count.
-    Sc,
+    Sc = 7,
     /// Store refill: a word of storage gets the refill address.
-    Sr,
+    Sr = 8,
     /// Store value in address: the address part of a half-word gets the leading bits of the value.
-    Sva,
+    Sva = 9,
     /// Add to value: the value of a word of storage is added.
-    VPlus,
+    VPlus = 10,
     /// Add to value and count down.
-    VPlusC,
+    VPlusC = 11,
     /// Compare value with that of a word of storage.
-    Kv,
+    Kv = 13,
     /// Load value with sum: of the values of the index words that the instruction selects.
-    Lvs,
+    Lvs = 14,
     /// Load value immediate: the value becomes the effective address.
-    Lvi,
+    Lvi = 16,
     /// Load count immediate: the count becomes the word part of the effective address.
-    Lci,
+    Lci = 17,
     /// Load refill immediate: the refill address becomes the word part of the effective address.
-    Lri,
+    Lri = 18,
     /// Add immediate to value: the effective address is added.
-    VPlusI,
+    VPlusI = 19,
     /// Subtract immediate from value: the effective address is taken away.
-    VMinusI,
+    VMinusI = 20,
     /// Add immediate to value and count down.
-    VPlusIC,
+    VPlusIC = 21,
     /// Add immediate to value, count down, and refill where the count became zero.
-    VPlusICR,
+    VPlusICR = 22,
     /// Compare value immediate: with the effective address.
-    Kvi,
+    Kvi = 24,
     /// Compare count with that of a word of storage.
-    Kc,
+    Kc = 25,
     /// Compare count immediate: with the word part of the effective address.
-    Kci,
+    Kci = 26,
     /// Count and branch: count down, and branch where the count is not zero then.
-    Cb,
+    Cb = 27,
     /// Count, branch and refill: as `Cb`, and refill where the count became zero.
-    Cbr,
+    Cbr = 28,
     /// Refill: the index word becomes the word at its refill address.
-    R,
+    R = 29,
     /// Execute: the instruction at the effective address is executed.
-    Ex,
+    Ex = 30,
 }
 
 /// An operation of the branch group.
 #[derive(Clone, Copy, Debug, PartialEq, Eq)]
 pub enum BranchOp {
     /// Branch to the effective address.
-    B,
+    B = 0,
     /// Branch relative: the effective address is added to the counter.
-    Br,
+    Br = 1,
     /// Branch enabled: interrupts are enabled.
-    Be,
+    Be = 2,
     /// Branch disabled: interrupts are disabled.
-    Bd,
+    Bd = 3,
     /// Branch enabled and wait: interrupts are enabled and the machine waits, with no branch.
-    Bew,
+    Bew = 4,
     /// No operation.
-    Nop,
+    Nop = 5,
 }
 
 /// An operation on a field of variable length, binary or decimal.
 #[derive(Clone, Copy, Debug, PartialEq, Eq)]
 pub enum VflOp {
     /// Load: the accumulator becomes the field.
-    L,
+    L = 1,
     /// Load with flag: as `L`, with the zone and the flags of the field's sign byte.
-    Lwf,
+    Lwf = 2,
     /// Load transit and set: the transit register becomes the field.
-    Ltrs,
+    Ltrs = 3,
     /// Load factor: the factor register becomes the field.
-    Lft,
+    Lft = 4,
     /// Store: the field becomes the accumulator.
-    St,
+    St = 5,
     /// Add the field to the accumulator.
-    Add,
+    Add = 7,
     /// Add to magnitude: the accumulator keeps its sign.
-    AddMg,
+    AddMg = 8,
     /// Add to memory: the accumulator is added to the field.
-    MAdd,
+    MAdd = 9,
     /// Add to memory, magnitude: the accumulator with its sign is added to the magnitude of the field, whose sign stays.
-    MAddMg,
+    MAddMg = 10,
     /// Add one to memory.
-    MAdd1,
+    MAdd1 = 11,
     /// Compare the accumulator with the field.
-    K,
+    K = 12,
     /// Compare field: as much of the accumulator as the field has magnitude bits, or digits, with the field.
-    Kf,
+    Kf = 13,
     /// Compare if equal: as `K`, only where AE is on.
-    Ke,
+    Ke = 14,
     /// Compare field if equal: as `Kf`, only where AE is on.
-    Kfe,
+    Kfe = 15,
     /// Compare for range: the field is the upper end of a range; only where AL is off.
-    Kr,
+    Kr = 16,
     /// Compare field for range: as `Kr`, by as much as the field has; only where AL is off.
-    Kfr,
+    Kfr = 17,
     /// Multiply.
-    Mul,
+    Mul = 18,
     /// Multiply and add: the product with the factor is added to the accumulator.
-    MulAdd,
+    MulAdd = 19,
     /// Divide.
-    Div,
+    Div = 20,
     /// Load converted: from one radix to the other.
-    Lcv,
+    Lcv = 21,
 }
 
 /// Where a connective puts its result.
 #[derive(Clone, Copy, Debug, PartialEq, Eq)]
 pub enum ConnKind {
     /// Connect: into the accumulator.
-    C,
+    C = 0,
     /// Connect to memory: into the field.
-    Cm,
+    Cm = 1,
     /// Connect for test: nowhere.
-    Ct,
+    Ct = 2,
 }

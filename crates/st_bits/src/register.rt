@@ -1,7 +1,37 @@
+//! The register words, the first words of storage: their addresses, and what is fixed in them.
 ghost use Rattle.std.specs.Prelude.{◌≡◌, ◌<◌};
 ghost use Rattle.st_bits.specs.Registers.{fixed};
 
 use crate::parts::kept;
+
+/// The address of the register that reads zero.
+pub const ZERO: u32 = 0;
+/// The address of the interruption address.
+pub const INTERRUPT_ADDRESS: u32 = 2;
+/// The address of the upper and the lower bound with the boundary control.
+pub const BOUNDS: u32 = 3;
+/// The address of the left zeros count and the all ones count.
+pub const COUNTS: u32 = 7;
+/// The address of the left half of the accumulator.
+pub const LEFT_HALF: u32 = 8;
+/// The address of the right half of the accumulator.
+pub const RIGHT_HALF: u32 = 9;
+/// The address of the sign byte of the accumulator.
+pub const SIGN_BYTE: u32 = 10;
+/// The address of the indicators.
+pub const INDICATORS: u32 = 11;
+/// The address of the mask of the indicators.
+pub const MASK: u32 = 12;
+/// The address of the remainder.
+pub const REMAINDER: u32 = 13;
+/// The address of the factor.
+pub const FACTOR: u32 = 14;
+/// The address of the transit register.
+pub const TRANSIT: u32 = 15;
+/// The address of the first index word.
+pub const FIRST_INDEX_WORD: u32 = 16;
+/// The address of the first word that is no register.
+pub const FIRST_STORAGE_WORD: u32 = 32;
 
 /// The bits of the mask register that are always one.
 const ALWAYS_MASKED: u64 = 0xFFFF_F000_0000_0000;
@@ -12,13 +42,13 @@ pub fn fix_register(w: u8, value: u64) -> u64
     requires { w < 32 }
     ensures { result ≡ fixed w value }
 {
-    match w {
-        0 | 1 | 4 | 5 | 6 => 0,
-        2 => kept(value, 0, 18),
-        3 => kept(value, 0, 18) + kept(value, 32, 18) + kept(value, 57, 1),
-        7 => kept(value, 17, 7) + kept(value, 44, 7),
-        10 => kept(value, 0, 8),
-        12 => ALWAYS_MASKED + kept(value, 20, 28),
+    match u32::from(w) {
+        ZERO | 1 | 4 | 5 | 6 => 0,
+        INTERRUPT_ADDRESS => kept(value, 0, 18),
+        BOUNDS => kept(value, 0, 18) + kept(value, 32, 18) + kept(value, 57, 1),
+        COUNTS => kept(value, 17, 7) + kept(value, 44, 7),
+        SIGN_BYTE => kept(value, 0, 8),
+        MASK => ALWAYS_MASKED + kept(value, 20, 28),
         _ => value,
     }
 }

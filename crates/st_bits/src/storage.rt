@@ -3,8 +3,7 @@ ghost use Rattle.std.specs.Prelude.{◌≡◌, ◌<◌, ◌^◌};
 ghost use Rattle.st_bits.specs.Indicators.{indicator as indicator_of};
 ghost use Rattle.st_bits.specs.Storage.{words_of_storage};
 
-/// The number of words of storage.
-pub const WORDS: u32 = 98_304;
+use crate::limits::WORDS;
 
 /// The number of words in the code is that of the definitions.
 #[tactic(auto, unfolding(crate::specs::Storage::words_of_storage))]
@@ -18,7 +17,7 @@ pub struct NoMemory;
 
 /// Indicators to turn on and to turn off. Indicator n, 0 to 63, is the bit of value 2^(63 - n). One that stands in both
 /// words is turned on.
-#[derive(Clone, Copy, Debug, PartialEq, Eq)]
+#[derive(Clone, Copy, Debug, Default, PartialEq, Eq)]
 pub struct Ind {
     /// The indicators to turn on.
     pub on: u64,

@@ -9,6 +9,7 @@ use Rattle.st_bin.specs.declared.fields.Field.{Field}
 use Rattle.st_bin.specs.declared.fields.Shape.{Shape}
 use Rattle.st_bin.specs.declared.outcome.Done.{Done}
 use Rattle.st_bits.specs.Indicators.{indicator}
+use Rattle.st_bits.specs.declared.indicators.TheConstants.{DECIMAL_TRANSIT}
 use Rattle.st_bin.specs.Indicators.{lost_carry, partial_field, flag_indicators, by_number, by_order, by_order_if_equal, by_range}
 use Rattle.st_bin.specs.BinaryOperand.{zone_of, flags_of, sign_byte, field_of, field_bits}
 use Rattle.st_bin.specs.Numbers.{signed, sign_after}
@@ -64,7 +65,7 @@ operand_kept a f h on = done_with a (by_number false (operand_minus f h) (field_
 -- LTRS, *, *+ and /: the codes go to the transit register, for a routine that computes with them
 unfoldable pub transit_set : Acc → Field → Shape → Done
 transit_set a f h =
-    record (operand_kept a f h (flag_indicators f.flags + indicator 40)) {
+    record (operand_kept a f h (flag_indicators f.flags + indicator DECIMAL_TRANSIT)) {
       tr = Some (joined 4 (codes f h));
     }
 

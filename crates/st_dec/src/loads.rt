@@ -11,9 +11,8 @@ use st_bin::fields::{Field, Shape, sign_byte};
 use st_bin::indicators::{by_number, flag_indicators};
 use st_bin::loads::load as load_binary;
 use st_bin::outcome::{Done, done_with};
-
-/// DTR: the codes of a decimal number went to the transit register.
-const DECIMAL_TRANSIT: u64 = 1 << 23;
+use st_bits::indicator;
+use st_bits::indicators::DECIMAL_TRANSIT;
 
 /// Load: the codes of the operand at the digit place, with no zone and no flags.
 #[tactic(auto, unfolding(crate::specs::DecimalResult::loaded))]
@@ -61,7 +60,7 @@ pub fn load_transit(acc: &Acc, f: &Field, shape: &Shape) -> Done
     requires room { HasRoom f.now shape.now }
     ensures { result ≡ transit_set acc.now f.now shape.now }
 {
-    let on = flag_indicators(f.flags) + DECIMAL_TRANSIT;
+    let on = flag_indicators(f.flags) + indicator(DECIMAL_TRANSIT);
     Done {
         tr: Some(codes(f, shape)),
         ..operand_kept(acc, f, shape, on)

@@ -1,6 +1,6 @@
 -- Each operation has a number of its own, and each number that is used names its operation.
-use Rattle.std.proofs.Common.{◌≡◌, ℕ, ◌+◌, ◌%◌, ◌<◌, ◌==◌, ◌||◌, Bool, true, false, Option, None, Some, refl, sym, ◌∙◌, ap, lit<, arith}
-use Rattle.std.specs.Prelude.{nat_le}
+use Rattle.std.proofs.Common.{◌≡◌, ℕ, ◌%◌, ◌<◌, ◌==◌, ◌||◌, Bool, true, false, Option, None, Some, refl, sym, ◌∙◌, ap, lit<}
+use Rattle.std.specs.Prelude.{nat_le, is_some}
 use Rattle.std.proofs.lemmas.Bool.{leb-false}
 use Rattle.st_bits.specs.declared.operations.HalfOp.{HalfOp}
 use Rattle.st_bits.specs.declared.operations.HalfOp.TheVariants.{Lx}
@@ -12,8 +12,8 @@ use Rattle.st_bits.specs.declared.operations.ConnKind.{ConnKind}
 use Rattle.st_bits.specs.declared.operations.ConnKind.TheVariants.{C}
 use Rattle.st_format.specs.declared.operations.FullOp.{FullOp}
 use Rattle.st_format.specs.declared.operations.FullOp.TheVariants.{Variable, Transmission, Order}
-use Rattle.st_format.specs.Operations.{half_ops, branch_ops, full_ops, kinds, row, half_op, branch_op, kind, half_number, branch_number, vfl_number, kind_number, full_number}
-use Rattle.st_format.proofs.Tables.{number-row, hole-row}
+use Rattle.st_format.specs.Operations.{half_ops, branch_ops, full_ops, kinds, numbered_op, half_op, branch_op, kind, half_number, branch_number, vfl_number, kind_number, full_number}
+use Rattle.st_format.proofs.Tables.{number-numbered, passes}
 
 -- ---- the operation of an operation's number
 
@@ -32,10 +32,10 @@ unfolding kind kinds
 kind-number C = refl
 kind-number _ = refl
 
-pub row-vfl_number : (op : VflOp) → row full_ops (vfl_number op) ≡ Some (Variable op)
-unfolding full_ops
-row-vfl_number L = refl
-row-vfl_number _ = refl
+pub numbered_op-vfl_number : (op : VflOp) → numbered_op (vfl_number op) ≡ Some (Variable op)
+unfolding numbered_op full_ops
+numbered_op-vfl_number L = refl
+numbered_op-vfl_number _ = refl
 
 -- ---- bounds
 
@@ -83,39 +83,33 @@ half_number-branch _ = refl
 -- ---- the number of a number's operation
 
 pub number-half_op : (n : ℕ) (op : HalfOp) → half_op n ≡ Some op → half_number op ≡ n
-unfolding half_op half_ops
-number-half_op n op e =
-    let found : half_number op ≡ n + 0 = number-row half_number 0 half_ops n op refl e in omega arith
+unfolding half_op
+number-half_op n op e = number-numbered half_number half_ops n op e
 
 pub number-branch_op : (n : ℕ) (op : BranchOp) → branch_op n ≡ Some op → branch_number op ≡ n
-unfolding branch_op branch_ops
-number-branch_op n op e =
-    let found : branch_number op ≡ n + 0 = number-row branch_number 0 branch_ops n op refl e in omega arith
+unfolding branch_op
+number-branch_op n op e = number-numbered branch_number branch_ops n op e
 
 pub number-kind : (n : ℕ) (op : ConnKind) → kind n ≡ Some op → kind_number op ≡ n
-unfolding kind kinds
-number-kind n op e =
-    let found : kind_number op ≡ n + 0 = number-row kind_number 0 kinds n op refl e in omega arith
+unfolding kind
+number-kind n op e = number-numbered kind_number kinds n op e
 
-pub number-row_full : (n : ℕ) (op : FullOp) → row full_ops n ≡ Some op → full_number op ≡ n
-unfolding full_ops
-number-row_full n op e =
-    let found : full_number op ≡ n + 0 = number-row full_number 0 full_ops n op refl e in omega arith
+pub number-numbered_op : (n : ℕ) (op : FullOp) → numbered_op n ≡ Some op → full_number op ≡ n
+unfolding numbered_op
+number-numbered_op n op e = number-numbered full_number full_ops n op e
 
 -- ---- the numbers with no operation
 
 pub half_op-none : (n : ℕ) → n < 32 → half_op n ≡ None → (n == 0 || n == 12 || n == 23 || n % 16 == 15) ≡ true
 unfolding half_op half_ops
 half_op-none n lt e =
-    let same : n + 0 ≡ n = omega arith in
-    let test : ℕ → Bool = λ m. m == 0 || m == 12 || m == 23 || m % 16 == 15 in
-    sym (ap test same) ∙ hole-row test 0 half_ops n refl lt e
+    let test : ℕ → Bool = λ m. is_some (half_op m) || (m == 0 || m == 12 || m == 23 || m % 16 == 15) in
+    sym (ap (λ o. is_some o || (n == 0 || n == 12 || n == 23 || n % 16 == 15)) e) ∙ passes test 32 n refl lt
 
 branch_op-within : (n : ℕ) → n < 6 → branch_op n ≡ None → ⊥
 unfolding branch_op branch_ops
 branch_op-within n lt e =
-    let test : ℕ → Bool = λ m. false in
-    let no : false ≡ true = hole-row test 0 branch_ops n refl lt e in cc
+    let no : false ≡ true = sym (ap is_some e) ∙ passes (λ m. is_some (branch_op m)) 6 n refl lt in cc
 
 from_six : (n : ℕ) (b : Bool) → nat_le 6 n ≡ b → branch_op n ≡ None → nat_le 6 n ≡ true
 from_six n true le e = le

@@ -12,11 +12,11 @@ use Rattle.st_format.specs.declared.operations.FullOp.TheVariants.{Variable, Con
 use Rattle.st_format.specs.declared.instruction.Instr.{Instr}
 use Rattle.st_format.specs.declared.instruction.Instr.TheVariants.{Half, Branch, Floating, Vfl, Connect, Move, BitBranch, IndBranch, StoreCounter, Transfer, Invalid}
 use Rattle.st_format.specs.Halves.{later, is_one, is_full, i_of, address_of, j_of, operation_of, bit_address_of, second_address_of, p_of, length_of, byte_of, offset_of, k_of, count_of, half_bits, first_bits, field_bits, second_bits}
-use Rattle.st_format.specs.Operations.{full_ops, row, half_op, branch_op, kind, full_op, half_number, branch_number, kind_number, vfl_number, full_number, writes_field}
+use Rattle.st_format.specs.Operations.{full_ops, numbered_op, half_op, branch_op, kind, full_op, half_number, branch_number, kind_number, vfl_number, full_number, writes_field}
 use Rattle.st_format.specs.Validity.{is_invalid_half, breaks_rules, is_invalid, is_refused, misfits, misuses_p, miscounts}
 use Rattle.st_format.specs.Formats.{branch_word, index_word, half_word, word_of, full_word, instruction_of, first_half, second_half, bit_of, FitsHalf, FitsFull, FitsField, IsRefusal, IsShape}
 use Rattle.st_format.proofs.Windows.{address-half_bits, j-half_bits, operation-half_bits, i-half_bits, is_full-half_bits, address-first_bits, i-first_bits, is_full-first_bits, p-field_bits, length-field_bits, byte-field_bits, offset-field_bits, operation-field_bits, k-field_bits, second-second_bits, operation-second_bits, k-second_bits, count-second_bits}
-use Rattle.st_format.proofs.Numbers.{half_op-number, branch_op-number, kind-number, row-vfl_number, half_number-bound, half_number-short, branch_number-bound, vfl_number-bound, kind_number-bound, half_number-floating, half_number-branch, swap-bound, order-bound, half_op-unused, branch_op-late}
+use Rattle.st_format.proofs.Numbers.{half_op-number, branch_op-number, kind-number, numbered_op-vfl_number, half_number-bound, half_number-short, branch_number-bound, vfl_number-bound, kind_number-bound, half_number-floating, half_number-branch, swap-bound, order-bound, half_op-unused, branch_op-late}
 use Rattle.st_format.proofs.Shapes.{invalid-full, invalid-half}
 
 -- ---- a half-word
@@ -104,21 +104,21 @@ full-chosen op f s full known kept =
     ∙ ap (λ b. if b then Invalid f s true else word_of op f s) kept
 
 -- an operation that is none of the connectives, by its number
-plain-known : (op : FullOp) (s o n : ℕ) → later s 51 9 ≡ o → o < 256 → o % 32 ≡ n → row full_ops n ≡ Some op
+plain-known : (op : FullOp) (s o n : ℕ) → later s 51 9 ≡ o → o < 256 → o % 32 ≡ n → numbered_op n ≡ Some op
     → full_op s ≡ Some op
 unfolding full_op
 plain-known op s o n same lt number known =
     let zero : later s 51 1 ≡ 0 = omega arith in
     let digits : later s 55 5 ≡ n = omega arith in
-    ap (λ b. if b == 1 then option_map Connective (kind (later s 56 2)) else row full_ops (later s 55 5)) zero
-    ∙ ap (row full_ops) digits
+    ap (λ b. if b == 1 then option_map Connective (kind (later s 56 2)) else numbered_op (later s 55 5)) zero
+    ∙ ap (numbered_op) digits
     ∙ known
 
 connective-known : (k : ConnKind) (s : ℕ) → later s 51 1 ≡ 1 → later s 56 2 ≡ kind_number k
     → full_op s ≡ Some (Connective k)
 unfolding full_op
 connective-known k s one number =
-    ap (λ b. if b == 1 then option_map Connective (kind (later s 56 2)) else row full_ops (later s 55 5)) one
+    ap (λ b. if b == 1 then option_map Connective (kind (later s 56 2)) else numbered_op (later s 55 5)) one
     ∙ ap (λ n. option_map Connective (kind n)) number
     ∙ ap (option_map Connective) (kind-number k)
 
@@ -176,7 +176,7 @@ vfl-back op d u n p l b o a i fits field good used =
     let ea : bit_address_of f ≡ a = address-first_bits a i fits.address_fits fits.i_fits in
     let ei : i_of f ≡ i = i-first_bits a i fits.i_fits in
     full-chosen (Variable op) f s (is_full-first_bits a i fits.i_fits)
-    (plain-known (Variable op) s code (vfl_number op) same small (omega arith) (row-vfl_number op))
+    (plain-known (Variable op) s code (vfl_number op) same small (omega arith) (numbered_op-vfl_number op))
     (field-keeps op f s d u p l b i (k-field_bits p l b o code) ed eu ep el eb ei good used)
     ∙ simp (ed, eu, en, ep, el, eb, eo, ea, ei) refl
 
@@ -228,26 +228,26 @@ order-keeps : (write : Bool) (f s n : ℕ) → k_of s ≡ 0 → later s 52 3 ≡
 unfolding breaks_rules
 order-keeps write f s n ek em en good = simp (ek, em, en, good) refl
 
-swap-known : (swap : Bool) → row full_ops (full_number (Transmission swap)) ≡ Some (Transmission swap)
-unfolding full_ops
+swap-known : (swap : Bool) → numbered_op (full_number (Transmission swap)) ≡ Some (Transmission swap)
+unfolding numbered_op full_ops
 swap-known true = refl
 swap-known false = refl
 
-write-known : (write : Bool) → row full_ops (full_number (Order write)) ≡ Some (Order write)
-unfolding full_ops
+write-known : (write : Bool) → numbered_op (full_number (Order write)) ≡ Some (Order write)
+unfolding numbered_op full_ops
 write-known true = refl
 write-known false = refl
 
-bit-known : row full_ops 26 ≡ Some BitTest
-unfolding full_ops
+bit-known : numbered_op 26 ≡ Some BitTest
+unfolding numbered_op full_ops
 bit-known = refl
 
-indicator-known : row full_ops 27 ≡ Some IndicatorTest
-unfolding full_ops
+indicator-known : numbered_op 27 ≡ Some IndicatorTest
+unfolding numbered_op full_ops
 indicator-known = refl
 
-store-known : row full_ops 30 ≡ Some CounterStore
-unfolding full_ops
+store-known : numbered_op 30 ≡ Some CounterStore
+unfolding numbered_op full_ops
 store-known = refl
 
 move-back : (swap : Bool) (a i w n : ℕ) → FitsFull a i → w < 2 ^ 19 → 1 ≤ n → n ≤ 16

@@ -9,11 +9,11 @@ use Rattle.st_format.specs.declared.operations.FullOp.{FullOp}
 use Rattle.st_format.specs.declared.operations.FullOp.TheVariants.{Variable, Connective, Transmission, BitTest, IndicatorTest, Order, CounterStore}
 use Rattle.st_format.specs.declared.instruction.Instr.{Instr}
 use Rattle.st_format.specs.Halves.{later, is_one, is_full, i_of, address_of, j_of, operation_of, second_address_of, p_of, length_of, byte_of, offset_of, k_of, half_bits, field_bits, second_bits}
-use Rattle.st_format.specs.Operations.{full_ops, row, half_op, branch_op, kind, full_op, kind_number, full_number}
+use Rattle.st_format.specs.Operations.{numbered_op, half_op, branch_op, kind, full_op, kind_number, full_number}
 use Rattle.st_format.specs.Validity.{unused_in_kind, unused_k, unused_marks, has_misfit, has_misused_p, has_miscount, breaks_rules}
 use Rattle.st_format.specs.Formats.{branch_word, index_word, half_word, word_of, full_word, instruction_of, first_half, second_half, bit_of}
 use Rattle.st_format.proofs.Windows.{half_bits-fields, first_bits-fields, field_bits-fields, second_bits-fields, count_of-mod}
-use Rattle.st_format.proofs.Numbers.{number-half_op, number-branch_op, number-kind, number-row_full, vfl_number-bound, swap-bound, order-bound}
+use Rattle.st_format.proofs.Numbers.{number-half_op, number-branch_op, number-kind, number-numbered_op, vfl_number-bound, swap-bound, order-bound}
 
 -- what holds of both choices holds of the chosen one
 pub of_choice : {A : Type 0} (P : A → Type 0) (b : Bool) (x y : A) → (b ≡ true → P x) → (b ≡ false → P y)
@@ -128,13 +128,13 @@ kind-of-connective (Some k) j e = cc
 
 -- an operation that is none of the connectives
 plain-by : (b : Bool) (s : ℕ) (op : FullOp) → is_one s 51 ≡ b
-    → (if b then option_map Connective (kind (later s 56 2)) else row full_ops (later s 55 5)) ≡ Some op
+    → (if b then option_map Connective (kind (later s 56 2)) else numbered_op (later s 55 5)) ≡ Some op
     → full_number op < 32
     → (later s 51 1 ≡ 0) × (full_number op ≡ later s 55 5)
 plain-by true s op one e lt = absurd (no-plain-kind (kind (later s 56 2)) op e lt)
 plain-by false s op one e lt =
     let no : later s 51 1 ≡ 1 → ⊥ = eqb-false _ _ one in
-    (omega arith, number-row_full (later s 55 5) op e)
+    (omega arith, number-numbered_op (later s 55 5) op e)
 
 pub plain-full_op : (s : ℕ) (op : FullOp) → full_op s ≡ Some op → full_number op < 32
     → (later s 51 1 ≡ 0) × (full_number op ≡ later s 55 5)
@@ -142,12 +142,12 @@ unfolding full_op
 plain-full_op s op e lt = plain-by (is_one s 51) s op refl e lt
 
 connective-by : (b : Bool) (s : ℕ) (k : ConnKind) → is_one s 51 ≡ b
-    → (if b then option_map Connective (kind (later s 56 2)) else row full_ops (later s 55 5)) ≡ Some (Connective k)
+    → (if b then option_map Connective (kind (later s 56 2)) else numbered_op (later s 55 5)) ≡ Some (Connective k)
     → (later s 51 1 ≡ 1) × (kind_number k ≡ later s 56 2)
 connective-by true s k one e =
     (eqb-true _ _ one, number-kind (later s 56 2) k (kind-of-connective (kind (later s 56 2)) k e))
 connective-by false s k one e =
-    let number : full_number (Connective k) ≡ later s 55 5 = number-row_full (later s 55 5) (Connective k) e in
+    let number : full_number (Connective k) ≡ later s 55 5 = number-numbered_op (later s 55 5) (Connective k) e in
     let no : ⊥ = omega arith in absurd no
 
 pub connective-full_op : (s : ℕ) (k : ConnKind) → full_op s ≡ Some (Connective k)

@@ -1,5 +1,6 @@
 -- The instruction that bits spell, and the bits of an instruction.
 use Rattle.std.specs.Prelude.{ℕ, ◌≡◌, ◌+◌, ◌*◌, ◌%◌, ◌^◌, ◌<◌, ◌≤◌, Bool, true, false, IsTrue, IsFalse, ◌==◌, unwrap_or, is_some, Option, None, Some, if◌then◌else◌}
+use Rattle.st_format.specs.declared.operations.TheConstants.{FLOATING_GROUP, BRANCH_GROUP}
 use Rattle.st_format.specs.declared.operations.FullOp.{FullOp}
 use Rattle.st_format.specs.declared.operations.FullOp.TheVariants.{Variable, Connective, Transmission, BitTest, IndicatorTest, Order, CounterStore}
 use Rattle.st_format.specs.declared.instruction.Instr.{Instr}
@@ -21,11 +22,11 @@ abbrev pub index_word : Option HalfOp → ℕ → Instr
 index_word (Some op) first = Half op (address_of first) (j_of first) (i_of first)
 index_word None first = Invalid first 0 false
 
--- a half-word instruction: operation 0 is the floating group, 23 the branch group
+-- a half-word instruction
 unfoldable pub half_word : ℕ → Instr
 half_word first =
-    if operation_of first == 0 then Floating (j_of first) (address_of first) (i_of first)
-    else if operation_of first == 23 then branch_word (branch_op (j_of first)) first
+    if operation_of first == FLOATING_GROUP then Floating (j_of first) (address_of first) (i_of first)
+    else if operation_of first == BRANCH_GROUP then branch_word (branch_op (j_of first)) first
     else index_word (half_op (operation_of first)) first
 
 -- a full-word instruction with a known operation
@@ -74,8 +75,8 @@ bit_of b = if b then 1 else 0
 -- the first half-word of an instruction
 abbrev pub first_half : Instr → ℕ
 first_half (Half op address j i) = half_bits address j (half_number op) i
-first_half (Branch op address i) = half_bits address (branch_number op) 23 i
-first_half (Floating number address i) = half_bits address number 0 i
+first_half (Branch op address i) = half_bits address (branch_number op) BRANCH_GROUP i
+first_half (Floating number address i) = half_bits address number FLOATING_GROUP i
 first_half (Vfl op d u n p length byte offset address i) = first_bits address i
 first_half (Connect kind table p length byte offset address i) = first_bits address i
 first_half (Move swap address i second count) = first_bits address i
@@ -175,3 +176,14 @@ is_valid _ = true
 abbrev pub is_no_instruction : Instr → Bool
 is_no_instruction (Invalid first second full) = true
 is_no_instruction _ = false
+
+-- what stands where no instruction was put: a half-word that spells none
+pub record IsBlank (instr : Instr) : Type 0 where
+  pub shape : IsShape instr
+  pub none : is_no_instruction instr ≡ true
+  pub half : halves_of instr ≡ 1
+
+-- the same with its length
+pub record IsBlankDecoded (d : Decoded) : Type 0 where
+  pub blank : IsBlank d.instr
+  pub half : d.halves ≡ 1

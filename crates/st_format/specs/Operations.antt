@@ -1,5 +1,5 @@
 -- The numbers of the operations.
-use Rattle.std.specs.Prelude.{ℕ, ◌+◌, ◌*◌, ◌^◌, Bool, true, false, List, [], ◌∷◌, Option, None, Some, slice_index_or, if◌then◌else◌}
+use Rattle.std.specs.Prelude.{ℕ, ◌+◌, ◌*◌, ◌^◌, Bool, true, false, List, [], ◌∷◌, Option, None, Some, ◌==◌, if◌then◌else◌}
 use Rattle.std.specs.Option.{option_map}
 use Rattle.st_bits.specs.declared.operations.HalfOp.{HalfOp}
 use Rattle.st_bits.specs.declared.operations.HalfOp.TheVariants.{Lx, Lv, Lc, Lr, Sx, Sv, Sc, Sr, Sva, VPlus, VPlusC, Kv, Lvs, Lvi, Lci, Lri, VPlusI, VMinusI, VPlusIC, VPlusICR, Kvi, Kc, Kci, Cb, Cbr, R, Ex}
@@ -12,55 +12,6 @@ use Rattle.st_bits.specs.declared.operations.ConnKind.TheVariants.{C, Cm, Ct}
 use Rattle.st_format.specs.declared.operations.FullOp.{FullOp}
 use Rattle.st_format.specs.declared.operations.FullOp.TheVariants.{Variable, Connective, Transmission, BitTest, IndicatorTest, Order, CounterStore}
 use Rattle.st_format.specs.Halves.{later, is_one}
-
--- the operations of the half-word format by number: 0 is the floating group, 23 the branch group,
--- 12 is not used, and 15 and 31 mark a full word
-unfoldable pub half_ops : List (Option HalfOp)
-half_ops =
-    None ∷ Some Lx ∷ Some Lv ∷ Some Lc ∷ Some Lr ∷ Some Sx ∷ Some Sv ∷ Some Sc ∷ Some Sr
-    ∷ Some Sva ∷ Some VPlus ∷ Some VPlusC ∷ None ∷ Some Kv ∷ Some Lvs ∷ None
-    ∷ Some Lvi ∷ Some Lci ∷ Some Lri ∷ Some VPlusI ∷ Some VMinusI ∷ Some VPlusIC ∷ Some VPlusICR
-    ∷ None ∷ Some Kvi ∷ Some Kc ∷ Some Kci ∷ Some Cb ∷ Some Cbr ∷ Some R ∷ Some Ex ∷ None ∷ []
-
--- the branch group by its number, which stands in J
-unfoldable pub branch_ops : List (Option BranchOp)
-branch_ops = Some B ∷ Some Br ∷ Some Be ∷ Some Bd ∷ Some Bew ∷ Some Nop ∷ []
-
--- the operations of the full-word format by number, the connectives apart
-unfoldable pub full_ops : List (Option FullOp)
-full_ops =
-    None ∷ Some (Variable L) ∷ Some (Variable Lwf) ∷ Some (Variable Ltrs) ∷ Some (Variable Lft)
-    ∷ Some (Variable St) ∷ None ∷ Some (Variable Add) ∷ Some (Variable AddMg)
-    ∷ Some (Variable MAdd) ∷ Some (Variable MAddMg) ∷ Some (Variable MAdd1)
-    ∷ Some (Variable K) ∷ Some (Variable Kf) ∷ Some (Variable Ke) ∷ Some (Variable Kfe)
-    ∷ Some (Variable Kr) ∷ Some (Variable Kfr) ∷ Some (Variable Mul) ∷ Some (Variable MulAdd)
-    ∷ Some (Variable Div) ∷ Some (Variable Lcv) ∷ None ∷ None
-    ∷ Some (Transmission false) ∷ Some (Transmission true) ∷ Some BitTest ∷ Some IndicatorTest
-    ∷ Some (Order false) ∷ Some (Order true) ∷ Some CounterStore ∷ None ∷ []
-
--- the kinds of connectives by number
-unfoldable pub kinds : List (Option ConnKind)
-kinds = Some C ∷ Some Cm ∷ Some Ct ∷ None ∷ []
-
--- the row of a table
-abbrev pub row : {A : Type 0} → List (Option A) → ℕ → Option A
-row table n = slice_index_or table n None
-
-unfoldable pub half_op : ℕ → Option HalfOp
-half_op n = row half_ops n
-
-unfoldable pub branch_op : ℕ → Option BranchOp
-branch_op n = row branch_ops n
-
-unfoldable pub kind : ℕ → Option ConnKind
-kind n = row kinds n
-
--- the operation of a full word: bit 51 marks a connective, with its kind in bits 56-57;
--- another one has its number in bits 55-59
-unfoldable pub full_op : ℕ → Option FullOp
-full_op second =
-    if is_one second 51 then option_map Connective (kind (later second 56 2))
-    else row full_ops (later second 55 5)
 
 -- the number of a half-word operation
 abbrev pub half_number : HalfOp → ℕ
@@ -141,6 +92,53 @@ full_number IndicatorTest = 27
 full_number (Order false) = 28
 full_number (Order true) = 29
 full_number CounterStore = 30
+
+-- the operation of a list that has the number
+abbrev pub numbered : {A : Type 0} → (A → ℕ) → List A → ℕ → Option A
+numbered number [] n = None
+numbered number (op ∷ ops) n = if number op == n then Some op else numbered number ops n
+
+-- the operations of the half-word format, the branch group apart
+unfoldable pub half_ops : List HalfOp
+half_ops =
+    Lx ∷ Lv ∷ Lc ∷ Lr ∷ Sx ∷ Sv ∷ Sc ∷ Sr ∷ Sva ∷ VPlus ∷ VPlusC ∷ Kv ∷ Lvs ∷ Lvi ∷ Lci ∷ Lri ∷ VPlusI ∷ VMinusI
+    ∷ VPlusIC ∷ VPlusICR ∷ Kvi ∷ Kc ∷ Kci ∷ Cb ∷ Cbr ∷ R ∷ Ex ∷ []
+
+-- the branch group
+unfoldable pub branch_ops : List BranchOp
+branch_ops = B ∷ Br ∷ Be ∷ Bd ∷ Bew ∷ Nop ∷ []
+
+-- the operations of the full-word format, the connectives apart
+unfoldable pub full_ops : List FullOp
+full_ops =
+    Variable L ∷ Variable Lwf ∷ Variable Ltrs ∷ Variable Lft ∷ Variable St ∷ Variable Add ∷ Variable AddMg
+    ∷ Variable MAdd ∷ Variable MAddMg ∷ Variable MAdd1 ∷ Variable K ∷ Variable Kf ∷ Variable Ke ∷ Variable Kfe
+    ∷ Variable Kr ∷ Variable Kfr ∷ Variable Mul ∷ Variable MulAdd ∷ Variable Div ∷ Variable Lcv
+    ∷ Transmission false ∷ Transmission true ∷ BitTest ∷ IndicatorTest ∷ Order false ∷ Order true ∷ CounterStore ∷ []
+
+-- the kinds of connectives
+unfoldable pub kinds : List ConnKind
+kinds = C ∷ Cm ∷ Ct ∷ []
+
+unfoldable pub half_op : ℕ → Option HalfOp
+half_op n = numbered half_number half_ops n
+
+unfoldable pub branch_op : ℕ → Option BranchOp
+branch_op n = numbered branch_number branch_ops n
+
+unfoldable pub kind : ℕ → Option ConnKind
+kind n = numbered kind_number kinds n
+
+-- the operation of the full-word format of a number, the connectives apart
+unfoldable pub numbered_op : ℕ → Option FullOp
+numbered_op n = numbered full_number full_ops n
+
+-- the operation of a full word: bit 51 marks a connective, with its kind in bits 56-57;
+-- another one has its number in bits 55-59
+unfoldable pub full_op : ℕ → Option FullOp
+full_op second =
+    if is_one second 51 then option_map Connective (kind (later second 56 2))
+    else numbered_op (later second 55 5)
 
 -- the operations that write their field
 abbrev pub writes_field : FullOp → Bool

@@ -2,13 +2,14 @@
 use Rattle.std.specs.Prelude.{ℕ, ◌%◌, Bool, true, false, not, ◌==◌, ◌&&◌, ◌||◌, nat_lt, nat_le, Option, None, Some, if◌then◌else◌}
 use Rattle.st_format.specs.declared.operations.FullOp.{FullOp}
 use Rattle.st_format.specs.declared.operations.FullOp.TheVariants.{Variable, Connective, Transmission, IndicatorTest, Order, CounterStore}
+use Rattle.st_format.specs.declared.operations.TheConstants.{BRANCH_GROUP, UNUSED}
 use Rattle.st_format.specs.Halves.{later, is_one, is_full, i_of, j_of, operation_of, p_of, length_of, byte_of, k_of, second_address_of}
 use Rattle.st_format.specs.Operations.{full_op, writes_field}
 
--- operation 12, and a branch with J from 6 up
+-- a number of no operation, and a branch with J from 6 up
 unfoldable pub is_invalid_half : ℕ → Bool
 is_invalid_half first =
-    operation_of first == 12 || (operation_of first == 23 && nat_le 6 (j_of first))
+    operation_of first == UNUSED || (operation_of first == BRANCH_GROUP && nat_le 6 (j_of first))
 
 -- bits 58-59, which a connective does not use
 abbrev pub unused_in_kind : FullOp → ℕ → ℕ

@@ -9,7 +9,7 @@ use crate::fields::{
     operation_field, progressive_form, register_field, second_address, word_count,
 };
 use crate::instruction::{Decoded, Instr};
-use crate::operations::{FullOp, branch_op, full_op, half_op};
+use crate::operations::{BRANCH_GROUP, FLOATING_GROUP, FullOp, branch_op, full_op, half_op};
 use crate::rules::breaks_rules;
 
 /// The instruction that two half-words spell, and its length. The second is read only where the first is that of
@@ -56,12 +56,12 @@ fn decode_half(first: u32) -> Instr
     let j = register_field(first);
     let i = index_field(first);
     match operation_field(first) {
-        0 => Instr::Floating {
+        FLOATING_GROUP => Instr::Floating {
             number: j,
             address,
             i,
         },
-        23 => match branch_op(j) {
+        BRANCH_GROUP => match branch_op(j) {
             Some(op) => Instr::Branch { op, address, i },
             None => invalid_half(first),
         },

@@ -4,7 +4,9 @@ ghost use Rattle.st_format.specs.Operations.{full_number as number_of};
 ghost use Rattle.st_format.specs.Formats.{instruction_of, first_half, second_half, IsShape, bit_of};
 
 use crate::instruction::Instr;
-use crate::operations::{FullOp, branch_number, half_number, kind_number, vfl_number};
+use crate::operations::{
+    BRANCH_GROUP, FLOATING_GROUP, FullOp, branch_number, half_number, kind_number, vfl_number,
+};
 
 /// The bits of an instruction that some bits spell: the first half-word, and the second one of a full word.
 pub fn encode(instr: &Instr) -> (u32, Option<u32>)
@@ -27,9 +29,15 @@ fn pack(instr: &Instr) -> (u32, Option<u32>)
     match *instr {
         Instr::Half { op, address, j, i } => (half_bits(address, j, half_number(op), i), None),
         Instr::Branch { op, address, i } => {
-            (half_bits(address, branch_number(op) as u8, 23, i), None)
+            (
+                half_bits(address, branch_number(op) as u8, u32::from(BRANCH_GROUP), i),
+                None,
+            )
         }
-        Instr::Floating { number, address, i } => (half_bits(address, number, 0, i), None),
+        Instr::Floating { number, address, i } => (
+            half_bits(address, number, u32::from(FLOATING_GROUP), i),
+            None,
+        ),
         Instr::Vfl {
             op,
             decimal,

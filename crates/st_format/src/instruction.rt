@@ -1,3 +1,4 @@
+use crate::operations::UNUSED;
 use st_bits::{BranchOp, ConnKind, HalfOp, VflOp};
 
 /// An instruction, or bits that spell none.
@@ -104,6 +105,36 @@ pub enum Instr {
 pub struct Decoded {
     pub instr: Instr,
     pub halves: u8,
+}
+
+impl Default for Instr {
+    ghost use Rattle.st_format.specs.Formats.{IsBlank};
+
+    ghost is_default = { IsBlank };
+
+    /// A half-word that spells no instruction.
+    #[tactic(auto, unfolding(crate::specs::Halves::is_full, crate::specs::Halves::operation_of, crate::specs::Validity::is_invalid_half))]
+    fn default() -> Instr {
+        Instr::Invalid {
+            first: UNUSED as u32 * 16,
+            second: 0,
+            full: false,
+        }
+    }
+}
+
+impl Default for Decoded {
+    ghost use Rattle.st_format.specs.Formats.{IsBlankDecoded};
+
+    ghost is_default = { IsBlankDecoded };
+
+    /// A half-word that spells no instruction.
+    fn default() -> Decoded {
+        Decoded {
+            instr: Instr::default(),
+            halves: 1,
+        }
+    }
 }
 
 impl Instr {

@@ -1,8 +1,16 @@
+//! The operations by their numbers.
 ghost use Rattle.std.specs.Prelude.{◌≡◌, ◌<◌};
-ghost use Rattle.st_format.specs.Operations.{half_op as half_op_of, branch_op as branch_op_of, full_op as full_op_of, kind as kind_of, half_number as number_of_half, branch_number as number_of_branch, vfl_number as number_of_vfl, kind_number as number_of_kind, row, full_ops, writes_field as writes};
+ghost use Rattle.st_format.specs.Operations.{half_op as half_op_of, branch_op as branch_op_of, full_op as full_op_of, kind as kind_of, half_number as number_of_half, branch_number as number_of_branch, vfl_number as number_of_vfl, kind_number as number_of_kind, numbered_op as numbered_op_of, writes_field as writes};
 
 use crate::fields::{later, part};
 use st_bits::{BranchOp, ConnKind, HalfOp, VflOp};
+
+/// The number of the floating group, whose operations J tells apart. It is not built.
+pub const FLOATING_GROUP: u8 = 0;
+/// The number of the branch group, whose operations J tells apart.
+pub const BRANCH_GROUP: u8 = 23;
+/// The number of no operation of the half-word format.
+pub const UNUSED: u8 = 12;
 
 /// An operation of the full-word format.
 #[derive(Clone, Copy, Debug, PartialEq, Eq)]
@@ -22,85 +30,42 @@ pub enum FullOp {
     CounterStore,
 }
 
-// By number. 0 is the floating group, 23 the branch group, 15 and 31 mark a full word, and 12 is not used.
-const HALF_OPS: [Option<HalfOp>; 32] = [
-    None,
-    Some(HalfOp::Lx),
-    Some(HalfOp::Lv),
-    Some(HalfOp::Lc),
-    Some(HalfOp::Lr),
-    Some(HalfOp::Sx),
-    Some(HalfOp::Sv),
-    Some(HalfOp::Sc),
-    Some(HalfOp::Sr),
-    Some(HalfOp::Sva),
-    Some(HalfOp::VPlus),
-    Some(HalfOp::VPlusC),
-    None,
-    Some(HalfOp::Kv),
-    Some(HalfOp::Lvs),
-    None,
-    Some(HalfOp::Lvi),
-    Some(HalfOp::Lci),
-    Some(HalfOp::Lri),
-    Some(HalfOp::VPlusI),
-    Some(HalfOp::VMinusI),
-    Some(HalfOp::VPlusIC),
-    Some(HalfOp::VPlusICR),
-    None,
-    Some(HalfOp::Kvi),
-    Some(HalfOp::Kc),
-    Some(HalfOp::Kci),
-    Some(HalfOp::Cb),
-    Some(HalfOp::Cbr),
-    Some(HalfOp::R),
-    Some(HalfOp::Ex),
-    None,
-];
-
-// By number. 0, 6, 22, 23 and 31 are not used.
-const FULL_OPS: [Option<FullOp>; 32] = [
-    None,
-    Some(FullOp::Variable(VflOp::L)),
-    Some(FullOp::Variable(VflOp::Lwf)),
-    Some(FullOp::Variable(VflOp::Ltrs)),
-    Some(FullOp::Variable(VflOp::Lft)),
-    Some(FullOp::Variable(VflOp::St)),
-    None,
-    Some(FullOp::Variable(VflOp::Add)),
-    Some(FullOp::Variable(VflOp::AddMg)),
-    Some(FullOp::Variable(VflOp::MAdd)),
-    Some(FullOp::Variable(VflOp::MAddMg)),
-    Some(FullOp::Variable(VflOp::MAdd1)),
-    Some(FullOp::Variable(VflOp::K)),
-    Some(FullOp::Variable(VflOp::Kf)),
-    Some(FullOp::Variable(VflOp::Ke)),
-    Some(FullOp::Variable(VflOp::Kfe)),
-    Some(FullOp::Variable(VflOp::Kr)),
-    Some(FullOp::Variable(VflOp::Kfr)),
-    Some(FullOp::Variable(VflOp::Mul)),
-    Some(FullOp::Variable(VflOp::MulAdd)),
-    Some(FullOp::Variable(VflOp::Div)),
-    Some(FullOp::Variable(VflOp::Lcv)),
-    None,
-    None,
-    Some(FullOp::Transmission { swap: false }),
-    Some(FullOp::Transmission { swap: true }),
-    Some(FullOp::BitTest),
-    Some(FullOp::IndicatorTest),
-    Some(FullOp::Order { write: false }),
-    Some(FullOp::Order { write: true }),
-    Some(FullOp::CounterStore),
-    None,
-];
-
 /// The half-word operation of a number, the floating group and the branch group apart.
 #[tactic(auto, unfolding(crate::specs::Operations::half_op, crate::specs::Operations::half_ops))]
 pub fn half_op(number: u8) -> Option<HalfOp>
     requires { number < 32 }
     ensures { result ≡ half_op_of number }
 {
-    HALF_OPS[number as usize]
+    match number {
+        1 => Some(HalfOp::Lx),
+        2 => Some(HalfOp::Lv),
+        3 => Some(HalfOp::Lc),
+        4 => Some(HalfOp::Lr),
+        5 => Some(HalfOp::Sx),
+        6 => Some(HalfOp::Sv),
+        7 => Some(HalfOp::Sc),
+        8 => Some(HalfOp::Sr),
+        9 => Some(HalfOp::Sva),
+        10 => Some(HalfOp::VPlus),
+        11 => Some(HalfOp::VPlusC),
+        13 => Some(HalfOp::Kv),
+        14 => Some(HalfOp::Lvs),
+        16 => Some(HalfOp::Lvi),
+        17 => Some(HalfOp::Lci),
+        18 => Some(HalfOp::Lri),
+        19 => Some(HalfOp::VPlusI),
+        20 => Some(HalfOp::VMinusI),
+        21 => Some(HalfOp::VPlusIC),
+        22 => Some(HalfOp::VPlusICR),
+        24 => Some(HalfOp::Kvi),
+        25 => Some(HalfOp::Kc),
+        26 => Some(HalfOp::Kci),
+        27 => Some(HalfOp::Cb),
+        28 => Some(HalfOp::Cbr),
+        29 => Some(HalfOp::R),
+        30 => Some(HalfOp::Ex),
+        _ => None,
+    }
 }
 
 /// The branch of a number.
@@ -131,12 +96,41 @@ pub fn full_op(second: u32) -> Option<FullOp>
     }
 }
 
-#[tactic(auto, unfolding(crate::specs::Operations::full_ops))]
+#[tactic(auto, unfolding(crate::specs::Operations::numbered_op, crate::specs::Operations::full_ops))]
 fn numbered_op(number: u32) -> Option<FullOp>
     requires { number < 32 }
-    ensures { result ≡ row full_ops number }
+    ensures { result ≡ numbered_op_of number }
 {
-    FULL_OPS[number as usize]
+    match number {
+        1 => Some(FullOp::Variable(VflOp::L)),
+        2 => Some(FullOp::Variable(VflOp::Lwf)),
+        3 => Some(FullOp::Variable(VflOp::Ltrs)),
+        4 => Some(FullOp::Variable(VflOp::Lft)),
+        5 => Some(FullOp::Variable(VflOp::St)),
+        7 => Some(FullOp::Variable(VflOp::Add)),
+        8 => Some(FullOp::Variable(VflOp::AddMg)),
+        9 => Some(FullOp::Variable(VflOp::MAdd)),
+        10 => Some(FullOp::Variable(VflOp::MAddMg)),
+        11 => Some(FullOp::Variable(VflOp::MAdd1)),
+        12 => Some(FullOp::Variable(VflOp::K)),
+        13 => Some(FullOp::Variable(VflOp::Kf)),
+        14 => Some(FullOp::Variable(VflOp::Ke)),
+        15 => Some(FullOp::Variable(VflOp::Kfe)),
+        16 => Some(FullOp::Variable(VflOp::Kr)),
+        17 => Some(FullOp::Variable(VflOp::Kfr)),
+        18 => Some(FullOp::Variable(VflOp::Mul)),
+        19 => Some(FullOp::Variable(VflOp::MulAdd)),
+        20 => Some(FullOp::Variable(VflOp::Div)),
+        21 => Some(FullOp::Variable(VflOp::Lcv)),
+        24 => Some(FullOp::Transmission { swap: false }),
+        25 => Some(FullOp::Transmission { swap: true }),
+        26 => Some(FullOp::BitTest),
+        27 => Some(FullOp::IndicatorTest),
+        28 => Some(FullOp::Order { write: false }),
+        29 => Some(FullOp::Order { write: true }),
+        30 => Some(FullOp::CounterStore),
+        _ => None,
+    }
 }
 
 #[tactic(auto, unfolding(crate::specs::Operations::kind, crate::specs::Operations::kinds))]
@@ -157,35 +151,7 @@ pub fn half_number(op: HalfOp) -> u32
     ensures value { result ≡ number_of_half op }
     ensures bound { result < 32 }
 {
-    match op {
-        HalfOp::Lx => 1,
-        HalfOp::Lv => 2,
-        HalfOp::Lc => 3,
-        HalfOp::Lr => 4,
-        HalfOp::Sx => 5,
-        HalfOp::Sv => 6,
-        HalfOp::Sc => 7,
-        HalfOp::Sr => 8,
-        HalfOp::Sva => 9,
-        HalfOp::VPlus => 10,
-        HalfOp::VPlusC => 11,
-        HalfOp::Kv => 13,
-        HalfOp::Lvs => 14,
-        HalfOp::Lvi => 16,
-        HalfOp::Lci => 17,
-        HalfOp::Lri => 18,
-        HalfOp::VPlusI => 19,
-        HalfOp::VMinusI => 20,
-        HalfOp::VPlusIC => 21,
-        HalfOp::VPlusICR => 22,
-        HalfOp::Kvi => 24,
-        HalfOp::Kc => 25,
-        HalfOp::Kci => 26,
-        HalfOp::Cb => 27,
-        HalfOp::Cbr => 28,
-        HalfOp::R => 29,
-        HalfOp::Ex => 30,
-    }
+    op as u32
 }
 
 /// The number of a branch, below 6.
@@ -193,14 +159,7 @@ pub fn branch_number(op: BranchOp) -> u32
     ensures value { result ≡ number_of_branch op }
     ensures bound { result < 6 }
 {
-    match op {
-        BranchOp::B => 0,
-        BranchOp::Br => 1,
-        BranchOp::Be => 2,
-        BranchOp::Bd => 3,
-        BranchOp::Bew => 4,
-        BranchOp::Nop => 5,
-    }
+    op as u32
 }
 
 /// The number of an operation on a field, below 22.
@@ -208,28 +167,7 @@ pub fn vfl_number(op: VflOp) -> u32
     ensures value { result ≡ number_of_vfl op }
     ensures bound { result < 22 }
 {
-    match op {
-        VflOp::L => 1,
-        VflOp::Lwf => 2,
-        VflOp::Ltrs => 3,
-        VflOp::Lft => 4,
-        VflOp::St => 5,
-        VflOp::Add => 7,
-        VflOp::AddMg => 8,
-        VflOp::MAdd => 9,
-        VflOp::MAddMg => 10,
-        VflOp::MAdd1 => 11,
-        VflOp::K => 12,
-        VflOp::Kf => 13,
-        VflOp::Ke => 14,
-        VflOp::Kfe => 15,
-        VflOp::Kr => 16,
-        VflOp::Kfr => 17,
-        VflOp::Mul => 18,
-        VflOp::MulAdd => 19,
-        VflOp::Div => 20,
-        VflOp::Lcv => 21,
-    }
+    op as u32
 }
 
 /// The number of a kind of connective, below 3.
@@ -237,11 +175,7 @@ pub fn kind_number(kind: ConnKind) -> u32
     ensures value { result ≡ number_of_kind kind }
     ensures bound { result < 3 }
 {
-    match kind {
-        ConnKind::C => 0,
-        ConnKind::Cm => 1,
-        ConnKind::Ct => 2,
-    }
+    kind as u32
 }
 
 /// Whether an operation writes its field.

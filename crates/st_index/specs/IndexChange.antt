@@ -5,8 +5,9 @@ use Rattle.std.specs.declared.cmp.Ordering.TheVariants.{Less, Equal, Greater}
 use Rattle.std.specs.Ordering.{int_cmp}
 use Rattle.st_bits.specs.Bits.{part}
 use Rattle.st_bits.specs.IndexWord.{value_of, count_of, with_value, with_count}
-use Rattle.st_bits.specs.declared.Ind.{Ind}
-use Rattle.st_bits.specs.Indicators.{indicator}
+use Rattle.st_bits.specs.declared.storage.Ind.{Ind}
+use Rattle.st_bits.specs.Indicators.{indicator, indicators}
+use Rattle.st_bits.specs.declared.indicators.TheConstants.{INDEX_FLAG, INDEX_COUNT_ZERO, INDEX_VALUE_LESS, INDEX_VALUE_ZERO, INDEX_VALUE_GREATER, INDEX_LOW, INDEX_EQUAL, INDEX_HIGH}
 use Rattle.st_index.specs.declared.change.Changed.{Changed}
 
 -- a whole number modulo n, from 0 up
@@ -43,38 +44,38 @@ selected_sum (b ∷ bs) (x ∷ xs) = selected_value b x +ℤ selected_sum bs xs
 
 -- the indicator of a comparison: XL below, XE equal, XH above
 abbrev pub order_indicator : Ordering → ℕ
-order_indicator Less = indicator 52
-order_indicator Equal = indicator 53
-order_indicator Greater = indicator 54
+order_indicator Less = indicator INDEX_LOW
+order_indicator Equal = indicator INDEX_EQUAL
+order_indicator Greater = indicator INDEX_HIGH
 
 -- what a comparison of a with b turns on and off: exactly one of XL, XE and XH is on after it
 abbrev pub comparison : ℤ → ℤ → Ind
 comparison a b = record {
   on = order_indicator (int_cmp a b);
-  off = indicator 52 + indicator 53 + indicator 54;
+  off = indicators (INDEX_LOW ∷ INDEX_EQUAL ∷ INDEX_HIGH ∷ []);
 }
 
 -- the indicators that an index result sets by the sign of the value: XVLZ, XVZ, XVGZ
 abbrev pub sign_indicator : ℤ → ℕ
-sign_indicator (negsuc _) = indicator 49
-sign_indicator (pos zero) = indicator 50
-sign_indicator (pos (suc _)) = indicator 51
+sign_indicator (negsuc _) = indicator INDEX_VALUE_LESS
+sign_indicator (pos zero) = indicator INDEX_VALUE_ZERO
+sign_indicator (pos (suc _)) = indicator INDEX_VALUE_GREATER
 
 -- XCZ, where the count is zero
 abbrev pub count_indicator : ℕ → ℕ
-count_indicator zero = indicator 48
+count_indicator zero = indicator INDEX_COUNT_ZERO
 count_indicator (suc _) = 0
 
 -- XF, where the flag in bit 25 is one
 abbrev pub flag_indicator : ℕ → ℕ
 flag_indicator zero = 0
-flag_indicator (suc _) = indicator 38
+flag_indicator (suc _) = indicator INDEX_FLAG
 
 -- what an index word turns on and off: XCZ, one of XVLZ, XVZ and XVGZ, and XF, which only goes on
 abbrev pub index_result : ℕ → Ind
 index_result y = record {
   on = count_indicator (count_of y) + sign_indicator (value_of y) + flag_indicator (part y 25 1);
-  off = indicator 48 + indicator 49 + indicator 50 + indicator 51;
+  off = indicators (INDEX_COUNT_ZERO ∷ INDEX_VALUE_LESS ∷ INDEX_VALUE_ZERO ∷ INDEX_VALUE_GREATER ∷ []);
 }
 
 -- what a progressive form adds to the value: V+I, V+IC and V+ICR are 2 to 4, and V-I, V-IC and V-ICR 5 to 7

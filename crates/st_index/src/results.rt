@@ -1,6 +1,10 @@
 ghost use Rattle.std.specs.Prelude.{◌≡◌};
 ghost use Rattle.st_index.specs.IndexChange.{comparison, index_result as result_of};
 
+use st_bits::indicators::{
+    INDEX_COUNT_ZERO, INDEX_EQUAL, INDEX_FLAG, INDEX_HIGH, INDEX_LOW, INDEX_VALUE_GREATER,
+    INDEX_VALUE_LESS, INDEX_VALUE_ZERO,
+};
 use st_bits::{Ind, count_of, indicator, part, value_of};
 use std::cmp::Ordering;
 
@@ -10,13 +14,13 @@ pub fn compare(a: i32, b: i32) -> Ind
     ensures { result ≡ comparison a b }
 {
     let on = match a.cmp(&b) {
-        Ordering::Less => indicator(52),
-        Ordering::Equal => indicator(53),
-        Ordering::Greater => indicator(54),
+        Ordering::Less => indicator(INDEX_LOW),
+        Ordering::Equal => indicator(INDEX_EQUAL),
+        Ordering::Greater => indicator(INDEX_HIGH),
     };
     Ind {
         on,
-        off: indicator(52) + indicator(53) + indicator(54),
+        off: indicator(INDEX_LOW) + indicator(INDEX_EQUAL) + indicator(INDEX_HIGH),
     }
 }
 
@@ -25,19 +29,26 @@ pub fn compare(a: i32, b: i32) -> Ind
 pub fn index_result(y: u64) -> Ind
     ensures { result ≡ result_of y }
 {
-    let count = if count_of(y) == 0 { indicator(48) } else { 0 };
+    let count = if count_of(y) == 0 {
+        indicator(INDEX_COUNT_ZERO)
+    } else {
+        0
+    };
     let sign = match value_of(y) {
-        ..0 => indicator(49),
-        0 => indicator(50),
-        _ => indicator(51),
+        ..0 => indicator(INDEX_VALUE_LESS),
+        0 => indicator(INDEX_VALUE_ZERO),
+        _ => indicator(INDEX_VALUE_GREATER),
     };
     let flag = if part(y, 25, 1) == 0 {
         0
     } else {
-        indicator(38)
+        indicator(INDEX_FLAG)
     };
     Ind {
         on: count + sign + flag,
-        off: indicator(48) + indicator(49) + indicator(50) + indicator(51),
+        off: indicator(INDEX_COUNT_ZERO)
+            + indicator(INDEX_VALUE_LESS)
+            + indicator(INDEX_VALUE_ZERO)
+            + indicator(INDEX_VALUE_GREATER),
     }
 }

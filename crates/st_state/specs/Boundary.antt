@@ -2,6 +2,8 @@
 use Rattle.std.specs.Prelude.{ℕ, Bool, not, nat_le, nat_lt, ◌&&◌, ◌||◌, ◌==◌, if◌then◌else◌, Option, None, Some}
 use Rattle.st_bits.specs.Bits.{part}
 use Rattle.st_bits.specs.Storage.{words_of_storage}
+use Rattle.st_bits.specs.declared.register.TheConstants.{BOUNDS, FIRST_STORAGE_WORD}
+use Rattle.st_bits.specs.declared.indicators.TheConstants.{ADDRESS_INVALID, DATA_STORE, DATA_FETCH, INSTRUCTION_FETCH}
 use Rattle.st_state.specs.Machine.{Machine, word}
 use Rattle.st_state.specs.declared.protection.Access.{Access}
 use Rattle.st_state.specs.declared.protection.Access.TheVariants.{Read, Write, Fetch}
@@ -10,27 +12,28 @@ use Rattle.st_state.specs.declared.protection.Access.TheVariants.{Read, Write, F
 abbrev pub is_invalid : Access → ℕ → Bool
 is_invalid Read w = nat_le words_of_storage w
 is_invalid Write w = nat_le words_of_storage w
-is_invalid Fetch w = nat_le words_of_storage w || nat_lt w 32
+is_invalid Fetch w = nat_le words_of_storage w || nat_lt w FIRST_STORAGE_WORD
 
--- the word lies between the bounds of word 3: the upper one in bits 0-17, the lower one in bits 32-49
+-- the word lies between the bounds of their register: the upper one in bits 0-17, the lower one in bits 32-49
 abbrev pub is_between : ℕ → ℕ → Bool
 is_between bounds w = nat_le (part bounds 32 18) w && nat_lt w (part bounds 0 18)
 
--- by word 3 and the mark for interrupts: bit 57 zero protects the words between the bounds, one all others; never a register
+-- by the register of the bounds and the mark for interrupts: bit 57 zero protects the words between the bounds, one all
+-- others; never a register
 abbrev pub is_protected : ℕ → Bool → ℕ → Bool
 is_protected bounds enabled w =
-    enabled && nat_le 32 w && (if part bounds 57 1 == 0 then is_between bounds w else not (is_between bounds w))
+    enabled && nat_le FIRST_STORAGE_WORD w && (if part bounds 57 1 == 0 then is_between bounds w else not (is_between bounds w))
 
 -- the indicators of an address that is not valid, and of each access to a protected word
 abbrev pub address_invalid : ℕ
-address_invalid = 16
+address_invalid = ADDRESS_INVALID
 
 abbrev pub protected : Access → ℕ
-protected Read = 20
-protected Write = 19
-protected Fetch = 21
+protected Read = DATA_FETCH
+protected Write = DATA_STORE
+protected Fetch = INSTRUCTION_FETCH
 
--- the indicator that forbids the access, if one does, by word 3 and the mark for interrupts
+-- the indicator that forbids the access, if one does, by the bounds and the mark for interrupts
 unfoldable pub forbidden_by : ℕ → Bool → Access → ℕ → Option ℕ
 forbidden_by bounds enabled access w =
     if is_invalid access w then Some address_invalid
@@ -39,4 +42,4 @@ forbidden_by bounds enabled access w =
 
 -- the same of a state
 abbrev pub forbidden : Machine → Access → ℕ → Option ℕ
-forbidden s access w = forbidden_by (word s 3) s.enabled access w
+forbidden s access w = forbidden_by (word s BOUNDS) s.enabled access w

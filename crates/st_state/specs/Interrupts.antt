@@ -1,8 +1,9 @@
--- Indicators: indicator n is bit n of word 11, and bit n of word 12 is its mask.
+-- Indicators: indicator n is bit n of the indicator register, and bit n of the mask register is its mask.
 use Rattle.std.specs.Prelude.{ℕ, zero, suc, ◌+◌, ◌*◌, ◌^◌, Bool, ◌==◌, ◌&&◌, if◌then◌else◌, Option, None, Some}
 use Rattle.std.specs.Int.{bit_at}
 use Rattle.st_bits.specs.Bits.{part}
-use Rattle.st_bits.specs.declared.Ind.{Ind}
+use Rattle.st_bits.specs.declared.storage.Ind.{Ind}
+use Rattle.st_bits.specs.declared.register.TheConstants.{INDICATORS, MASK}
 use Rattle.st_bits.specs.Indicators.{indicator}
 use Rattle.st_state.specs.Machine.{Machine, word, with_word}
 
@@ -21,7 +22,7 @@ turned (suc n) on off x = turned_bit (bit_at on n) (bit_at off n) (bit_at x n) *
 
 -- the state with those indicators turned on and off; what both name is on
 abbrev pub applied : Ind → Machine → Machine
-applied ind s = with_word s 11 (turned 64 ind.on ind.off (word s 11))
+applied ind s = with_word s INDICATORS (turned 64 ind.on ind.off (word s INDICATORS))
 
 -- the state with indicator i on
 abbrev pub signalled : Machine → ℕ → Machine
@@ -38,4 +39,4 @@ first_from p i (suc n) = if p i then Some i else first_from p (i + 1) n
 
 -- the leftmost pending indicator
 abbrev pub pending : Machine → Option ℕ
-pending s = first_from (is_pending (word s 11) (word s 12)) 0 64
+pending s = first_from (is_pending (word s INDICATORS) (word s MASK)) 0 64

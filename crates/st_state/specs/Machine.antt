@@ -3,6 +3,7 @@ use Rattle.std.specs.Prelude.{ℕ, ◌≡◌, ◌+◌, ◌<◌, ◌≤◌, ◌^�
 use Rattle.st_bits.specs.Bits.{all_bits, put, words_of}
 use Rattle.st_bits.specs.Registers.{fixed, fixed_from}
 use Rattle.st_bits.specs.Storage.{words_of_storage}
+use Rattle.st_bits.specs.declared.register.TheConstants.{MASK, FIRST_STORAGE_WORD}
 use Rattle.st_state.specs.declared.devices.Order.{Order}
 
 -- storage, the counter, the marks, the number done, and the order of each device
@@ -35,7 +36,7 @@ placed s a b = record s { words = fixed_from 0 (words_of (length s.words) (put (
 abbrev pub opening : List ℕ → ℕ → Machine
 opening image start =
     record {
-      words = slice_set image 12 (fixed 12 0);
+      words = slice_set image MASK (fixed MASK 0);
       ic = start;
       enabled = false;
       waiting = false;
@@ -47,13 +48,13 @@ opening image start =
 -- the area of an order lies in storage, above the registers
 abbrev pub HasArea : Option Order → Type 0
 HasArea None = Unit {0}
-HasArea (Some order) = (32 ≤ order.word) × (order.word + 8 ≤ words_of_storage)
+HasArea (Some order) = (FIRST_STORAGE_WORD ≤ order.word) × (order.word + 8 ≤ words_of_storage)
 
 -- what each state keeps
 pub record IsMachine (s : Machine) : Type 0 where
   pub size : length s.words ≡ words_of_storage
   pub counter : s.ic < 2 ^ 19
   pub below : (w : ℕ) → word s w < 2 ^ 64
-  pub registers : (w : ℕ) → w < 32 → fixed w (word s w) ≡ word s w
+  pub registers : (w : ℕ) → w < FIRST_STORAGE_WORD → fixed w (word s w) ≡ word s w
   pub reader_area : HasArea s.reader
   pub printer_area : HasArea s.printer

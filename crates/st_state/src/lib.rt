@@ -37,7 +37,11 @@ ghost use Rattle.st_bits.specs.Registers.{fixed};
 ghost use Rattle.st_bits.specs.Storage.{words_of_storage};
 
 use indicators::{leftmost, turned};
-use st_bits::{Ind, NoMemory, WORDS, fix_register, part, put_field};
+use st_bits::indicators::{
+    ADDRESS_INVALID, CHANNEL_SIGNAL, DATA_FETCH, DATA_STORE, INSTRUCTION_FETCH,
+};
+use st_bits::register::{BOUNDS, FIRST_STORAGE_WORD, INDICATORS, MASK};
+use st_bits::{Ind, NoMemory, WORDS, fix_register, indicator, part, put_field};
 use std::alloc::Global;
 use std::marker::Model;
 
@@ -78,24 +82,6 @@ impl Model for State {
     ghost invariant = { λ a. IsMachine (machine a) };
 }
 
-/// The address of the boundary register.
-const BOUNDS: usize = 3;
-
-/// The address of the indicator register.
-const INDICATORS: usize = 11;
-
-/// The address of the mask register.
-const MASK: usize = 12;
-
-/// The indicators that forbid an access.
-const ADDRESS_INVALID: u8 = 16;
-
-const DATA_STORE: u8 = 19;
-
-const DATA_FETCH: u8 = 20;
-
-const INSTRUCTION_FETCH: u8 = 21;
-
 impl State {
     ghost use Rattle.st_state.specs.Machine.{IsMachine, opening, placed, stored, word as word_of};
     ghost use Rattle.st_bits.specs.Bits.{bits as bits_of};
@@ -107,14 +93,14 @@ impl State {
     /// counter is the half-word address `start`.
     pub fn new(alloc: Global, image: &[u64], start: u32) -> Result<State, NoMemory>
         requires whole { length image.now ≡ words_of_storage }
-        requires registers { (w : ℕ) → w < 32 → slice_index image.now w ≡ 0 }
+        requires registers { (w : ℕ) → w < FIRST_STORAGE_WORD → slice_index image.now w ≡ 0 }
         requires counter { start < 2 ^ 19 }
         ensures { IfOk result (λ s. s ≡ opening image.now start) }
     {
         let Ok(mut words) = Vec::from_slice(alloc, image) else {
             return Err(NoMemory);
         };
-        words[MASK] = fix_register(MASK as u8, 0);
+        words[MASK as usize] = fix_register(MASK as u8, 0);
         Ok(State {
             words,
             ic: start,
@@ -183,7 +169,7 @@ impl State {
         ensures inside { IsNone result → w < words_of_storage }
     {
         let lowest = match access {
-            Access::Fetch => 32,
+            Access::Fetch => FIRST_STORAGE_WORD,
             Access::Read | Access::Write => 0,
         };
         if w < lowest || w >= WORDS {
@@ -201,12 +187,12 @@ impl State {
 
     /// Whether the boundary register protects the word.
     fn protects(&self, w: u32) -> bool
-        ensures { result ≡ is_protected (word_of self.now 3) self.now.enabled w }
+        ensures { result ≡ is_protected (word_of self.now BOUNDS) self.now.enabled w }
     {
-        let bounds = self.words[BOUNDS];
-        let w = u64::from(w);
-        let between = part(bounds, 32, 18) <= w && w < part(bounds, 0, 18);
-        self.enabled && 32 <= w && between == (part(bounds, 57, 1) == 0)
+        let bounds = self.words[BOUNDS as usize];
+        let place = u64::from(w);
+        let between = part(bounds, 32, 18) <= place && place < part(bounds, 0, 18);
+        self.enabled && FIRST_STORAGE_WORD <= w && between == (part(bounds, 57, 1) == 0)
     }
 
     /// The leftmost indicator that is on and whose mask bit is one, 0 to 63; None where there is none.
@@ -214,16 +200,16 @@ impl State {
         ensures value { result ≡ first_pending self.now }
         ensures bound { IfSome result (λ i. i < 64) }
     {
-        leftmost(self.words[INDICATORS], self.words[MASK])
+        leftmost(self.word(INDICATORS), self.word(MASK))
     }
 
-    /// Turns on the indicator `i`, at most 13, as a signal from outside does.
+    /// Turns on the indicator `i`, none behind the channel signal, as a signal from outside does.
     pub fn signal(&mut self, i: u8)
-        requires { i ≤ 13 }
+        requires { i ≤ CHANNEL_SIGNAL }
         ensures { self.new ≡ signalled self.old i }
     {
         self.apply(Ind {
-            on: 1 << (63 - i),
+            on: indicator(i),
             off: 0,
         });
     }
@@ -232,7 +218,7 @@ impl State {
     pub fn apply(&mut self, ind: Ind)
         ensures { self.new ≡ applied ind self.old }
     {
-        self.words[INDICATORS] = turned(self.words[INDICATORS], ind.on, ind.off);
+        self.words[INDICATORS as usize] = turned(self.words[INDICATORS as usize], ind.on, ind.off);
     }
 
     /// The device whose order takes effect first of those that are due; None where none is due.
@@ -271,7 +257,7 @@ impl State {
 fn fixed_word(w: u32, value: u64) -> u64
     ensures { result ≡ fixed w value }
 {
-    if w < 32 {
+    if w < FIRST_STORAGE_WORD {
         fix_register(w as u8, value)
     } else {
         value

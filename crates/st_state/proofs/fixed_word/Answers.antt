@@ -2,5 +2,5 @@ use Rattle.std.proofs.Common.{sym, arith}
 use Rattle.st_bits.proofs.RegisterLaws.{fixed-index}
 use Rattle.st_state.proofs.fixed_word.Goals as goal
 
-pub returns-else-w-lt32 : goal.returns-else-w-lt32
-returns-else-w-lt32 c = sym (fixed-index c.args.w c.args.value (omega arith))
+pub returns-else-w-lt-FIRST_STORAGE_WORD : goal.returns-else-w-lt-FIRST_STORAGE_WORD
+returns-else-w-lt-FIRST_STORAGE_WORD c = sym (fixed-index c.args.w c.args.value (omega arith))
