@@ -12,12 +12,10 @@ use crate::early::{change_early, take};
 use crate::effects::carry_out;
 use crate::operands::operand_field;
 use st_bits::part;
+use st_bits::register::INDICATORS;
 use st_format::Instr;
 use st_prep::{Prepared, Words};
 use st_state::State;
-
-/// The address of the indicator register.
-const INDICATORS: u32 = 11;
 
 /// Whether a branch on a bit or on an indicator is taken.
 #[tactic(auto, unfolding(crate::specs::Completion::is_taken), using(st_bits::specs::Storage::words_of_storage_is))]

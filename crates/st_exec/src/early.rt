@@ -4,12 +4,10 @@ ghost use Rattle.st_prep.specs.Plan.{opened};
 ghost use Rattle.st_prep.specs.Ranges.{IsPrepared};
 ghost use Rattle.st_exec.specs.Completion.{with_change, early as early_of};
 
+use st_bits::register::FIRST_INDEX_WORD;
 use st_bits::{Ind, indicator};
 use st_prep::{IndexChange, Prepared};
 use st_state::State;
-
-/// The address of the first index word.
-const INDEX_WORDS: u32 = 16;
 
 /// Takes the interrupt that executes a table instruction: its indicator goes off, and a wait ends.
 pub fn take(table: Option<u8>, state: &mut State)
@@ -32,7 +30,7 @@ fn change_index(index: Option<IndexChange>, state: &mut State)
     ensures { state.new ≡ with_change index state.old }
 {
     if let Some(change) = index {
-        state.store(INDEX_WORDS + u32::from(change.number), change.word);
+        state.store(FIRST_INDEX_WORD + u32::from(change.number), change.word);
     }
 }
 

@@ -9,26 +9,10 @@ use crate::deeds::Deed;
 use crate::outcomes::Outcome;
 use crate::transmission::{copy, exchange};
 use st_bin::Acc;
+use st_bits::indicators::CHANNEL_BUSY_REJECT;
+use st_bits::register::{COUNTS, FACTOR, LEFT_HALF, REMAINDER, RIGHT_HALF, SIGN_BYTE, TRANSIT};
 use st_bits::{Ind, indicator};
 use st_state::{Order, State};
-
-/// The addresses of the registers.
-const COUNTS: u32 = 7;
-
-const LEFT_HALF: u32 = 8;
-
-const RIGHT_HALF: u32 = 9;
-
-const SIGN_BYTE: u32 = 10;
-
-const REMAINDER: u32 = 13;
-
-const FACTOR: u32 = 14;
-
-const TRANSIT: u32 = 15;
-
-/// The indicator CBJ, channel busy reject.
-const CHANNEL_BUSY: u8 = 8;
 
 /// The order that a device has: the printer where `write` says so.
 fn order_of(write: bool, state: &State) -> Option<Order>
@@ -55,7 +39,7 @@ fn give(write: bool, order: Order, state: &mut State)
     ensures { state.new ≡ given write order state.old }
 {
     if order_of(write, state).is_some() {
-        state.signal(CHANNEL_BUSY);
+        state.signal(CHANNEL_BUSY_REJECT);
     } else {
         put_order(write, order, state);
     }

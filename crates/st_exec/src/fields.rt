@@ -18,22 +18,12 @@ use st_bin::indicators::{by_number, partial_field};
 use st_bin::outcome::done_with;
 use st_bin::signed::Signed;
 use st_bin::{Acc, Done, Shape, binary};
+use st_bits::register::{FACTOR, INDICATORS, LEFT_HALF, RIGHT_HALF, SIGN_BYTE};
 use st_bits::{ConnKind, Ind, VflOp, part};
 use st_conn::{connect, put_acc};
 use st_dec::decimal;
 use st_prep::reads_field;
 use st_state::State;
-
-/// The addresses of registers.
-const LEFT_HALF: u32 = 8;
-
-const RIGHT_HALF: u32 = 9;
-
-const SIGN_BYTE: u32 = 10;
-
-const INDICATORS: u32 = 11;
-
-const FACTOR: u32 = 14;
 
 /// The operand of `n` bits at the bit address `e`. In form 1 it is the first `n` of the 24 bits of `e` itself.
 fn operand(p: u8, e: u32, n: u8, operands: &[u64; 2], state: &State) -> u64

@@ -7,6 +7,7 @@ ghost use Rattle.st_prep.specs.Ranges.{IsRuns, AreInside};
 ghost use Rattle.st_exec.specs.Operand.{AreFirst, AreRead, field_at};
 
 use st_bits::get_field;
+use st_bits::register::FIRST_STORAGE_WORD;
 use st_prep::Words;
 use st_state::State;
 
@@ -43,7 +44,11 @@ fn operand_word(operands: &[u64; 2], k: usize, w: u32, state: &State) -> u64
     requires read { 32 ≤ w → slice_index operands.now k ≡ word_of state.now w }
     ensures { result ≡ word_of state.now w }
 {
-    if w < 32 { state.word(w) } else { operands[k] }
+    if w < FIRST_STORAGE_WORD {
+        state.word(w)
+    } else {
+        operands[k]
+    }
 }
 
 /// The number of the `n` bits, 1 to 64, from the bit address `a` on, whose words are the operands.

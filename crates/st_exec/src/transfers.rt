@@ -3,12 +3,8 @@ ghost use Rattle.std.specs.Prelude.{◌≡◌, ◌+◌, ◌≤◌, IsSome, IfSom
 ghost use Rattle.st_bits.specs.Storage.{words_of_storage};
 ghost use Rattle.st_exec.specs.Run.{all_stored, words_from, read_in as read_in_of, printed_out};
 
+use st_bits::indicators::{END_EXCEPTION, END_OF_OPERATION};
 use st_state::State;
-
-/// The indicators of an operation that ended, and of a reader without a card.
-const ENDED: u8 = 12;
-
-const EXHAUSTED: u8 = 11;
 
 /// Writes the words of a card to the eight words from the word address `w` on.
 fn store_card(w: u32, card: &[u64; 8], state: &mut State)
@@ -42,11 +38,11 @@ pub fn read_in(state: &mut State, card: Option<[u64; 8]>)
     let Some(order) = state.reader else { return };
     state.reader = None;
     let Some(card) = card else {
-        state.signal(EXHAUSTED);
+        state.signal(END_EXCEPTION);
         return;
     };
     store_card(order.word, &card, state);
-    state.signal(ENDED);
+    state.signal(END_OF_OPERATION);
 }
 
 /// The order of the printer takes effect: the eight words of its area are what is printed, and EOP comes on. The printer is
@@ -62,6 +58,6 @@ pub fn print_out(state: &mut State) -> [u64; 8]
     };
     let words = words_at(order.word, state);
     state.printer = None;
-    state.signal(ENDED);
+    state.signal(END_OF_OPERATION);
     words
 }

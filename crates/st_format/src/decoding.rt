@@ -31,7 +31,8 @@ pub fn decode(first: u32, second: u32) -> Decoded
     }
 }
 
-fn length_in_halves(first: u32) -> u8
+/// The number of half-words of the instruction with this first one, 1 or 2.
+pub fn length_in_halves(first: u32) -> u8
     ensures { result ≡ (if has_ones first then 2 else 1) }
 {
     if is_full(first) { 2 } else { 1 }

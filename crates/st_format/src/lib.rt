@@ -54,7 +54,7 @@ mod laws;
 mod operations;
 mod rules;
 
-pub use decoding::decode;
+pub use decoding::{decode, length_in_halves};
 pub use encoding::encode;
 pub use instruction::{Decoded, Instr};
 pub use laws::{bits_spell_instruction, instruction_keeps_bits};

@@ -1,6 +1,7 @@
 -- The checks before an instruction is executed: the first that fails suppresses it.
 use Rattle.std.specs.Prelude.{ℕ, zero, suc, ◌+◌, ◌/◌, Bool, true, false, not, nat_lt, if◌then◌else◌, Option, None, Some, unwrap_or}
 use Rattle.std.specs.Option.{option_or}
+use Rattle.st_bits.specs.declared.indicators.TheConstants.{OPERATION_INVALID, EXECUTE_EXCEPTION}
 use Rattle.st_format.specs.declared.instruction.Instr.{Instr}
 use Rattle.st_format.specs.declared.instruction.Instr.TheVariants.{Transfer}
 use Rattle.st_format.specs.Formats.{is_valid}
@@ -48,11 +49,11 @@ forbidden_area bounds enabled _ e = None
 
 -- the machine does not have the instruction
 abbrev pub operation_invalid : ℕ
-operation_invalid = 15
+operation_invalid = OPERATION_INVALID
 
 -- EX points to EX
 abbrev pub execute_exception : ℕ
-execute_exception = 18
+execute_exception = EXECUTE_EXCEPTION
 
 unfoldable pub operation_fault : Instr → Option ℕ
 operation_fault instr =

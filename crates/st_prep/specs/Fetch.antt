@@ -1,6 +1,7 @@
 -- Where the next entry of a state is, and what is fetched there.
 use Rattle.std.specs.Prelude.{ℕ, ◌+◌, ◌*◌, ◌%◌, ◌^◌, List, take, drop, Option, None, Some}
 use Rattle.st_bits.specs.Bits.{part}
+use Rattle.st_bits.specs.declared.register.TheConstants.{INTERRUPT_ADDRESS, FIRST_INDEX_WORD, BOUNDS}
 use Rattle.st_state.specs.Machine.{Machine, word}
 use Rattle.st_prep.specs.declared.entries.Place.{Place}
 use Rattle.st_prep.specs.declared.entries.Fetched.{Fetched}
@@ -8,13 +9,13 @@ use Rattle.st_prep.specs.Reading.{Reading, outcome, reading}
 
 -- the sixteen index words of a state
 unfoldable pub index_words : Machine → List ℕ
-index_words s = take 16 (drop 16 s.words)
+index_words s = take 16 (drop FIRST_INDEX_WORD s.words)
 
 -- ---- places
 
 -- the left half of the table word of an interrupt by indicator i
 abbrev pub table_address : Machine → ℕ → ℕ
-table_address s i = 2 * ((part (word s 2) 0 18 + i) % 2 ^ 18)
+table_address s i = 2 * ((part (word s INTERRUPT_ADDRESS) 0 18 + i) % 2 ^ 18)
 
 abbrev pub address_by : Option ℕ → Machine → ℕ
 address_by None s = s.ic
@@ -28,7 +29,7 @@ place_of s table = record { counter = s.ic; address = address_by table s; table 
 
 -- how the entry at a place is read in a state
 abbrev pub reading_of : Machine → Place → Reading
-reading_of s place = reading (index_words s) (word s 3) s.enabled place
+reading_of s place = reading (index_words s) (word s BOUNDS) s.enabled place
 
 -- what is fetched there
 unfoldable pub fetched : Machine → Place → Fetched

@@ -2,6 +2,7 @@
 use Rattle.std.specs.Prelude.{ℕ, ◌≡◌, Bool, true, false, ◌||◌, List, Option, None, Some, is_some, option_map}
 use Rattle.st_state.specs.Machine.{Machine, word}
 use Rattle.st_bits.specs.Indicators.{indicator}
+use Rattle.st_bits.specs.declared.register.TheConstants.{BOUNDS}
 use Rattle.st_state.specs.Interrupts.{applied}
 use Rattle.st_prep.specs.declared.entries.Place.{Place}
 use Rattle.st_prep.specs.declared.entries.Fetched.{Fetched}
@@ -14,8 +15,8 @@ use Rattle.st_prep.specs.Reading.{is_execute}
 use Rattle.st_prep.specs.Fetch.{index_words, place_of, fetched}
 use Rattle.st_prep.specs.Checks.{executed, fault}
 
--- what preparation sees of a state: the place of the entry, what is fetched there, the sixteen index words, word 3,
--- and whether interrupts are enabled
+-- what preparation sees of a state: the place of the entry, what is fetched there, the sixteen index words, the
+-- register of the bounds, and whether interrupts are enabled
 pub record Sight : Type 0 where
   pub place : Place
   pub fetched : Fetched
@@ -28,7 +29,7 @@ seen place fetched x s = record {
   place = place;
   fetched = fetched;
   x = x;
-  bounds = word s 3;
+  bounds = word s BOUNDS;
   enabled = s.enabled;
 }
 
@@ -149,7 +150,7 @@ pub record IsSeen (s : Machine) (v : Sight) : Type 0 where
   pub place : place_of s v.place.table ≡ v.place
   pub fetched : fetched s v.place ≡ v.fetched
   pub words : index_words s ≡ v.x
-  pub bounds : word s 3 ≡ v.bounds
+  pub bounds : word s BOUNDS ≡ v.bounds
   pub enabled : s.enabled ≡ v.enabled
 
 -- the index-side word of an entry of the state, where one is read

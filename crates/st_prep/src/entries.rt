@@ -13,7 +13,7 @@ pub struct Place {
 }
 
 /// What is fetched at a place.
-#[derive(Clone, Copy, Debug, PartialEq, Eq)]
+#[derive(Clone, Copy, Debug, Default, PartialEq, Eq)]
 pub struct Fetched {
     /// The instruction. Where its first word may not be fetched, it is one half-word that spells none; where its
     /// second word may not be fetched, it is decoded with zeros in its place.
@@ -87,8 +87,8 @@ pub struct IndexChange {
     pub word: u64,
 }
 
-/// An entry that is prepared.
-#[derive(Clone, Copy, Debug, PartialEq, Eq)]
+/// An entry that is prepared. The default one only fills a place.
+#[derive(Clone, Copy, Debug, Default, PartialEq, Eq)]
 pub struct Prepared {
     /// Where it stands.
     pub place: Place,
@@ -117,32 +117,4 @@ pub struct Prepared {
     pub cost: u8,
     /// Whether it is done alone.
     pub serial: bool,
-}
-
-/// A suppressed entry of no instruction, to fill a place with.
-impl Default for Prepared {
-    ghost use Rattle.st_prep.specs.Ranges.{IsPrepared};
-
-    ghost is_default = { IsPrepared };
-
-    fn default() -> Prepared {
-        Prepared {
-            place: Place::default(),
-            instr: Instr::Invalid {
-                first: 0,
-                second: 0,
-                full: false,
-            },
-            e: 0,
-            following: 0,
-            index: None,
-            ind: Ind { on: 0, off: 0 },
-            suppressed: true,
-            reads: Words::default(),
-            writes: Words::default(),
-            value: 0,
-            cost: 1,
-            serial: false,
-        }
-    }
 }

@@ -6,17 +6,10 @@ ghost use Rattle.st_prep.specs.Checks.{executed as executed_of, forbidden_run as
 
 use crate::entries::{Aim, Fetched, Words};
 use crate::fetching::is_execute;
+use st_bits::indicators::{ADDRESS_INVALID, EXECUTE_EXCEPTION, OPERATION_INVALID};
+use st_bits::register::FIRST_STORAGE_WORD;
 use st_format::Instr;
 use st_state::{Access, State};
-
-/// The indicator of an address that is not valid.
-const ADDRESS_INVALID: u8 = 16;
-
-/// The indicator of an operation that the machine does not have.
-const OPERATION_INVALID: u8 = 15;
-
-/// The indicator of EX that points to EX.
-const EXECUTE_EXCEPTION: u8 = 18;
 
 /// The number of words in the area of an order.
 const AREA: u8 = 8;
@@ -95,7 +88,7 @@ fn forbidden_area(state: &State, instr: &Instr, e: u32) -> Option<u8>
     let Instr::Transfer { write, .. } = *instr else {
         return None;
     };
-    if e / 64 < 32 {
+    if e / 64 < FIRST_STORAGE_WORD {
         return Some(ADDRESS_INVALID);
     }
     forbidden_run(state, area_access(write), e / 64, AREA)

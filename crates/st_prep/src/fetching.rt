@@ -9,8 +9,9 @@ ghost use Rattle.st_prep.specs.Ranges.{HasFields, IsPlace, IsPart, IsFound, IsFe
 
 use crate::addresses::effective_address;
 use crate::entries::{Fetched, Fetching, Place};
+use st_bits::register::{FIRST_INDEX_WORD, INTERRUPT_ADDRESS};
 use st_bits::{HalfOp, part};
-use st_format::{Decoded, Instr, decode};
+use st_format::{Decoded, Instr, decode, length_in_halves};
 use st_state::{Access, State};
 
 /// What is found at a half-word address.
@@ -38,7 +39,7 @@ pub fn index_words(state: &State) -> [u64; 16]
     state.shape();
     let mut x = [0; 16];
     for j in 0..16 {
-        x[j] = state.word(16 + j as u32);
+        x[j] = state.word(FIRST_INDEX_WORD + j as u32);
     }
     x
 }
@@ -67,7 +68,8 @@ fn address(state: &State, table: Option<u8>) -> u32
     state.shape();
     match table {
         None => state.ic,
-        Some(i) => (part(state.word(2), 0, 18) as u32 + u32::from(i)) % (1 << 18) * 2,
+        Some(i) => (part(state.word(INTERRUPT_ADDRESS), 0, 18) as u32 + u32::from(i)) % (1 << 18)
+            * 2,
     }
 }
 
@@ -137,11 +139,10 @@ fn with_first(h: u32, contents: &[u64], state: &State) -> Part
     ensures shape { IsPart (length contents.now) result }
 {
     let first = half_of(contents[0], h);
-    let decoded = decode(first, 0);
-    if decoded.halves == 2 {
+    if length_in_halves(first) == 2 {
         with_second(first, h, contents, state)
     } else {
-        has(decoded, None, 1)
+        has(decode(first, 0), None, 1)
     }
 }
 

@@ -15,11 +15,9 @@ use crate::faults::{executed, fault};
 use crate::fetching::{fetch_all, index_words, is_execute, place_of};
 use crate::outcome::{acts_alone, after, cost, next, value};
 use crate::runs::{has_register, is_register, none, reads, writes};
+use st_bits::register::INDICATORS;
 use st_bits::{Ind, indicator};
 use st_state::State;
-
-/// The address of the indicator register.
-const INDICATORS: u32 = 11;
 
 /// Whether an entry is done alone even where it is suppressed.
 fn is_alone(place: &Place, fetched: &Fetched) -> bool

@@ -4,6 +4,7 @@ ghost use Rattle.st_prep.specs.Entry.{is_index_store as is_store, reads_field as
 ghost use Rattle.st_prep.specs.Ranges.{HasFields, IsRuns};
 
 use crate::entries::Words;
+use st_bits::register::FIRST_STORAGE_WORD;
 use st_bits::{HalfOp, VflOp};
 use st_format::{FullOp, Instr, writes_field};
 
@@ -156,12 +157,13 @@ pub fn writes(instr: &Instr, e: u32) -> Words
 pub fn has_register(words: Words) -> bool
     ensures { result ≡ has_register_of words }
 {
-    (words.len != 0 && words.first < 32) || (words.len2 != 0 && words.first2 < 32)
+    (words.len != 0 && words.first < FIRST_STORAGE_WORD)
+        || (words.len2 != 0 && words.first2 < FIRST_STORAGE_WORD)
 }
 
 /// Whether there is a word, and it is a register.
 pub fn is_register(word: Option<u32>) -> bool
     ensures { result ≡ is_register_of word }
 {
-    word.is_some_and(|w| w < 32)
+    word.is_some_and(|w| w < FIRST_STORAGE_WORD)
 }
