@@ -94,6 +94,7 @@ fn finish(p: &Prepared, operands: &[u64; 2], state: &mut State)
 
 /// Completes an entry that is prepared, of which the first two operands are given: its early change, then what it does,
 /// then the counter.
+#[inline(always)]
 #[tactic(auto, unfolding(crate::specs::Completion::completed))]
 pub fn complete_with(p: &Prepared, operands: &[u64; 2], state: &mut State)
     requires prepared { IsPrepared p.now }

@@ -1,4 +1,4 @@
-ghost use Rattle.std.specs.Prelude.{◌≡◌, ◌+◌, ◌/◌, ◌<◌, ◌≤◌, ◌^◌, Bool, IfSome, length, drop, slice_index};
+ghost use Rattle.std.specs.Prelude.{◌≡◌, ◌+◌, ◌/◌, ◌<◌, ◌≤◌, ◌^◌, Bool, true, IfSome, length, drop, slice_index};
 ghost use Rattle.st_bits.specs.Storage.{words_of_storage};
 ghost use Rattle.st_state.specs.Machine.{word};
 ghost use Rattle.st_state.specs.Boundary.{forbidden_by};
@@ -119,6 +119,7 @@ fn with_second(first: u32, h: u32, contents: &[u64], state: &State) -> Part
 }
 
 /// An instruction that is known by `used` of the contents.
+#[inline(always)]
 fn has(decoded: Decoded, fault: Option<u8>, used: usize) -> Part
     ensures { result ≡ Part.Has (record { decoded = decoded; fault = fault }) used }
 {
@@ -147,6 +148,7 @@ fn with_first(h: u32, contents: &[u64], state: &State) -> Part
 }
 
 /// The instruction at the half-word address `h`, as far as the contents tell.
+#[inline(always)]
 #[tactic(auto, unfolding(crate::specs::Reading::instruction_at))]
 fn part_at(h: u32, contents: &[u64], state: &State) -> Part
     requires { h < 2 ^ 19 }
@@ -190,21 +192,15 @@ fn with_target(ex: Decoded, target: Found) -> Fetched
     }
 }
 
-/// The entry with this own instruction, as far as the contents behind it tell.
-#[tactic(auto, unfolding(crate::specs::Reading::own_use))]
-fn own_or_target(own: Found, x: &[u64; 16], contents: &[u64], state: &State) -> Fetching
-    requires { IsFound own }
+/// EX, whose target is read, as far as the contents behind its own tell.
+#[inline(never)]
+fn fetch_target(own: Found, x: &[u64; 16], contents: &[u64], state: &State) -> Fetching
+    requires own { IsFound own }
+    requires execute { is_execute_of own.decoded.instr ≡ true }
     ensures value { result ≡ given (left_after (own_use x.now (word state.now 3) state.now.enabled
         own) contents.now) }
     ensures shape { IsFetching result }
 {
-    if !is_execute(&own.decoded.instr) {
-        return Fetching::Found(Fetched {
-            instr: own.decoded,
-            target: None,
-            fault: own.fault,
-        });
-    }
     let e = effective_address(&own.decoded.instr, x);
     match part_at(e / 32, contents, state) {
         Part::Wants { word } => Fetching::Next { word, target: true },
@@ -212,9 +208,29 @@ fn own_or_target(own: Found, x: &[u64; 16], contents: &[u64], state: &State) -> 
     }
 }
 
+/// The entry with this own instruction, as far as the contents behind it tell.
+#[inline(always)]
+#[tactic(auto, unfolding(crate::specs::Reading::own_use))]
+fn own_or_target(own: Found, x: &[u64; 16], contents: &[u64], state: &State) -> Fetching
+    requires { IsFound own }
+    ensures value { result ≡ given (left_after (own_use x.now (word state.now 3) state.now.enabled
+        own) contents.now) }
+    ensures shape { IsFetching result }
+{
+    if is_execute(&own.decoded.instr) {
+        return fetch_target(own, x, contents, state);
+    }
+    Fetching::Found(Fetched {
+        instr: own.decoded,
+        target: None,
+        fault: own.fault,
+    })
+}
+
 /// How far an entry at a place is fetched once words with these contents were read for it, one after another: the word that
 /// is read next, or what is fetched. `x` are the index words, and of `state` only the boundary register and the mark for
 /// interrupts count.
+#[inline(always)]
 #[tactic(auto, unfolding(crate::specs::Reading::reading))]
 pub fn fetch_on(place: &Place, x: &[u64; 16], contents: &[u64], state: &State) -> Fetching
     requires { IsPlace place.now }
@@ -232,6 +248,7 @@ pub fn fetch_on(place: &Place, x: &[u64; 16], contents: &[u64], state: &State) -
 }
 
 /// What is fetched at a place, all its words being read from the state.
+#[inline(always)]
 pub fn fetch_all(place: &Place, x: &[u64; 16], state: &State) -> Fetched
     requires { IsPlace place.now }
     ensures value { result

@@ -27,6 +27,7 @@ fn is_alone(place: &Place, fetched: &Fetched) -> bool
 }
 
 /// What an entry is aimed at, before it is checked.
+#[inline(always)]
 #[tactic(auto, unfolding(crate::specs::Plan::aimed))]
 fn aimed(place: &Place, fetched: &Fetched, x: &[u64; 16]) -> Aim
     requires { IsFetched fetched.now }
@@ -48,6 +49,7 @@ fn aimed(place: &Place, fetched: &Fetched, x: &[u64; 16]) -> Aim
 }
 
 /// What an entry is aimed at, and the first check that it fails.
+#[inline(always)]
 #[tactic(auto, unfolding(crate::specs::Plan::aim, crate::specs::Plan::fault_of))]
 fn aim(place: &Place, fetched: &Fetched, x: &[u64; 16], state: &State) -> Aim
     requires { IsFetched fetched.now }
@@ -103,6 +105,7 @@ pub fn look(place: &Place, fetched: &Fetched, x: &[u64; 16], state: &State) -> N
 }
 
 /// Fills in an entry that is suppressed by the indicator `i`.
+#[inline(never)]
 #[tactic(auto, unfolding(crate::specs::Plan::suppressed))]
 fn suppress(aim: &Aim, i: u8, p: &mut Prepared)
     requires place { p.old.place.counter < 2 ^ 19 }
@@ -126,6 +129,7 @@ fn suppress(aim: &Aim, i: u8, p: &mut Prepared)
 }
 
 /// Fills in an entry that is not suppressed; `read` is its index-side word.
+#[inline(always)]
 #[tactic(auto, unfolding(crate::specs::Plan::entry))]
 fn enter(aim: &Aim, x: &[u64; 16], read: Option<u64>, p: &mut Prepared)
     requires place { p.old.place.counter < 2 ^ 19 }
@@ -148,6 +152,7 @@ fn enter(aim: &Aim, x: &[u64; 16], read: Option<u64>, p: &mut Prepared)
 }
 
 /// Fills in the entry that stands at `p.place`, before the index words are changed by it.
+#[inline(always)]
 fn fill(aim: &Aim, x: &[u64; 16], read: Option<u64>, p: &mut Prepared)
     requires place { p.old.place.counter < 2 ^ 19 }
     requires aim { IsAim aim.now }
@@ -268,6 +273,7 @@ pub fn side_word(state: &State, table: Option<u8>, w: Option<u32>) -> Option<u64
 }
 
 /// Fills in the next entry of a state, or its table instruction.
+#[inline(always)]
 #[tactic(auto, unfolding(crate::specs::Plan::plan, crate::specs::Plan::sight, crate::specs::Plan::prepared, crate::specs::Plan::needs, crate::specs::Fetch::fetched))]
 fn fill_next(table: Option<u8>, state: &State, p: &mut Prepared)
     requires { IfSome table (λ i. i < 64) }

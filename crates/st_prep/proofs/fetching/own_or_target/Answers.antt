@@ -1,22 +1,8 @@
-use Rattle.std.proofs.Common.{◌/◌, true, sym, ◌∙◌, ap}
-use Rattle.st_state.specs.Machine.{word}
-use Rattle.st_prep.specs.declared.entries.Fetching.TheVariants.{Found as FoundAll}
-use Rattle.st_prep.specs.Reading.{Use, instruction_at, own_use, with_target, Finds}
-use Rattle.st_prep.proofs.GivenLemmas.{of, other-found, target-given, target-found}
+use Rattle.std.proofs.Common.{sym, ◌∙◌}
+use Rattle.st_prep.specs.Reading.{own_use}
+use Rattle.st_prep.proofs.GivenLemmas.{other-found}
 use Rattle.st_prep.proofs.fetching.own_or_target.Goals as goal
 
-pub returns-then-not-is_execute-clause-value : goal.returns-then-not-is_execute-clause-value
+pub returns-clause-value : goal.returns-clause-value
 unfolding own_use
-returns-then-not-is_execute-clause-value c =
-    sym (other-found _ _ _ _ (sym c.is_execute.ensures ∙ c.if-not-is_execute.true))
-
-pub returns-in-Has-clause-value : goal.returns-in-Has-clause-value
-unfolding own_use
-returns-in-Has-clause-value c =
-    let s = c.args.state.now in
-    let k : Use = λ target. Finds (with_target c.args.own.decoded target) in
-    sym (target-given _ _ _ _ (sym c.is_execute.ensures ∙ c.if-not-is_execute.false)
-    ∙ ap (λ e. of (instruction_at true (word s 3) s.enabled (e / 32) k) c.args.contents.now) (sym c.effective_address-e.ensures.value)
-    ∙ c.in-Has.ensures.value true k
-    ∙ target-found c.args.own.decoded c.in-Has.found c.in-Has.used c.args.contents.now
-    ∙ ap FoundAll (sym c.with_target.ensures.value))
+returns-clause-value c = sym (other-found _ _ _ _ (sym c.is_execute.ensures ∙ c.if-is_execute.false))
