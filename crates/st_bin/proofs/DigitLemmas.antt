@@ -2,7 +2,7 @@
 use Rattle.std.proofs.Common.{lit≤, lit<, leb, ◌≡◌, ℕ, zero, suc, ◌+◌, ◌-◌, ◌*◌, ◌/◌, ◌%◌, ◌^◌, ◌<◌, ◌≤◌, refl, sym, ap, subst, arith, add-one, ◌∙◌}
 use native.Mathlib.Numerals.{unary_clauses}
 use Rattle.std.proofs.lemmas.Nat.{pow-add, div-mul-add}
-use Rattle.std.proofs.Math.Nat.{pow-suc, pow-succ', mul-le-mul, mul-le-mul_right, mul-lt-mul_of_pos_right, mul-div_cancel, mul-mod_left, pow-le-pow_right, div-div-eq-div-mul, mod-eq_of_lt, add-mul-div_right, add-mul-mod_self_right}
+use Rattle.std.proofs.Math.Nat.{pow-suc, pow-succ', mul-le-mul, mul-le-mul_right, mul-lt-mul_of_pos_right, mul-div_cancel, mul-mod_left, pow-le-pow_right, div-div-eq-div-mul, mod-eq_of_lt, add-mul-div_right, add-mul-mod_self_right, zero-div}
 use Rattle.std.proofs.Math.Arith.{mod-mul}
 use Rattle.std.proofs.lemmas.Bool.Decides.{nat_tests}
 use Rattle.st_bin.specs.Digits.{code_at, value_of, digits_of}
@@ -125,3 +125,38 @@ lost_place m place few = rw (powers_of_places place few) (scaled_le (10 ^ (32 - 
 pub ruleset power_rules = (power_fits, power_above_zero)
 
 pub ruleset place_rules = (placed, lost_place)
+
+-- ---- digits that are all zero from one place on
+
+rest-none : (d b n k : ℕ) → d / b ^ n ≡ 0 → d / b ^ (n + k) ≡ 0
+rest-none d b n k h =
+    let step : d / b ^ n / b ^ k ≡ d / b ^ (n + k) = rw (div-div-eq-div-mul, pow-add) refl in
+    sym step ∙ ap (λ q. q / b ^ k) h ∙ zero-div (b ^ k)
+
+value_of-none : (d n k : ℕ) → d / 16 ^ n ≡ 0 → value_of (n + k) d ≡ value_of n d
+unfolding value_of
+value_of-none d n zero h = let same : n + 0 ≡ n = omega arith in ap (λ m. value_of m d) same
+value_of-none d n (suc k) h =
+    let next : n + suc k ≡ suc (n + k) = omega arith in
+    let none : d / 16 ^ (n + k) ≡ 0 = rest-none d 16 n k h in
+    let rest : value_of (n + k) d ≡ value_of n d = value_of-none d n k h in
+    ap (λ m. value_of m d) next ∙ rw none (omega (arith, rest))
+
+-- the value of 32 digits is that of the first n, where nothing is left
+pub value_of-stop : (d n : ℕ) → n ≤ 32 → d / 16 ^ n ≡ 0 → value_of 32 d ≡ value_of n d
+value_of-stop d n few h =
+    let all : 32 ≡ n + (32 - n) = omega arith in ap (λ m. value_of m d) all ∙ value_of-none d n (32 - n) h
+
+digits_of-none : (v n k : ℕ) → v / 10 ^ n ≡ 0 → digits_of (n + k) v ≡ digits_of n v
+unfolding digits_of
+digits_of-none v n zero h = let same : n + 0 ≡ n = omega arith in ap (λ m. digits_of m v) same
+digits_of-none v n (suc k) h =
+    let next : n + suc k ≡ suc (n + k) = omega arith in
+    let none : v / 10 ^ (n + k) ≡ 0 = rest-none v 10 n k h in
+    let rest : digits_of (n + k) v ≡ digits_of n v = digits_of-none v n k h in
+    ap (λ m. digits_of m v) next ∙ rw none (omega (arith, rest))
+
+-- and the 32 digits of a number are its first n
+pub digits_of-stop : (v n : ℕ) → n ≤ 32 → v / 10 ^ n ≡ 0 → digits_of 32 v ≡ digits_of n v
+digits_of-stop v n few h =
+    let all : 32 ≡ n + (32 - n) = omega arith in ap (λ m. digits_of m v) all ∙ digits_of-none v n (32 - n) h

@@ -9,6 +9,9 @@ pub fn digits_value(digits: u128) -> u128
     let mut rest = digits;
     let mut weight = 1;
     for _place in 0..32u32 {
+        if rest == 0 {
+            return value;
+        }
         value += rest % 16 * weight;
         rest /= 16;
         weight *= 10;
@@ -25,6 +28,9 @@ pub fn to_digits(value: u128) -> u128
     let mut digits = 0;
     let mut rest = value;
     for place in 0..32u32 {
+        if rest == 0 {
+            return digits;
+        }
         digits += rest % 10 << (4 * place);
         rest /= 10;
     }

@@ -14,7 +14,7 @@ use Rattle.st_prep.specs.declared.entries.Fetching.TheVariants.{Next, Found as F
 use Rattle.st_prep.specs.declared.fetching.Found.{Found}
 use Rattle.st_prep.specs.EarlyChange.{effective}
 use Rattle.st_prep.specs.Fetch.{index_words, fetched}
-use Rattle.st_prep.specs.Reading.{Reading, Finds, Reads, outcome, words_read, left_after, given, half_of, Use, with_second, with_first, read_after, instruction_at, is_execute, with_target, own_use, reading}
+use Rattle.st_prep.specs.Reading.{Reading, Finds, Reads, outcome, words_read, own_words, left_after, given, half_of, Use, with_second, with_first, read_after, instruction_at, is_execute, with_target, own_use, reading}
 use Rattle.st_format.proofs.Spelled.{or-right}
 use Rattle.st_prep.proofs.Choices.{of_choice, test-none}
 use Rattle.st_prep.proofs.RunLemmas.{allowed-inside}
@@ -102,6 +102,68 @@ few-own x b en c own =
 pub reading-few : (x : List ℕ) (b : ℕ) (en : Bool) (p : Place) (c : ℕ → ℕ) → AreFew 4 (words_read (reading x b en p) c)
 unfolding reading
 reading-few x b en p c = few-at false b en p.address 2 c (own_use x b en) (few-own x b en c)
+
+-- ---- the entry's own words
+
+-- a word that is read counts as one of them unless it is read for the target
+abbrev pub own_one : Bool → ℕ
+own_one true = 0
+own_one false = 1
+
+own-read : (t : Bool) (w : ℕ) (r : ℕ → Reading) (c : ℕ → ℕ) → own_words (Reads t w r) c ≡ own_one t + own_words (r (c w)) c
+unfolding own_words
+own-read true w r c = omega arith
+own-read false w r c = omega arith
+
+abbrev pub OwnFew : ℕ → (ℕ → ℕ) → Use → Type 0
+OwnFew n c k = (f : Found) → own_words (k f) c ≤ n
+
+own-more : (t : Bool) (m n : ℕ) → m ≤ n → own_one t + m ≤ own_one t + n
+own-more t m n h = omega arith
+
+own-same : (t : Bool) (m n : ℕ) → m ≤ n → m ≤ own_one t + n
+own-same t m n h = omega arith
+
+own-second : (f : Option ℕ) (t : Bool) (first h v content n : ℕ) (c : ℕ → ℕ) (k : Use) → OwnFew n c k
+    → own_words (with_second f t first h v content k) c ≤ own_one t + n
+own-second (Some i) t first h v content n c k few = own-same t _ n (few _)
+own-second None t first h v content n c k few =
+    of_choice (λ r. own_words r c ≤ own_one t + n) (h / 2 == v) _ _ (own-same t _ n (few _))
+    (rw (own-read t (h / 2) _ c) (own-more t _ n (few _)))
+
+own-first : (t : Bool) (b : ℕ) (en : Bool) (h content n : ℕ) (c : ℕ → ℕ) (k : Use) → OwnFew n c k
+    → own_words (with_first t b en h content k) c ≤ own_one t + n
+unfolding with_first
+own-first t b en h content n c k few =
+    of_choice (λ r. own_words r c ≤ own_one t + n) ((decoded (half_of content h) 0).halves == 2) _ _
+    (own-second _ t _ (h + 1) (h / 2) content n c k few) (own-same t _ n (few _))
+
+own-after : (f : Option ℕ) (t : Bool) (b : ℕ) (en : Bool) (h n : ℕ) (c : ℕ → ℕ) (k : Use) → OwnFew n c k
+    → own_words (read_after f t b en h k) c ≤ own_one t + (own_one t + n)
+own-after (Some i) t b en h n c k few = own-same t _ (own_one t + n) (own-same t _ n (few _))
+own-after None t b en h n c k few =
+    let there : own_words (with_first t b en h (c (h / 2)) k) c ≤ own_one t + n = own-first t b en h (c (h / 2)) n c k few in
+    rw (own-read t (h / 2) (λ content. with_first t b en h content k) c) (omega (arith, there))
+
+own-at : (t : Bool) (b : ℕ) (en : Bool) (h n : ℕ) (c : ℕ → ℕ) (k : Use) → OwnFew n c k
+    → own_words (instruction_at t b en h k) c ≤ own_one t + (own_one t + n)
+unfolding instruction_at
+own-at t b en h n c k few = own-after _ t b en h n c k few
+
+own-found : (f : Fetched) (c : ℕ → ℕ) → own_words (Finds f) c ≤ 0
+unfolding own_words
+own-found f c = omega arith
+
+own-use : (x : List ℕ) (b : ℕ) (en : Bool) (c : ℕ → ℕ) → OwnFew 0 c (own_use x b en)
+unfolding own_use
+own-use x b en c own =
+    of_choice (λ r. own_words r c ≤ 0) (is_execute own.decoded.instr) _ _
+    (own-at true b en (effective x own.decoded.instr / 32) 0 c _ (λ target. own-found _ c)) (own-found _ c)
+
+-- at most two words are the entry's own
+pub reading-own : (x : List ℕ) (b : ℕ) (en : Bool) (p : Place) (c : ℕ → ℕ) → own_words (reading x b en p) c ≤ 2
+unfolding reading
+reading-own x b en p c = own-at false b en p.address 0 c (own_use x b en) (own-use x b en c)
 
 -- ---- the contents so far decide
 

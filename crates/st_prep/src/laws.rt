@@ -8,7 +8,7 @@ ghost use Rattle.st_prep.specs.Plan.{Sight, needs, prepared, sight, plan};
 ghost use Rattle.st_prep.specs.declared.entries.Place.{Place};
 ghost use Rattle.st_prep.specs.Ranges.{IsPrepared};
 ghost use Rattle.st_prep.specs.Fetch.{index_words, place_of, fetched};
-ghost use Rattle.st_prep.specs.Reading.{Reading, outcome, words_read, count_of, reading};
+ghost use Rattle.st_prep.specs.Reading.{Reading, outcome, words_read, own_words, count_of, reading};
 ghost use Rattle.st_prep.specs.Alike.{AreAlike, ReadTheSame};
 
 /// Each entry of each state is in its ranges once it is prepared.
@@ -37,12 +37,15 @@ pub fn entries_with_a_target_are_alone()
 {}
 
 /// What is fetched is found by a reading of words one after another, in which the contents so far decide which word
-/// comes next; at most four are read, all of them in storage above the registers.
+/// comes next; at most four are read, all of them in storage above the registers, and at most two of them are the entry's
+/// own.
 pub fn instruction_words_come_one_by_one()
     ensures found { (s : Machine) (p : Place)
         → fetched s p ≡ outcome (reading (index_words s) (word s 3) s.enabled p) (word s) }
     ensures few { (x : List ℕ) (b : ℕ) (on : Bool) (p : Place) (c : ℕ → ℕ)
         → length (words_read (reading x b on p) c) ≤ 4 }
+    ensures own { (x : List ℕ) (b : ℕ) (on : Bool) (p : Place) (c : ℕ → ℕ)
+        → own_words (reading x b on p) c ≤ 2 }
     ensures above { (x : List ℕ) (b : ℕ) (on : Bool) (p : Place) (c : ℕ → ℕ)
         → All (λ w. 32 ≤ w) (words_read (reading x b on p) c) }
     ensures inside { (x : List ℕ) (b : ℕ) (on : Bool) (p : Place) (c : ℕ → ℕ)

@@ -522,10 +522,3 @@ fn a_table_instruction_leaves_the_counter(rt: HostRuntime) -> Result<(), Fail> {
     assert_eq!(rt; x[1], 0x0000_8000_0000_0000);
     Ok(())
 }
-
-#[test]
-fn a_blank_entry_touches_no_words(rt: HostRuntime) {
-    let blank = Prepared::default();
-    assert!(rt; blank.suppressed);
-    assert_eq!(rt; runs(blank.writes), (0, 0, 0, 0));
-}

@@ -1,7 +1,7 @@
-use Rattle.std.proofs.Common.{lit<, ℕ, ◌≡◌, ◌<◌, ◌≤◌, ◌+◌, ◌*◌, ◌%◌, ◌^◌, arith, refl, sym}
+use Rattle.std.proofs.Common.{lit<, ℕ, ◌≡◌, ◌<◌, ◌≤◌, ◌+◌, ◌*◌, ◌%◌, ◌^◌, arith, refl, sym, ◌∙◌}
 use Rattle.std.proofs.Math.Nat.{pow-le-pow_right, mul-le-mul_right}
 use Rattle.st_bin.specs.Digits.{value_of}
-use Rattle.st_bin.proofs.DigitLemmas.{value_of-next, rest-next, power_suc, value_of-bound}
+use Rattle.st_bin.proofs.DigitLemmas.{value_of-next, rest-next, power_suc, value_of-bound, value_of-stop}
 use Rattle.st_bin.proofs.digits.digits_value.Goals as goal
 
 pub loop-place-init : goal.loop-place-init
@@ -17,7 +17,7 @@ sum_fits d n v w rest few is weight =
     let digit : rest % 16 * w ≤ 15 * w = mul-le-mul_right w (omega arith) in
     omega arith
 
-sum : (c : goal.In-loop-place) → c.loop-place.value + c.loop-place.rest % 16 * c.loop-place.weight < 2 ^ 128
+sum : (c : goal.Else-rest-eq0) → c.loop-place.value + c.loop-place.rest % 16 * c.loop-place.weight < 2 ^ 128
 sum c = sum_fits _ _ _ _ c.loop-place.rest c.loop-place-test.true c.loop-place.invariant.so_far c.loop-place.invariant.weight
 
 pub overflow_mul-value : goal.overflow_mul-value
@@ -39,4 +39,13 @@ loop-place-preserved c =
       so_far = value_of-next _ _ _ _ _ known.so_far known.left known.weight;
       left = rw known.left (rest-next _ 16 _);
       weight = rw known.weight (sym (power_suc 10 _));
+    }
+
+pub returns-then-rest-eq0 : goal.returns-then-rest-eq0
+returns-then-rest-eq0 c =
+    let known = c.loop-place.invariant in
+    record {
+      value =
+          known.so_far
+          ∙ sym (value_of-stop c.args.digits c.loop-place._place (omega arith) (sym known.left ∙ c.if-rest-eq0.true));
     }

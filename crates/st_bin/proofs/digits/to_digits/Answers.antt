@@ -1,7 +1,7 @@
-use Rattle.std.proofs.Common.{lit<, ℕ, ◌≡◌, ◌<◌, ◌≤◌, ◌+◌, ◌*◌, ◌/◌, ◌%◌, ◌^◌, arith, refl, subst, ◌∙◌}
+use Rattle.std.proofs.Common.{lit<, ℕ, ◌≡◌, ◌<◌, ◌≤◌, ◌+◌, ◌*◌, ◌/◌, ◌%◌, ◌^◌, arith, refl, sym, subst, ◌∙◌}
 use Rattle.std.proofs.Math.Nat.{pow-le-pow_right, mul-le-mul_right, mod-eq_of_lt}
 use Rattle.st_bin.specs.Digits.{digits_of}
-use Rattle.st_bin.proofs.DigitLemmas.{power_16, digits_of-next, rest-next, digits_of-below, value_of-digits}
+use Rattle.st_bin.proofs.DigitLemmas.{power_16, digits_of-next, rest-next, digits_of-below, digits_of-stop, value_of-digits}
 use Rattle.st_bin.proofs.digits.to_digits.Goals as goal
 
 pub loop-place-init : goal.loop-place-init
@@ -48,3 +48,14 @@ returns-clause-value c =
     let all : c.loop-place.place ≡ 32 = omega arith in
     let digits : c.loop-place.digits ≡ digits_of 32 c.args.value = subst (λ n. c.loop-place.digits ≡ digits_of n c.args.value) all c.loop-place.invariant.so_far in
     rw digits (value_of-digits 32 c.args.value ∙ mod-eq_of_lt c.requires)
+
+stopped : (c : goal.Then-rest-eq0) → c.loop-place.digits ≡ digits_of 32 c.args.value
+stopped c =
+    let known = c.loop-place.invariant in
+    known.so_far ∙ sym (digits_of-stop c.args.value c.loop-place.place (omega arith) (sym known.left ∙ c.if-rest-eq0.true))
+
+pub returns-then-rest-eq0-clause-digits : goal.returns-then-rest-eq0-clause-digits
+returns-then-rest-eq0-clause-digits c = stopped c
+
+pub returns-then-rest-eq0-clause-value : goal.returns-then-rest-eq0-clause-value
+returns-then-rest-eq0-clause-value c = rw (stopped c) (value_of-digits 32 c.args.value ∙ mod-eq_of_lt c.requires)
