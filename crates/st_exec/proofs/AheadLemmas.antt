@@ -48,7 +48,7 @@ early-low p s i h other =
     get_or-set_other (with_change p.index s).words 11 i _ 0 other ∙ change-low p.index s i h
 
 -- an index word is that of the list after the change
-index-at : (s : Machine) (k : ℕ) → k < 16 → get_or (index_words s) k 0 ≡ word s (16 + k)
+pub index-at : (s : Machine) (k : ℕ) → k < 16 → get_or (index_words s) k 0 ≡ word s (16 + k)
 unfolding index_words
 index-at s k h = get_or-take 16 (drop 16 s.words) k 0 h ∙ get_or-drop 16 s.words k 0
 
@@ -56,7 +56,7 @@ pub length-index_words : (s : Machine) → 32 ≤ length s.words → length (ind
 unfolding index_words
 length-index_words s long = omega (arith, length-take 16 (drop 16 s.words), length-drop 16 s.words)
 
-length-words_after : (x : List ℕ) (c : Option IndexChange) → length (words_after x c) ≡ length x
+pub length-words_after : (x : List ℕ) (c : Option IndexChange) → length (words_after x c) ≡ length x
 length-words_after x None = refl
 length-words_after x (Some c) = length-set x c.number c.word
 
@@ -82,7 +82,7 @@ change-index (Some c) s k long few h =
           ∙ sym (get_or-set_other x c.number k c.word 0 other)
     ]
 
-early-index : (p : Prepared) (s : Machine) (k : ℕ) → 32 ≤ length s.words → k < 16 → IfSome p.index IsChange
+pub early-index : (p : Prepared) (s : Machine) (k : ℕ) → 32 ≤ length s.words → k < 16 → IfSome p.index IsChange
     → word (early p s) (16 + k) ≡ get_or (words_after (index_words s) p.index) k 0
 unfolding early
 early-index p s k long few h =

@@ -277,7 +277,7 @@ guessed-ahead : (b : Bool) (p : Prepared) (s : Machine) → b ≡ false
 guessed-ahead true p s e = absurd (cc)
 guessed-ahead false p s e = refl
 
-guessed-late : (p : Prepared) (s : Machine) → IsPrepared p → p.serial ≡ false
+pub guessed-late : (p : Prepared) (s : Machine) → IsPrepared p → p.serial ≡ false
     → guessed p s
     ≡ record (counted (late p.suppressed p (early p s)) (if p.suppressed then p.following else counter p (early p s))) {
       ic = p.following;

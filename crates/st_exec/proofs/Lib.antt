@@ -14,3 +14,5 @@ pub mod AlikeDeeds
 pub mod BitBounds
 pub mod ResultBounds
 pub mod MachineKept
+pub mod UnwrittenLemmas
+pub mod BesideEntries

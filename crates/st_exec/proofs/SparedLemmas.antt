@@ -62,7 +62,7 @@ apart-by : (w m a n i : ℕ) → w + m ≤ words_of_storage → 64 * w ≤ a →
 apart-by w m a n i room low high (inl before) = record { inside = omega arith; apart = inl (omega arith) }
 apart-by w m a n i room low high (inr after) = record { inside = omega arith; apart = inr (omega arith) }
 
-apart-word : (w a n i : ℕ) → AreInside (one_run w 1) → 64 * w ≤ a → a + n ≤ 64 * w + 64 → IsNotAmong i (one_run w 1)
+pub apart-word : (w a n i : ℕ) → AreInside (one_run w 1) → 64 * w ≤ a → a + n ≤ 64 * w + 64 → IsNotAmong i (one_run w 1)
     → IsApart a n i
 apart-word w a n i h low high k =
     let room : w + 1 ≤ words_of_storage = h.inside (omega arith) in apart-by w 1 a n i room low (omega arith) k.first

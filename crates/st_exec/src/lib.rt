@@ -10,6 +10,7 @@ mod fields;
 mod laws;
 mod operands;
 mod outcomes;
+mod overlap_laws;
 mod step;
 mod transfers;
 mod transmission;
@@ -19,6 +20,10 @@ pub use execution::{execute, read_operands};
 pub use laws::{
     entries_ahead_leave_the_rest, entries_are_bounded, entries_count_as_one, entries_leave_states,
     indicators_are_passed_over, only_indicator_branches_are_missed,
+};
+pub use overlap_laws::{
+    early_changes_leave_their_index_words, entries_leave_what_they_do_not_write,
+    guesses_leave_states, orders_are_passed_over,
 };
 pub use step::{Step, interrupt, is_at_rest, next_address, one};
 pub use transfers::{print_out, read_in};

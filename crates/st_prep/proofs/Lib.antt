@@ -12,3 +12,5 @@ pub mod ReadingLemmas
 pub mod AlikeLemmas
 pub mod CountLemmas
 pub mod GivenLemmas
+pub mod BesideLemmas
+pub mod FewLemmas

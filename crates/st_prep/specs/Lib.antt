@@ -6,3 +6,5 @@ pub mod Ranges
 pub mod Plan
 pub mod Reading
 pub mod Alike
+pub mod BesideOrders
+pub mod FewWords

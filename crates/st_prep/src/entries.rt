@@ -47,10 +47,10 @@ pub struct Needs {
 pub struct Words {
     /// The word address of the first run.
     pub first: u32,
-    /// The number of its words, 0 to 16.
-    pub len: u8,
     /// The word address of the second run.
     pub first2: u32,
+    /// The number of its words, 0 to 16.
+    pub len: u8,
     /// The number of its words, 0 to 16.
     pub len2: u8,
 }
@@ -62,16 +62,16 @@ pub struct Aim {
     pub instr: Instr,
     /// The effective address, a bit address below 2^24.
     pub e: u32,
-    /// The number of half-words that the entry takes: of EX its own, whatever its target.
-    pub halves: u8,
-    /// The index-side word.
-    pub side: Option<u32>,
     /// The operand words that it reads.
     pub reads: Words,
     /// The words that it writes.
     pub writes: Words,
+    /// The index-side word.
+    pub side: Option<u32>,
     /// The indicator of the first check that it fails.
     pub fault: Option<u8>,
+    /// The number of half-words that the entry takes: of EX its own, whatever its target.
+    pub halves: u8,
     /// Whether it is done alone even where it is suppressed.
     pub alone: bool,
 }
@@ -79,12 +79,12 @@ pub struct Aim {
 /// A change of an index word.
 #[derive(Clone, Copy, Debug, Default, PartialEq, Eq)]
 pub struct IndexChange {
-    /// The number of the index word, 0 to 15.
-    pub number: u8,
     /// The word before it.
     pub kept: u64,
     /// The word after it.
     pub word: u64,
+    /// The number of the index word, 0 to 15.
+    pub number: u8,
 }
 
 /// An entry that is prepared. The default one only fills a place.
@@ -100,19 +100,19 @@ pub struct Prepared {
     /// The counter after it, a half-word address. For a branch on a bit or on an indicator it is that of the
     /// following instruction, as if no branch were taken.
     pub following: u32,
-    /// The index word that it changes before its operands are read.
-    pub index: Option<IndexChange>,
-    /// The indicators that are turned on and off with the index word, or the one of a fault.
-    pub ind: Ind,
-    /// Whether a check failed, so that nothing but the indicator in `ind` and the counter changes.
-    pub suppressed: bool,
     /// The operand words that it reads, in order.
     pub reads: Words,
     /// The words that it writes, in order.
     pub writes: Words,
+    /// The index word that it changes before its operands are read.
+    pub index: Option<IndexChange>,
+    /// The indicators that are turned on and off with the index word, or the one of a fault.
+    pub ind: Ind,
     /// What an index store writes: the whole index word, or the number of the part that is stored. What SIC stores:
     /// the half-word address of the following instruction. Else 0.
     pub value: u64,
+    /// Whether a check failed, so that nothing but the indicator in `ind` and the counter changes.
+    pub suppressed: bool,
     /// The ticks from the arrival of its operands to its completion, 1 to 24.
     pub cost: u8,
     /// Whether it is done alone.

@@ -16,14 +16,14 @@ const AREA: u8 = 8;
 
 /// The instruction that is executed: the target of EX, or else the instruction itself.
 #[tactic(auto, unfolding(crate::specs::Checks::executed))]
-pub fn executed(fetched: &Fetched) -> Instr
+pub fn executed(fetched: &Fetched) -> &Instr
     requires { IsFetched fetched.now }
-    ensures value { result ≡ executed_of fetched.now }
-    ensures shape { HasFields result }
+    ensures value { result.now ≡ executed_of fetched.now }
+    ensures shape { HasFields result.now }
 {
-    match fetched.target {
-        Some(target) => target.instr,
-        None => fetched.instr.instr,
+    match &fetched.target {
+        Some(target) => &target.instr,
+        None => &fetched.instr.instr,
     }
 }
 

@@ -9,6 +9,7 @@ mod faults;
 mod fetching;
 mod laws;
 mod outcome;
+mod overlap_laws;
 mod preparation;
 mod runs;
 
@@ -20,6 +21,7 @@ pub use laws::{
     instruction_words_come_one_by_one, looks_agree, plans_are_in_range,
     plans_depend_on_what_is_read,
 };
+pub use overlap_laws::{operands_are_few, orders_are_not_seen};
 pub use preparation::{look, plan, plan_in, prepare, prepare_in, side_word};
 pub use runs::reads_field;
 

@@ -35,14 +35,14 @@ fn aimed(place: &Place, fetched: &Fetched, x: &[u64; 16]) -> Aim
     ensures ranges { IsAim result }
 {
     let instr = executed(fetched);
-    let e = effective_address(&instr, x);
+    let e = effective_address(instr, x);
     Aim {
-        instr,
+        instr: *instr,
         e,
         halves: fetched.instr.halves,
-        side: side(&instr, x, e),
-        reads: reads(&instr, e),
-        writes: writes(&instr, e),
+        side: side(instr, x, e),
+        reads: reads(instr, e),
+        writes: writes(instr, e),
         fault: fetched.fault,
         alone: is_alone(place, fetched),
     }

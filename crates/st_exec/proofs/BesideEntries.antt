@@ -1,0 +1,185 @@
+-- The guess of an entry that is not done alone passes the orders over.
+use Rattle.std.proofs.Common.{◌≡◌, ℕ, Bool, true, false, if◌then◌else◌, Option, None, Some, refl, sym, ◌∙◌, ap, subst, get_or-set_other}
+use Rattle.std.proofs.lemmas.List.{length-set}
+use Rattle.st_format.specs.declared.instruction.Instr.{Instr}
+use Rattle.st_format.specs.declared.instruction.Instr.TheVariants.{Half, Branch, Floating, Vfl, Connect, Move, BitBranch, IndBranch, StoreCounter, Transfer, Invalid}
+use Rattle.st_state.specs.Machine.{Machine, IsMachine, with_word}
+use Rattle.st_state.specs.Interrupts.{applied, signalled}
+use Rattle.st_state.specs.declared.devices.Order.{Order}
+use Rattle.st_prep.specs.Alike.{AreAlike}
+use Rattle.st_prep.specs.BesideOrders.{AreAlikeBesideOrders}
+use Rattle.st_prep.specs.declared.entries.IndexChange.{IndexChange}
+use Rattle.st_prep.specs.declared.entries.Prepared.{Prepared}
+use Rattle.st_prep.specs.Entry.{acts_alone}
+use Rattle.st_prep.specs.Ranges.{IsPrepared}
+use Rattle.st_prep.proofs.BesideLemmas.{with_orders, alike-orders}
+use Rattle.st_exec.specs.Outcome.{operated, connects, with_accumulator, with_register, with_registers, with_field, settled}
+use Rattle.st_exec.specs.declared.outcomes.Outcome.{Outcome}
+use Rattle.st_exec.specs.Deed.{deed_of, deed, done}
+use Rattle.st_exec.specs.declared.deeds.Deed.{Deed}
+use Rattle.st_exec.specs.declared.deeds.Deed.TheVariants.{Rest, Put, Copy, Exchange, TurnOff, Enable, Wait, Give, Settle}
+use Rattle.st_exec.specs.Completion.{with_change, early, counter, counted, guessed}
+use Rattle.st_exec.specs.Run.{read_in, printed_out}
+use Rattle.st_exec.proofs.SparedLemmas.{IsQuiet, quiet-deed}
+use Rattle.st_exec.proofs.AheadLemmas.{late}
+use Rattle.st_exec.proofs.AlikeDeeds.{guessed-late, guessed-alike}
+
+-- ---- what is done to a state with other orders
+
+change-orders : (r q : Option Order) (c : Option IndexChange) (s : Machine)
+    → with_change c (with_orders r q s) ≡ with_orders r q (with_change c s)
+change-orders r q None s = refl
+change-orders r q (Some c) s = refl
+
+early-orders : (r q : Option Order) (p : Prepared) (s : Machine)
+    → early p (with_orders r q s) ≡ with_orders r q (early p s)
+unfolding early
+early-orders r q p s = ap (applied p.ind) (change-orders r q p.index s)
+
+register-orders : (r q : Option Order) (w : ℕ) (x : Option ℕ) (t : Machine)
+    → with_register w x (with_orders r q t) ≡ with_orders r q (with_register w x t)
+register-orders r q w None t = refl
+register-orders r q w (Some x) t = refl
+
+field-orders : (r q : Option Order) (f : Option ℕ) (a n : ℕ) (t : Machine)
+    → with_field f a n (with_orders r q t) ≡ with_orders r q (with_field f a n t)
+field-orders r q None a n t = refl
+field-orders r q (Some x) a n t = refl
+
+registers-orders : (r q : Option Order) (o : Outcome) (t : Machine)
+    → with_registers o (with_orders r q t) ≡ with_orders r q (with_registers o t)
+unfolding with_registers
+registers-orders r q o t =
+    let a = with_accumulator o.done.acc t in
+    let rm = with_register 13 o.done.rm a in
+    let ft = with_register 14 o.done.ft rm in
+    ap (λ u. with_register 7 o.counts (with_register 15 o.done.tr (with_register 14 o.done.ft u)))
+    (register-orders r q 13 o.done.rm a)
+    ∙ ap (λ u. with_register 7 o.counts (with_register 15 o.done.tr u)) (register-orders r q 14 o.done.ft rm)
+    ∙ ap (with_register 7 o.counts) (register-orders r q 15 o.done.tr ft)
+    ∙ register-orders r q 7 o.counts (with_register 15 o.done.tr ft)
+
+settled-orders : (r q : Option Order) (o : Outcome) (a n : ℕ) (t : Machine)
+    → settled o a n (with_orders r q t) ≡ with_orders r q (settled o a n t)
+unfolding settled
+settled-orders r q o a n t =
+    ap (λ u. with_field o.done.field a n (applied o.done.ind u)) (registers-orders r q o t)
+    ∙ field-orders r q o.done.field a n (applied o.done.ind (with_registers o t))
+
+done-orders : (r q : Option Order) (d : Deed) (t : Machine) → IsQuiet d
+    → done d (with_orders r q t) ≡ with_orders r q (done d t)
+unfolding done
+done-orders r q Rest t k = refl
+done-orders r q (Put a n v) t k = refl
+done-orders r q (Copy from to n) t k = absurd k
+done-orders r q (Exchange from to n) t k = absurd k
+done-orders r q (TurnOff i) t k = refl
+done-orders r q (Enable enabled) t k = absurd k
+done-orders r q Wait t k = absurd k
+done-orders r q (Give write order) t k = absurd k
+done-orders r q (Settle o a n) t k = settled-orders r q o a n t
+
+deed-orders : (r q : Option Order) (instr : Instr) (e v : ℕ) (t : Machine)
+    → deed_of instr e v (with_orders r q t) ≡ deed_of instr e v t
+unfolding deed_of operated connects
+deed-orders r q (Half op a j i) e v t = refl
+deed-orders r q (Branch op a i) e v t = refl
+deed-orders r q (Floating n a i) e v t = refl
+deed-orders r q (Vfl op d u n p l b o a i) e v t = refl
+deed-orders r q (Connect kind table p l b o a i) e v t = refl
+deed-orders r q (Move swap a i second n) e v t = refl
+deed-orders r q (BitBranch sense change a i second) e v t = refl
+deed-orders r q (IndBranch sense off a i second) e v t = refl
+deed-orders r q (StoreCounter a i second) e v t = refl
+deed-orders r q (Transfer w a i n) e v t = refl
+deed-orders r q (Invalid first second full) e v t = refl
+
+late-orders : (r q : Option Order) (b : Bool) (p : Prepared) (t : Machine) → p.suppressed ≡ b → IsPrepared p
+    → p.serial ≡ false → late b p (with_orders r q t) ≡ with_orders r q (late b p t)
+late-orders r q true p t e h free = refl
+late-orders r q false p t e h free =
+    let calm : acts_alone p.instr ≡ false = (h.ahead free).operation e in
+    ap (λ d. done d (with_orders r q t)) (deed-orders r q p.instr p.e p.value t)
+    ∙ done-orders r q (deed p t) t (quiet-deed p.instr p.e p.value t calm)
+
+-- ---- the guess
+
+-- whatever the counter is before the guess sets it
+counted-orders : (r q : Option Order) (u : Machine) (c d f : ℕ)
+    → record (counted (with_orders r q u) c) { ic = f } ≡ with_orders r q (record (counted u d) { ic = f })
+counted-orders r q u c d f = refl
+
+guessed-orders : (r q : Option Order) (p : Prepared) (s : Machine) → IsPrepared p → p.serial ≡ false
+    → guessed p (with_orders r q s) ≡ with_orders r q (guessed p s)
+guessed-orders r q p s h free =
+    let u = with_orders r q s in
+    let t = early p s in
+    let c : ℕ = if p.suppressed then p.following else counter p (early p u) in
+    let d : ℕ = if p.suppressed then p.following else counter p t in
+    let same : late p.suppressed p (early p u) ≡ with_orders r q (late p.suppressed p t) =
+    ap (late p.suppressed p) (early-orders r q p s) ∙ late-orders r q p.suppressed p t refl h free in
+    guessed-late p u h free
+    ∙ ap (λ y. record (counted y c) { ic = p.following }) same
+    ∙ counted-orders r q (late p.suppressed p t) c d p.following
+    ∙ ap (with_orders r q) (sym (guessed-late p s h free))
+
+-- states that are alike but for the orders of one of them
+beside-orders : (s t : Machine) (r q : Option Order) → AreAlike s (with_orders r q t) → AreAlikeBesideOrders s t
+beside-orders s t r q h = record {
+  size = h.size;
+  words = h.words;
+  ic = h.ic;
+  enabled = h.enabled;
+  waiting = h.waiting;
+  done = h.done;
+}
+
+pub guessed-beside : (p : Prepared) (s t : Machine) → IsPrepared p → IsMachine s → AreAlikeBesideOrders s t
+    → p.serial ≡ false → AreAlikeBesideOrders (guessed p s) (guessed p t)
+guessed-beside p s t h m k free =
+    let alike = guessed-alike p s (with_orders s.reader s.printer t) h m (alike-orders s t k) free in
+    beside-orders (guessed p s) (guessed p t) s.reader s.printer
+    (subst (AreAlike (guessed p s)) (guessed-orders s.reader s.printer p t h free) alike)
+
+-- ---- which states differ so
+
+pub beside-same : (s : Machine) → AreAlikeBesideOrders s s
+beside-same s = record {
+  size = refl;
+  words = λ w other. refl;
+  ic = refl;
+  enabled = refl;
+  waiting = refl;
+  done = refl;
+}
+
+pub beside-then : (s t u : Machine) → AreAlikeBesideOrders s t → AreAlikeBesideOrders t u → AreAlikeBesideOrders s u
+beside-then s t u h k = record {
+  size = k.size ∙ h.size;
+  words = λ w other. k.words w other ∙ h.words w other;
+  ic = k.ic ∙ h.ic;
+  enabled = k.enabled ∙ h.enabled;
+  waiting = k.waiting ∙ h.waiting;
+  done = k.done ∙ h.done;
+}
+
+-- whatever the indicators and the orders become
+beside-indicators : (r q : Option Order) (x : ℕ) (s : Machine)
+    → AreAlikeBesideOrders s (with_word (with_orders r q s) 11 x)
+beside-indicators r q x s = record {
+  size = length-set s.words 11 x;
+  words = λ w other. get_or-set_other s.words 11 w x 0 other;
+  ic = refl;
+  enabled = refl;
+  waiting = refl;
+  done = refl;
+}
+
+pub beside-signalled : (s : Machine) (i : ℕ) → AreAlikeBesideOrders s (signalled s i)
+beside-signalled s i = beside-indicators s.reader s.printer _ s
+
+pub beside-printed : (s : Machine) → AreAlikeBesideOrders s (printed_out s)
+beside-printed s = beside-indicators s.reader None _ s
+
+pub beside-no_card : (s : Machine) (w : ℕ) → AreAlikeBesideOrders s (read_in s w None)
+beside-no_card s w = beside-indicators None s.printer _ s

@@ -1,0 +1,267 @@
+-- What an entry leaves as it was, also where it is done alone: words that it does not write, and the guess.
+use Rattle.std.proofs.Common.{◌≡◌, ◌≢◌, ℕ, zero, suc, ◌+◌, ◌*◌, ◌/◌, ◌^◌, ◌<◌, ◌≤◌, ◌⊎◌, inl, inr, Bool, true, false, ◌==◌, if◌then◌else◌, Option, None, Some, length, refl, sym, ◌∙◌, ap, subst, arith, get_or-set_other}
+use Rattle.std.specs.Prelude.{IfSome, is_some}
+use Rattle.std.proofs.lemmas.Bool.Decides.{nat_tests}
+use Rattle.st_bits.specs.Storage.{words_of_storage, words_of_storage_is}
+use Rattle.st_bits.specs.declared.operations.BranchOp.{BranchOp}
+use Rattle.st_bits.specs.declared.operations.BranchOp.TheVariants.{Be, Bd, Bew}
+use Rattle.st_format.specs.declared.instruction.Instr.{Instr}
+use Rattle.st_format.specs.declared.instruction.Instr.TheVariants.{Half, Branch, Floating, Vfl, Connect, Move, BitBranch, IndBranch, StoreCounter, Transfer, Invalid}
+use Rattle.st_state.specs.Machine.{Machine, IsMachine, word, stored}
+use Rattle.st_state.specs.declared.devices.Order.{Order}
+use Rattle.st_state.proofs.Placed.{fixed-word}
+use Rattle.st_prep.specs.declared.entries.Prepared.{Prepared}
+use Rattle.st_prep.specs.EarlyChange.{words_after}
+use Rattle.st_prep.specs.Entry.{no_words, one_run, words_written, writes, acts_alone}
+use Rattle.st_prep.specs.Fetch.{index_words}
+use Rattle.st_prep.specs.Plan.{opened}
+use Rattle.st_prep.specs.Ranges.{HasFields, AreInside, IsPrepared}
+use Rattle.st_prep.proofs.Choices.{of_choice}
+use Rattle.st_prep.proofs.IndexWords.{are_index_words}
+use Rattle.st_prep.proofs.PlanLemmas.{is_machine-opened}
+use Rattle.st_exec.specs.Deed.{copied, exchanged, order_of, with_order, given, branch_deed, bit_deed, move_deed, deed_of, deed, done}
+use Rattle.st_exec.specs.Completion.{early, counter, counted, finished, completed, guessed}
+use Rattle.st_exec.specs.Ahead.{IsNotAmong, IsPast}
+use Rattle.st_exec.specs.declared.deeds.Deed.{Deed}
+use Rattle.st_exec.specs.declared.deeds.Deed.TheVariants.{Rest, Put, Copy, Exchange, TurnOff, Enable, Wait, Give, Settle}
+use Rattle.st_exec.proofs.AheadLemmas.{early-marks, early-index, index-at, length-index_words, length-words_after, completed-past}
+use Rattle.st_exec.proofs.MachineKept.{kept-early, kept-completed}
+use Rattle.st_exec.proofs.SparedLemmas.{IsApart, Spares, apart-word, spares-deed, kept-above, Stands, done-keeps}
+use Rattle.st_exec.proofs.Unchanged.{stored-other, opened-above, early-above, completed-done}
+
+-- ---- words that a deed does not write
+
+-- word i is none of the n words from word w on
+abbrev pub IsBeside : ℕ → ℕ → ℕ → Type 0
+IsBeside i w n = (i < w) ⊎ (w + n ≤ i)
+
+beside-rest : (i w n : ℕ) → IsBeside i w (suc n) → IsBeside i (w + 1) n
+beside-rest i w n (inl before) = inl (omega arith)
+beside-rest i w n (inr after) = inr (omega arith)
+
+beside-first : (i w n : ℕ) → IsBeside i w (suc n) → i ≢ w
+beside-first i w n (inl before) e = omega arith
+beside-first i w n (inr after) e = omega arith
+
+copied-other : (from to n : ℕ) (t : Machine) (i : ℕ) → IsBeside i to n → word (copied from to n t) i ≡ word t i
+unfolding copied
+copied-other from to zero t i h = refl
+copied-other from to (suc n) t i h =
+    copied-other (from + 1) (to + 1) n (stored t to (word t from)) i (beside-rest i to n h)
+    ∙ stored-other t to (word t from) i (beside-first i to n h)
+
+exchanged-other : (from to n : ℕ) (t : Machine) (i : ℕ) → IsBeside i from n → IsBeside i to n
+    → word (exchanged from to n t) i ≡ word t i
+unfolding exchanged
+exchanged-other from to zero t i h k = refl
+exchanged-other from to (suc n) t i h k =
+    let u = stored t from (word t to) in
+    exchanged-other (from + 1) (to + 1) n (stored u to (word t from)) i (beside-rest i from n h) (beside-rest i to n k)
+    ∙ stored-other u to (word t from) i (beside-first i to n k)
+    ∙ stored-other t from (word t to) i (beside-first i from n h)
+
+with_order-other : (write : Bool) (order : Order) (t : Machine) (i : ℕ) → word (with_order write order t) i ≡ word t i
+with_order-other false order t i = refl
+with_order-other true order t i = refl
+
+given-other : (write : Bool) (order : Order) (t : Machine) (i : ℕ) → i ≢ 11 → word (given write order t) i ≡ word t i
+given-other write order t i other =
+    of_choice (λ (u : Machine). word u i ≡ word t i) (is_some (order_of write t)) _ _
+    (get_or-set_other t.words 11 i _ 0 other) (with_order-other write order t i)
+
+-- a deed that leaves word i, which is no register
+abbrev pub SparesAbove : Deed → ℕ → Type 0
+SparesAbove Rest i = Unit {0}
+SparesAbove (Put a n v) i = IsApart a n i
+SparesAbove (Copy from to n) i = IsBeside i to n
+SparesAbove (Exchange from to n) i = IsBeside i from n × IsBeside i to n
+SparesAbove (TurnOff k) i = Unit {0}
+SparesAbove (Enable enabled) i = Unit {0}
+SparesAbove Wait i = Unit {0}
+SparesAbove (Give write order) i = Unit {0}
+SparesAbove (Settle o a n) i = IfSome o.done.field (λ _. IsApart a n i)
+
+spared : (d : Deed) (i : ℕ) → Spares d i → SparesAbove d i
+spared Rest i h = tt
+spared (Put a n v) i h = h
+spared (Copy from to n) i h = absurd h
+spared (Exchange from to n) i h = absurd h
+spared (TurnOff k) i h = tt
+spared (Enable enabled) i h = tt
+spared Wait i h = tt
+spared (Give write order) i h = tt
+spared (Settle o a n) i h = h
+
+done-above : (d : Deed) (t : Machine) (i x : ℕ) → length t.words ≡ words_of_storage → 32 ≤ i → SparesAbove d i
+    → Stands t i x → word (done d t) i ≡ x
+unfolding done
+done-above Rest t i x size above k h = h.is
+done-above (Put a n v) t i x size above k h = done-keeps (Put a n v) t i x size (kept-above i (omega arith)) k h
+done-above (Copy from to n) t i x size above k h = copied-other from to n t i k ∙ h.is
+done-above (Exchange from to n) t i x size above k h = exchanged-other from to n t i k.0 k.1 ∙ h.is
+done-above (TurnOff j) t i x size above k h = get_or-set_other t.words 11 i _ 0 (omega arith) ∙ h.is
+done-above (Enable enabled) t i x size above k h = h.is
+done-above Wait t i x size above k h = h.is
+done-above (Give write order) t i x size above k h = given-other write order t i (omega arith) ∙ h.is
+done-above (Settle o a n) t i x size above k h = done-keeps (Settle o a n) t i x size (kept-above i (omega arith)) k h
+
+-- ---- the deed of each operation
+
+above-branch : (op : BranchOp) (i : ℕ) → SparesAbove (branch_deed op) i
+above-branch Be i = tt
+above-branch Bd i = tt
+above-branch Bew i = tt
+above-branch _ i = tt
+
+above-move : (swap : Bool) (from to n i : ℕ) → IsNotAmong i (words_written swap from to n)
+    → SparesAbove (move_deed swap from to n) i
+above-move false from to n i k = k.first
+above-move true from to n i k = (k.first, k.second)
+
+some_more : (n : ℕ) → (suc (suc (suc n)) == 0) ≡ false
+some_more n = grind (arith, nat_tests)
+
+above-bit : (change e b i : ℕ) → AreInside (if change == 0 then no_words else one_run (e / 64) 1)
+    → IsNotAmong i (if change == 0 then no_words else one_run (e / 64) 1) → SparesAbove (bit_deed change e b) i
+above-bit zero e b i h k = tt
+above-bit (suc zero) e b i h k = apart-word (e / 64) e 1 i h (omega arith) (omega arith) k
+above-bit (suc (suc zero)) e b i h k = apart-word (e / 64) e 1 i h (omega arith) (omega arith) k
+above-bit (suc (suc (suc n))) e b i h k =
+    apart-word (e / 64) e 1 i (rw (some_more n) at h) (omega arith) (omega arith) (rw (some_more n) at k)
+
+above-deed : (instr : Instr) (e v : ℕ) (t : Machine) (i : ℕ) → HasFields instr → AreInside (writes instr e)
+    → IsNotAmong i (writes instr e) → SparesAbove (deed_of instr e v t) i
+unfolding deed_of writes acts_alone
+above-deed (Half op a j x) e v t i fields h k = spared _ i (spares-deed (Half op a j x) e v t i fields refl h k)
+above-deed (Branch op a x) e v t i fields h k = above-branch op i
+above-deed (Floating n a x) e v t i fields h k = tt
+above-deed (Vfl op d u n p l b o a x) e v t i fields h k =
+    spares-deed (Vfl op d u n p l b o a x) e v t i fields refl h k
+above-deed (Connect kind table p l b o a x) e v t i fields h k =
+    spares-deed (Connect kind table p l b o a x) e v t i fields refl h k
+above-deed (Move swap a x second n) e v t i fields h k = above-move swap (e / 64) (second / 2) n i k
+above-deed (BitBranch sense change a x second) e v t i fields h k = above-bit change e _ i h k
+above-deed (IndBranch sense off a x second) e v t i fields h k =
+    spared _ i (spares-deed (IndBranch sense off a x second) e v t i fields refl h k)
+above-deed (StoreCounter a x second) e v t i fields h k =
+    apart-word (e / 64) (32 * (e / 32)) 19 i h (omega arith) (omega arith) k
+above-deed (Transfer w a x n) e v t i fields h k = tt
+above-deed (Invalid first second full) e v t i fields h k = tt
+
+-- ---- entries
+
+finished-unwritten : (b : Bool) (p : Prepared) (t : Machine) (i x : ℕ) → p.suppressed ≡ b → IsPrepared p
+    → length t.words ≡ words_of_storage → 32 ≤ i → IsNotAmong i p.writes → Stands t i x
+    → word (if b then counted t p.following else counted (done (deed p t) t) (counter p t)) i ≡ x
+finished-unwritten true p t i x e h size above k stands = stands.is
+finished-unwritten false p t i x e h size above k stands =
+    let entry = h.entry e in
+    done-above (deed p t) t i x size above
+    (above-deed p.instr p.e p.value t i h.shape (rw entry.writes at h.writes_inside) (rw entry.writes at k))
+    stands
+
+pub completed-unwritten : (p : Prepared) (s : Machine) (w : ℕ) → IsPrepared p → IsMachine s → 32 ≤ w
+    → IsNotAmong w p.writes → word (completed p s) w ≡ word s w
+unfolding completed finished
+completed-unwritten p s w h m above k =
+    let u = opened p.place.table s in
+    let t = early p u in
+    let size : length t.words ≡ words_of_storage =
+    (kept-early p u (is_machine-opened p.place.table s m) h.change).size in
+    finished-unwritten p.suppressed p t w (word s w) refl h size above k
+    (record {
+      is = early-above p u w h.change above ∙ opened-above p.place.table s w above;
+      below = m.below w;
+      fits = fixed-word s w m;
+    })
+
+-- ---- index words after the early change
+
+opened-other : (table : Option ℕ) (s : Machine) (i : ℕ) → i ≢ 11 → word (opened table s) i ≡ word s i
+opened-other None s i other = refl
+opened-other (Some k) s i other = get_or-set_other s.words 11 i _ 0 other
+
+pub early-index_words : (p : Prepared) (s : Machine) (table : Option ℕ) → IsPrepared p → IsMachine s
+    → index_words (early p (opened table s)) ≡ words_after (index_words s) p.index
+early-index_words p s table h m =
+    let u = opened table s in
+    let x = index_words u in
+    let n = is_machine-opened table s m in
+    let long : 32 ≤ length s.words = omega (arith, m.size, words_of_storage_is) in
+    let long' : 32 ≤ length u.words = omega (arith, n.size, words_of_storage_is) in
+    let size : length (early p u).words ≡ length u.words = (early-marks p u).size in
+    let same : index_words s ≡ x =
+    are_index_words u (index_words s) long' (length-index_words s long)
+    (λ k few. index-at s k few ∙ sym (opened-other table s (16 + k) (omega arith))) in
+    let after : words_after x p.index ≡ index_words (early p u) =
+    are_index_words (early p u) (words_after x p.index) (omega arith)
+    (length-words_after x p.index ∙ length-index_words u long')
+    (λ k few. sym (early-index p u k long' few h.change)) in
+    sym after ∙ ap (λ y. words_after y p.index) (sym same)
+
+-- ---- the guess
+
+kept-counter : (s : Machine) (c : ℕ) → IsMachine s → c < 2 ^ 19 → IsMachine (record s { ic = c })
+kept-counter s c m h = record {
+  size = m.size;
+  counter = h;
+  below = m.below;
+  registers = m.registers;
+  reader_area = m.reader_area;
+  printer_area = m.printer_area;
+}
+
+guessed-rest_by : (b : Bool) (u : Machine) (c : ℕ)
+    → (if b then u else record u { ic = c }) ≡ record u { ic = (if b then u else record u { ic = c }).ic }
+guessed-rest_by true u c = refl
+guessed-rest_by false u c = refl
+
+-- it is the entry itself, but for the counter
+pub guessed-rest : (p : Prepared) (s : Machine) → guessed p s ≡ record (completed p s) { ic = (guessed p s).ic }
+unfolding guessed
+guessed-rest p s = guessed-rest_by p.serial (completed p s) p.following
+
+pub guessed-machine : (p : Prepared) (s : Machine) → IsPrepared p → IsMachine s → IsMachine (guessed p s)
+unfolding guessed
+guessed-machine p s h m =
+    let after = kept-completed p s h m in
+    of_choice IsMachine p.serial (completed p s) (record (completed p s) { ic = p.following }) after
+    (kept-counter (completed p s) p.following after h.following)
+
+pub guessed-alone : (p : Prepared) (s : Machine) → p.serial ≡ true → guessed p s ≡ completed p s
+unfolding guessed
+guessed-alone p s e = ap (λ b. if b then completed p s else record (completed p s) { ic = p.following }) e
+
+pub guessed-following : (p : Prepared) (s : Machine) → p.serial ≡ false → (guessed p s).ic ≡ p.following
+unfolding guessed
+guessed-following p s e =
+    ap (λ b. (if b then completed p s else record (completed p s) { ic = p.following }).ic) e
+
+pub guessed-done : (p : Prepared) (s : Machine) → (guessed p s).done ≡ s.done + 1
+guessed-done p s = ap (λ (u : Machine). u.done) (guessed-rest p s) ∙ completed-done p s
+
+pub guessed-unwritten : (p : Prepared) (s : Machine) (w : ℕ) → IsPrepared p → IsMachine s → 32 ≤ w
+    → IsNotAmong w p.writes → word (guessed p s) w ≡ word s w
+guessed-unwritten p s w h m above k =
+    ap (λ (u : Machine). word u w) (guessed-rest p s) ∙ completed-unwritten p s w h m above k
+
+past-counter : (p : Prepared) (s u : Machine) (c : ℕ) → IsPast p s u → IsPast p s (record u { ic = c })
+unfolding index_words
+past-counter p s u c h = record {
+  size = h.size;
+  index = h.index;
+  storage = h.storage;
+  low = h.low;
+  mask = h.mask;
+  enabled = h.enabled;
+  waiting = h.waiting;
+  reader = h.reader;
+  printer = h.printer;
+  done = h.done;
+}
+
+pub guessed-past : (p : Prepared) (s : Machine) → IsPrepared p → IsMachine s → p.serial ≡ false
+    → IsPast p s (guessed p s)
+guessed-past p s h m free =
+    subst (IsPast p s) (sym (guessed-rest p s))
+    (past-counter p s (completed p s) (guessed p s).ic (completed-past p s h m free))

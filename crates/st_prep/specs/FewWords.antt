@@ -1,0 +1,15 @@
+-- Words in one short run, and the instructions that name more.
+use Rattle.std.specs.Prelude.{◌≡◌, ◌≤◌, Bool, true, false}
+use Rattle.st_format.specs.declared.instruction.Instr.{Instr}
+use Rattle.st_format.specs.declared.instruction.Instr.TheVariants.{Move}
+use Rattle.st_prep.specs.declared.entries.Words.{Words}
+
+-- T and SWAP
+abbrev pub is_transmission : Instr → Bool
+is_transmission (Move swap address i second count) = true
+is_transmission _ = false
+
+-- at most two words, in one run
+pub record AreFew (w : Words) : Type 0 where
+  pub few : w.len ≤ 2
+  pub one_run : w.len2 ≡ 0
