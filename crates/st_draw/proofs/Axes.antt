@@ -1,6 +1,6 @@
 -- The steps and marks of an axis by the turns that are left.
 use Rattle.std.proofs.Common.{◌≡◌, ℕ, suc, zero, ◌+◌, ◌-◌, ◌*◌, ◌^◌, ◌≤◌, ◌<◌, [], ◌∷◌, List, refl, arith}
-use Rattle.st_draw.specs.Axis.{lowest, first_tick, step_from, marks_from}
+use Rattle.st_draw.specs.Axis.{lowest, step_from, marks_from}
 use Rattle.st_draw.specs.declared.timetable.Entry.{Entry}
 
 -- no first tick is past the largest number

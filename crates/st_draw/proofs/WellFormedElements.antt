@@ -1,10 +1,9 @@
 -- Texts that stay in their elements, and elements that are closed.
-use Rattle.std.proofs.Common.{◌≡◌, inl, inr, ◌<◌, ◌≤◌, ◌∙◌, ℕ, ◌==◌, ◌&&◌, nat_le, Bool, true, false, List, [], ◌∷◌, ◌++◌, if◌then◌else◌, codes, refl, ap, arith, append_assoc}
-use Rattle.std.specs.List.{list_all}
+use Rattle.std.proofs.Common.{◌≡◌, inl, inr, ℕ, ◌==◌, ◌&&◌, nat_le, Bool, true, false, List, [], ◌∷◌, ◌++◌, codes, refl, arith, append_assoc}
 use Rattle.std.proofs.lemmas.List.Folds.{list_all-append}
-use Rattle.st_draw.specs.Element.{Element, Box, Line, Text, element_text, front, corner, size, ends, content, attribute}
+use Rattle.st_draw.specs.Element.{Element, Box, Line, Text, element_text, front, corner, size, ends, content}
 use Rattle.st_draw.specs.Escape.{escaped, escaped_byte}
-use Rattle.st_draw.specs.WellFormed.{is_inner, are_inner, IsEmpty, IsFull, IsClosed}
+use Rattle.st_draw.specs.WellFormed.{is_inner, are_inner, IsClosed}
 
 -- a byte as it stands in a picture, by the tests on it
 byte_inner : (c : ℕ) (less more also printable : Bool) → (c == 60) ≡ less → (c == 62) ≡ more → (c == 38) ≡ also

@@ -7,7 +7,11 @@ use Rattle.st_draw.specs.declared.timetable.Entry.TheVariants.{Done, Dropped, Ta
 
 -- the names of the indicators 0 to 63, each in four places
 unfoldable pub indicator_names : List ℕ
-indicator_names = codes "MK  IK  IJ  EK  TS  CPUSEKJ UNRJCBJ EPGKUK  EE  EOP CS      OP  AD  USA EXE DS  DF  IF  LC  PF  ZD                                          TF  UF  VF  XF  BTR DTR PG0 PG1 PG2 PG3 PG4 PG5 PG6 XCZ XVLZXVZ XVGZXL  XE  XH  MOP RLZ RZ  RGZ RN  AL  AE  AH      "
+indicator_names =
+    codes "MK  IK  IJ  EK  TS  CPUSEKJ UNRJCBJ EPGKUK  EE  EOP CS      OP  "
+    ++ codes "AD  USA EXE DS  DF  IF  LC  PF  ZD                                          "
+    ++ codes "TF  UF  VF  XF  BTR DTR PG0 PG1 PG2 PG3 PG4 PG5 PG6 XCZ XVLZXVZ "
+    ++ codes "XVGZXL  XE  XH  MOP RLZ RZ  RGZ RN  AL  AE  AH      "
 
 -- the name of an indicator; blanks where it has none, and nothing past the last
 unfoldable pub indicator : ℕ → List ℕ

@@ -4,7 +4,6 @@ use Rattle.st_draw.specs.Axis.{axis, at, marks}
 use Rattle.st_draw.specs.Caption.{first_text, second_text, third_text}
 use Rattle.st_draw.specs.Element.{Element, Box, Line, Text, elements_text}
 use Rattle.st_draw.specs.Label.{has_listing}
-use Rattle.st_draw.specs.declared.axis.Axis.{Axis}
 use Rattle.st_draw.specs.declared.axis.Room.{Room}
 use Rattle.st_draw.specs.declared.drawing.Sheet.{Sheet}
 use Rattle.st_draw.specs.declared.timetable.Entry.{Entry}
@@ -130,7 +129,13 @@ drawing report entries shown later = drawing_on (sheet report entries) report en
 
 -- what the classes of elements look like, and the hatch of what is dropped
 unfoldable pub styles : List ℕ
-styles = codes "\">\n<defs><pattern id=\"h\" width=\"5\" height=\"5\" patternUnits=\"userSpaceOnUse\" patternTransform=\"rotate(45)\"><rect width=\"5\" height=\"5\" fill=\"#fff\"/><rect width=\"2\" height=\"5\" fill=\"#8a3b12\"/></pattern></defs>\n<style>text{font:11px monospace;fill:#111}.n{text-anchor:end}.m{text-anchor:middle;fill:#555}.p{fill:#fff}.g{stroke:#ddd}.w{fill:#bcd7f0;stroke:#335c85}.e{fill:#1d3f66;stroke:#1d3f66}.d{fill:url(#h);stroke:#8a3b12}.i{stroke:#b3261e;stroke-width:2}.s{stroke:#2e7d32;stroke-dasharray:2 3}</style>\n"
+styles =
+    codes "\">\n<defs><pattern id=\"h\" width=\"5\" height=\"5\" patternUnits=\"userSpaceOnUse\" patternTransform=\"rotate(45)\">"
+    ++ codes "<rect width=\"5\" height=\"5\" fill=\"#fff\"/><rect width=\"2\" height=\"5\" fill=\"#8a3b12\"/></pattern></defs>\n"
+    ++ codes "<style>text{font:11px monospace;fill:#111}.n{text-anchor:end}.m{text-anchor:middle;fill:#555}"
+    ++ codes ".p{fill:#fff}.g{stroke:#ddd}.w{fill:#bcd7f0;stroke:#335c85}.e{fill:#1d3f66;stroke:#1d3f66}"
+    ++ codes ".d{fill:url(#h);stroke:#8a3b12}"
+    ++ codes ".i{stroke:#b3261e;stroke-width:2}.s{stroke:#2e7d32;stroke-dasharray:2 3}</style>\n"
 
 -- the words before the height of a picture
 unfoldable pub preamble : List ℕ

@@ -1,5 +1,5 @@
 -- The text of a card, from the listing at the front of a report.
-use Rattle.std.specs.Prelude.{ℕ, ◌==◌, ◌&&◌, not, Bool, true, false, if◌then◌else◌, List, [], ◌∷◌, take, drop, Option, None, Some}
+use Rattle.std.specs.Prelude.{ℕ, ◌==◌, ◌&&◌, not, Bool, false, if◌then◌else◌, List, [], ◌∷◌, take, drop, Option, None, Some}
 use Rattle.std.specs.Option.{is_some}
 use Rattle.st_card.specs.Pieces.{parted}
 use Rattle.st_draw.specs.Report.{number, place}

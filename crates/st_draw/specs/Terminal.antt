@@ -4,7 +4,6 @@ use Rattle.st_draw.specs.Axis.{axis, at, marks}
 use Rattle.st_draw.specs.Caption.{first_text, second_text, third_text}
 use Rattle.st_draw.specs.Drawing.{remark}
 use Rattle.st_draw.specs.declared.axis.Axis.{Axis}
-use Rattle.st_draw.specs.declared.axis.Room.{Room}
 use Rattle.st_draw.specs.declared.timetable.Entry.{Entry}
 use Rattle.st_draw.specs.declared.timetable.Entry.TheVariants.{Done, Dropped, Taken, Shown}
 

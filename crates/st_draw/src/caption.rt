@@ -1,5 +1,5 @@
 //! What stands in front of an entry's bar: three short texts.
-ghost use Rattle.std.specs.Prelude.{◌≡◌, ◌++◌, IfOk, decimal};
+ghost use Rattle.std.specs.Prelude.{◌≡◌, IfOk, decimal};
 ghost use Rattle.st_draw.specs.Caption as spec;
 
 use crate::element::push_decimal;
@@ -10,7 +10,10 @@ use std::alloc::{AllocError, Global};
 
 /// The names of the indicators 0 to 63, each in four places.
 const INDICATOR_NAMES: &[u8; 256] =
-    b"MK  IK  IJ  EK  TS  CPUSEKJ UNRJCBJ EPGKUK  EE  EOP CS      OP  AD  USA EXE DS  DF  IF  LC  PF  ZD                                          TF  UF  VF  XF  BTR DTR PG0 PG1 PG2 PG3 PG4 PG5 PG6 XCZ XVLZXVZ XVGZXL  XE  XH  MOP RLZ RZ  RGZ RN  AL  AE  AH      ";
+    b"MK  IK  IJ  EK  TS  CPUSEKJ UNRJCBJ EPGKUK  EE  EOP CS      OP  \
+    AD  USA EXE DS  DF  IF  LC  PF  ZD                                          \
+    TF  UF  VF  XF  BTR DTR PG0 PG1 PG2 PG3 PG4 PG5 PG6 XCZ XVLZXVZ \
+    XVGZXL  XE  XH  MOP RLZ RZ  RGZ RN  AL  AE  AH      ";
 
 /// The names of the indicators as one text.
 #[tactic(auto, unfolding(crate::specs::Caption::indicator_names))]

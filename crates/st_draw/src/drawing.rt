@@ -1,9 +1,8 @@
 //! The picture of a timetable.
-ghost use Rattle.std.specs.Prelude.{◌≡◌, ◌+◌, ◌^◌, ◌<◌, ◌≤◌, ◌++◌, IfOk, length, codes, decimal, max, ◌-◌, [], ◌∷◌};
-ghost use Rattle.st_draw.specs.Element.{elements_text, element_text, Box, Line, Text};
+ghost use Rattle.std.specs.Prelude.{◌≡◌, ◌+◌, ◌^◌, ◌<◌, ◌++◌, IfOk, codes, decimal, max, ◌-◌};
+ghost use Rattle.st_draw.specs.Element.{elements_text, element_text, Line, Text};
 ghost use Rattle.st_draw.specs.Drawing as spec;
-ghost use Rattle.st_draw.specs.Axis.{marks};
-ghost use Rattle.st_draw.specs.Drawing.{IsSheet, grid};
+ghost use Rattle.st_draw.specs.Drawing.{IsSheet};
 
 use crate::axis::{Axis, Room, at, axis_of, marks_of};
 use crate::caption::{first_text, second_text, third_text};
@@ -25,7 +24,12 @@ pub struct Sheet {
 
 /// What the classes of elements look like, and the hatch of what is dropped.
 const STYLES: &[u8; 502] =
-    b"\">\n<defs><pattern id=\"h\" width=\"5\" height=\"5\" patternUnits=\"userSpaceOnUse\" patternTransform=\"rotate(45)\"><rect width=\"5\" height=\"5\" fill=\"#fff\"/><rect width=\"2\" height=\"5\" fill=\"#8a3b12\"/></pattern></defs>\n<style>text{font:11px monospace;fill:#111}.n{text-anchor:end}.m{text-anchor:middle;fill:#555}.p{fill:#fff}.g{stroke:#ddd}.w{fill:#bcd7f0;stroke:#335c85}.e{fill:#1d3f66;stroke:#1d3f66}.d{fill:url(#h);stroke:#8a3b12}.i{stroke:#b3261e;stroke-width:2}.s{stroke:#2e7d32;stroke-dasharray:2 3}</style>\n";
+    b"\">\n<defs><pattern id=\"h\" width=\"5\" height=\"5\" patternUnits=\"userSpaceOnUse\" patternTransform=\"rotate(45)\">\
+    <rect width=\"5\" height=\"5\" fill=\"#fff\"/><rect width=\"2\" height=\"5\" fill=\"#8a3b12\"/></pattern></defs>\n\
+    <style>text{font:11px monospace;fill:#111}.n{text-anchor:end}.m{text-anchor:middle;fill:#555}\
+    .p{fill:#fff}.g{stroke:#ddd}.w{fill:#bcd7f0;stroke:#335c85}.e{fill:#1d3f66;stroke:#1d3f66}\
+    .d{fill:url(#h);stroke:#8a3b12}\
+    .i{stroke:#b3261e;stroke-width:2}.s{stroke:#2e7d32;stroke-dasharray:2 3}</style>\n";
 
 /// An entry, and the upper edge of its row.
 #[derive(Clone, Copy, Debug)]
@@ -426,7 +430,7 @@ fn push_chart(
 }
 
 /// Appends the legend and the remark under it.
-#[tactic(auto, unfolding(crate::specs::Drawing::foot), using(crate::proofs::Elements::elements_joined, crate::proofs::Elements::elements_one, crate::proofs::Elements::elements_none))]
+#[tactic(auto, unfolding(crate::specs::Drawing::foot), using(crate::proofs::Elements::elements_joined, crate::proofs::Elements::elements_one))]
 fn push_foot(out: &mut Vec<u8>, bottom: u128, remark: &[u8]) -> Result<(), AllocError>
     requires { bottom < 2 ^ 70 }
     ensures { IfOk result (λ _. out.new.items ≡ out.old.items

@@ -1,5 +1,5 @@
 //! The elements of a picture.
-ghost use Rattle.std.specs.Prelude.{◌≡◌, ◌++◌, IfOk, codes, decimal};
+ghost use Rattle.std.specs.Prelude.{◌≡◌, ◌++◌, IfOk, decimal};
 ghost use Rattle.st_draw.specs.Element.{attribute, front, corner, size, ends, content, element_text, Box, Line, Text};
 
 use crate::escape::push_escaped;

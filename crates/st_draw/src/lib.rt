@@ -18,3 +18,6 @@ mod words;
 pub use laws::{elements_are_closed, texts_stay_in_their_elements};
 pub use program::draw;
 pub use status::Status;
+
+#[cfg(test)]
+mod tests;

@@ -1,6 +1,5 @@
 //! What the lines of a report say of its timetable.
-ghost use Rattle.std.specs.Prelude.{◌≡◌, nat_eq, get_or, []};
-ghost use Rattle.std.specs.Cmp.Lexicographic.{pointwise};
+ghost use Rattle.std.specs.Prelude.{◌≡◌};
 ghost use Rattle.st_draw.specs.Report as spec;
 
 use st_card::{Reading, cut, read_number};

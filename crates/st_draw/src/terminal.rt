@@ -1,5 +1,5 @@
 //! The picture of a timetable as lines of text.
-ghost use Rattle.std.specs.Prelude.{◌≡◌, ◌+◌, ◌≤◌, ◌++◌, IfOk, codes, max, ◌-◌};
+ghost use Rattle.std.specs.Prelude.{◌≡◌, ◌+◌, ◌≤◌, ◌++◌, IfOk};
 ghost use Rattle.st_draw.specs.Terminal as spec;
 
 use crate::axis::{Axis, Room, at, axis_of, marks_of};

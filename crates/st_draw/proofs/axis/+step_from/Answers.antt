@@ -1,4 +1,4 @@
-use Rattle.std.proofs.Common.{◌∙◌, sym, arith, ◌≡◌, ◌-◌}
+use Rattle.std.proofs.Common.{◌∙◌, sym, arith}
 use Rattle.st_draw.proofs.Axes.{step_from-none, step_from-one, step_from-two, step_from-five, step_from-ten}
 use Rattle.st_draw.proofs.axis.+step_from.Goals as goal
 

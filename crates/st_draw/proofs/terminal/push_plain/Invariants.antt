@@ -1,5 +1,5 @@
 -- The bytes that are left go behind those that stand.
-use Rattle.std.proofs.Common.{◌≡◌, ◌++◌, length, map}
+use Rattle.std.proofs.Common.{◌≡◌, ◌++◌, length}
 use Rattle.st_draw.specs.Terminal.{plain}
 use Rattle.st_draw.proofs.terminal.push_plain.Given as goal
 
