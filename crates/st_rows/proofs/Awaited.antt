@@ -1,11 +1,14 @@
 -- The writers of all instruction words of an entry are awaited.
-use Rattle.std.proofs.Common.{◌≡◌, ℕ, zero, suc, ◌+◌, ◌<◌, ◌≤◌, max, List, refl, arith}
+use Rattle.std.proofs.Common.{◌≡◌, ℕ, zero, suc, true, false, ◌+◌, ◌<◌, ◌≤◌, max, List, refl, arith}
+use Rattle.std.specs.Prelude.{Bool, if◌then◌else◌}
+use Rattle.st_rows.specs.BusTimes.{after_read, answer_at}
 use Rattle.st_rows.specs.Entries.{latest_done}
-use Rattle.st_rows.specs.Rows.{fetch_word, fetch_words, wanted_from, fetched}
+use Rattle.st_rows.specs.Rows.{fetch_word, fetch_words, wanted_from, fetched, is_forwarded, read_word, read_words, operands_read, tick_p, bus_a, operands}
 use Rattle.st_rows.specs.declared.past.Past.{Past}
 use Rattle.st_rows.specs.declared.entry.Entry.{Entry}
 use Rattle.st_rows.specs.declared.fetching.Fetching.{Fetching}
 use Rattle.st_rows.specs.declared.front.Front.{Front}
+use Rattle.st_rows.specs.declared.reading.Reading.{Reading}
 
 module _ (ds : List ℕ) (past : List Past) (from : ℕ) where
   awaited-later : (s : Fetching) (w n : ℕ) → s.awaited ≤ (fetch_words ds past s from w n).awaited
@@ -34,3 +37,28 @@ module _ (ds : List ℕ) (f : Front) (e : Entry) (i : ℕ) where
   unfolding fetched
   awaited-target inside =
       awaited-each ds f.past (max (wanted_from f) f.c) _ e.target.first e.target.len i (e.target.first + i) inside refl
+
+-- answers only come later
+module _ (ds : List ℕ) (past : List Past) (p : ℕ) where
+  ready-later_if : (late : Bool) (s : Reading) (w : ℕ)
+      → s.answered ≤ (if late then s else record { bus = after_read ds s.bus w p; answered = max s.answered (answer_at ds s.bus w p) }).answered
+  ready-later_if true s w = omega arith
+  ready-later_if false s w = omega arith
+
+  pub ready-later : (s : Reading) (w n : ℕ) → s.answered ≤ (read_words ds past s p w n).answered
+  unfolding read_word read_words
+  ready-later s w zero = omega arith
+  ready-later s w (suc n) =
+      omega (arith, ready-later (read_word ds past s w p) (w + 1) n, ready-later_if (is_forwarded past w p) s w)
+
+-- the operands are there when the entry is prepared, or later
+pub ready-after : (ds : List ℕ) (n : ℕ) (f : Front) (e : Entry) → tick_p ds n f e ≤ (operands ds n f e).answered
+unfolding operands operands_read
+ready-after ds n f e =
+    let p = tick_p ds n f e in
+    let start : Reading = record { bus = bus_a ds f e; answered = p } in
+    omega (
+      arith,
+      ready-later ds f.past p start e.reads.one.first e.reads.one.len,
+      ready-later ds f.past p (read_words ds f.past start p e.reads.one.first e.reads.one.len) e.reads.two.first e.reads.two.len,
+    )

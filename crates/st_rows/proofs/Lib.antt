@@ -1,4 +1,5 @@
 pub mod Awaited
+pub mod Older
 pub mod Served
 pub mod Sooner
 pub mod Stages

@@ -306,7 +306,7 @@ module _ (d : ℕ) (ds : List ℕ) (are : AreEqual d ds) (m n : ℕ) (more : n �
 -- ---- the order of completions, and the words that are written
 
 -- behind the entries that are taken there are none
-take-beyond : (past : List Past) (k j : ℕ) → k ≤ j → (get_or (take k past) j (record { c = 0; writes = no_words })).c ≤ 0
+pub take-beyond : (past : List Past) (k j : ℕ) → k ≤ j → (get_or (take k past) j (record { c = 0; writes = no_words })).c ≤ 0
 take-beyond past zero j low = omega arith
 take-beyond [] (suc k) j low = omega arith
 take-beyond (x ∷ past) (suc k) zero low = let no : ⊥ = omega arith in absurd no
@@ -388,10 +388,10 @@ past-same : (xs : List Past) → AllZip IsPastSooner xs xs
 past-same [] = tt
 past-same (x ∷ xs) = ((omega arith, refl), past-same xs)
 
-abbrev nobody : Past
+abbrev pub nobody : Past
 nobody = record { c = 0; writes = no_words }
 
-none-falls : (k i : ℕ) → (get_or (replicate k nobody) i nobody).c ≤ 0
+pub none-falls : (k i : ℕ) → (get_or (replicate k nobody) i nobody).c ≤ 0
 none-falls zero i = omega arith
 none-falls (suc k) zero = omega arith
 none-falls (suc k) (suc i) = none-falls k i

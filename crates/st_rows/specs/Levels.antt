@@ -1,5 +1,5 @@
 -- When the ticks of one machine are nowhere later than those of another.
-use Rattle.std.specs.Prelude.{ℕ, ◌≡◌, ◌+◌, ◌≤◌, ◌<◌, false, List, [], ◌∷◌, length, get_or, All, IfSome}
+use Rattle.std.specs.Prelude.{ℕ, ◌≡◌, ◌+◌, ◌≤◌, ◌<◌, false, List, [], ◌∷◌, length, get_or, All, IfSome, take}
 use Rattle.std.specs.List.{AllZip}
 use Rattle.st_fetch.specs.declared.fetched.Fetched.{Fetched}
 use Rattle.st_rows.specs.Entries.{is_among, no_words}
@@ -74,3 +74,11 @@ AreCovered past earlier = (w : ℕ) → IsUnwritten earlier w → All (λ entry.
 unfoldable pub rows : List ℕ → ℕ → Front → List Entry → List Row
 rows ds n f [] = []
 rows ds n f (e ∷ es) = row ds n f e ∷ rows ds n (after ds n f e) es
+
+-- the same front with the last n entries alone
+abbrev pub kept : ℕ → Front → Front
+kept n f = record f { past = take n f.past }
+
+-- the entries that lie n or more back were done when the last one was prepared
+abbrev pub AreOlderDone : ℕ → Front → Type 0
+AreOlderDone n f = (j : ℕ) → n ≤ j → (get_or f.past j (record { c = 0; writes = no_words })).c ≤ f.p

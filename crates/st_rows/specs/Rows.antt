@@ -38,7 +38,7 @@ unfoldable pub fetch_words : List ℕ → List Past → Fetching → ℕ → ℕ
 fetch_words ds past s from w zero = s
 fetch_words ds past s from w (suc n) = fetch_words ds past (fetch_word ds past s w from) from (w + 1) n
 
--- behind an entry that is done alone, words are wanted once it is done; before, once it is prepared
+-- behind an entry that is done alone, words are wanted once that is done, else once it is prepared
 abbrev pub wanted_from : Front → ℕ
 wanted_from f = if f.serial then max f.p f.c else f.p
 

@@ -1,6 +1,7 @@
 ghost use Rattle.std.specs.Prelude.{◌≡◌, ◌+◌, ◌*◌, ◌-◌, ◌<◌, ◌≤◌, ◌^◌, max, All};
 ghost use Rattle.st_rows.specs.BusTimes.{requested};
-ghost use Rattle.st_rows.specs.Rows.{opening, wanted_from, fetched, addressed, bus_sided, side_there, prepared as prepared_of, operands_read, request_inside as request_inside_of, bus_followed, tick_a, bus_a, tick_p, row as row_of, after};
+ghost use Rattle.st_rows.specs.Rows.{opening, wanted_from, fetched, addressed, bus_sided, side_there, prepared as prepared_of};
+ghost use Rattle.st_rows.specs.Rows.{operands_read, request_inside as request_inside_of, bus_followed, tick_a, bus_a, tick_p, row as row_of, after};
 ghost use Rattle.st_rows.specs.Ranges.{IsEntry, IsTight, IsBusWithin, IsFetchingWithin, ArePastWithin};
 
 use crate::bus::Bus;

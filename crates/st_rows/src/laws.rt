@@ -7,7 +7,7 @@ ghost use Rattle.std.specs.List.{AllZip};
 ghost use Rattle.st_banks.specs.declared.answers.LastAnswers.{LastAnswers};
 ghost use Rattle.st_rows.specs.Asked.{Read, asked, served, after_one, made_before};
 ghost use Rattle.st_rows.specs.BusTimes.{accept_at, after_read, answer_at, requested, answer_of};
-ghost use Rattle.st_rows.specs.Levels.{AreEqual, IsBusSooner, IsFrontSooner, IsRowSooner, AreInOrder, IsCalm, AreCalm, AreCovered, rows};
+ghost use Rattle.st_rows.specs.Levels.{AreEqual, IsBusSooner, IsFrontSooner, IsRowSooner, AreInOrder, AreOlderDone, kept, IsCalm, AreCalm, AreCovered, rows};
 ghost use Rattle.st_rows.specs.declared.bus.Bus.{Bus};
 ghost use Rattle.st_rows.specs.declared.entry.Entry.{Entry};
 ghost use Rattle.st_rows.specs.declared.entry.Runs.{Runs};
@@ -15,18 +15,26 @@ ghost use Rattle.st_rows.specs.declared.front.Front.{Front};
 
 /// The ticks of a row stand in their order, and behind those of the row before.
 pub fn rows_are_in_order()
-    ensures address { (most n : ℕ) (ds : List ℕ) (f : Front) (e : Entry) → AreDelays most ds → IsEntry e → IsTight most f →
-        (f.p < (row ds n f e).a) × ((fetched ds f e).answered < (row ds n f e).a) × (f.bus.free ≤ (row ds n f e).a) }
-    ensures awaited { (ds : List ℕ) (n : ℕ) (f : Front) (e : Entry) → (fetched ds f e).awaited < (row ds n f e).a }
+    ensures address { (ds : List ℕ) (n : ℕ) (f : Front) (e : Entry) →
+        (f.p < (row ds n f e).a) × (f.bus.free ≤ (row ds n f e).a) }
+    ensures answers { (ds : List ℕ) (n : ℕ) (f : Front) (e : Entry) →
+        (fetched ds f e).answered < (row ds n f e).a }
+    ensures awaited { (ds : List ℕ) (n : ℕ) (f : Front) (e : Entry) →
+        (fetched ds f e).awaited < (row ds n f e).a }
     ensures writers { (ds : List ℕ) (f : Front) (e : Entry) (i : ℕ) →
         (i < e.own.len → latest_done f.past (e.own.first + i) ≤ (fetched ds f e).awaited)
-        × (i < e.target.len → latest_done f.past (e.target.first + i) ≤ (fetched ds f e).awaited) }
-    ensures alone { (ds : List ℕ) (n : ℕ) (f : Front) (e : Entry) → (e.serial || f.serial) ≡ true →
-        f.c < (row ds n f e).a }
-    ensures prepared { (ds : List ℕ) (n : ℕ) (f : Front) (e : Entry) → (row ds n f e).a < (row ds n f e).p }
-    ensures levels { (ds : List ℕ) (n : ℕ) (f : Front) (e : Entry) → done_before n f.past < (row ds n f e).p }
-    ensures ready { (most n : ℕ) (ds : List ℕ) (f : Front) (e : Entry) → AreDelays most ds → IsEntry e → IsTight most f →
-        ((row ds n f e).p ≤ (row ds n f e).r) × ((row ds n f e).r < (row ds n f e).c) × (f.c < (row ds n f e).c) }
+        × (i < e.target.len →
+        latest_done f.past (e.target.first + i) ≤ (fetched ds f e).awaited) }
+    ensures alone { (ds : List ℕ) (n : ℕ) (f : Front) (e : Entry) →
+        (e.serial || f.serial) ≡ true → f.c < (row ds n f e).a }
+    ensures prepared { (ds : List ℕ) (n : ℕ) (f : Front) (e : Entry) →
+        (row ds n f e).a < (row ds n f e).p }
+    ensures levels { (ds : List ℕ) (n : ℕ) (f : Front) (e : Entry) →
+        done_before n f.past < (row ds n f e).p }
+    ensures ready { (ds : List ℕ) (n : ℕ) (f : Front) (e : Entry) →
+        (row ds n f e).p ≤ (row ds n f e).r }
+    ensures done { (ds : List ℕ) (n : ℕ) (f : Front) (e : Entry) → IsEntry e →
+        ((row ds n f e).r < (row ds n f e).c) × (f.c < (row ds n f e).c) }
 {}
 
 /// The ticks of a front stay close together, and no entry takes longer than 64 reads with four ticks more each.
@@ -39,35 +47,57 @@ pub fn completions_are_bounded()
 
 /// Where all reads take the same time, a read that is wanted no later on a bus that is nowhere later is answered no later.
 pub fn reads_are_no_later()
-    ensures read { (d : ℕ) (ds : List ℕ) (b c : Bus) (w want late : ℕ) → AreEqual d ds → IsBusSooner b c → want ≤ late →
-        IsBusSooner (after_read ds b w want) (after_read ds c w late) × (answer_at ds b w want ≤ answer_at ds c w late) }
-    ensures word { (d : ℕ) (ds : List ℕ) (b c : Bus) (w want late : ℕ) → AreEqual d ds → IsBusSooner b c → want ≤ late →
-        IsBusSooner (requested ds b w want) (requested ds c w late) × (answer_of ds b w want ≤ answer_of ds c w late) }
+    ensures read { (d : ℕ) (ds : List ℕ) (b c : Bus) (w want late : ℕ) → AreEqual d ds →
+        IsBusSooner b c → want ≤ late →
+        IsBusSooner (after_read ds b w want) (after_read ds c w late)
+        × (answer_at ds b w want ≤ answer_at ds c w late) }
+    ensures word { (d : ℕ) (ds : List ℕ) (b c : Bus) (w want late : ℕ) → AreEqual d ds →
+        IsBusSooner b c → want ≤ late →
+        IsBusSooner (requested ds b w want) (requested ds c w late)
+        × (answer_of ds b w want ≤ answer_of ds c w late) }
 {}
 
 /// The same of an entry of which no word is written by an entry before, instruction words aside, and of as many levels or more.
 pub fn entries_are_no_later()
-    ensures row { (d m n : ℕ) (ds : List ℕ) (f g : Front) (e : Entry) (earlier : List Runs) → AreEqual d ds → n ≤ m →
-        IsFrontSooner f g → AreInOrder g → AreCovered f.past earlier → IsCalm earlier e →
-        IsRowSooner (row ds m f e) (row ds n g e) }
-    ensures after { (d m n : ℕ) (ds : List ℕ) (f g : Front) (e : Entry) (earlier : List Runs) → AreEqual d ds → n ≤ m →
-        IsFrontSooner f g → AreInOrder g → AreCovered f.past earlier → IsCalm earlier e →
-        IsFrontSooner (after ds m f e) (after ds n g e) × AreInOrder (after ds n g e)
-        × AreCovered (after ds m f e).past (e.writes ∷ earlier) }
+    ensures row { (d m n : ℕ) (ds : List ℕ) (f g : Front) (e : Entry) (earlier : List Runs) →
+        AreEqual d ds → n ≤ m → IsFrontSooner f g → AreInOrder g → AreCovered f.past earlier →
+        IsCalm earlier e → IsRowSooner (row ds m f e) (row ds n g e) }
+    ensures after { (d m n : ℕ) (ds : List ℕ) (f g : Front) (e : Entry) (earlier : List Runs) →
+        AreEqual d ds → n ≤ m → IsFrontSooner f g → AreInOrder g → AreCovered f.past earlier →
+        IsCalm earlier e → IsFrontSooner (after ds m f e) (after ds n g e)
+        × AreInOrder (after ds n g e) × AreCovered (after ds m f e).past (e.writes ∷ earlier) }
 {}
 
 /// With more levels no entry of a segment is later, where all reads take the same time and no entry reads a word that an earlier
 /// one writes, instruction words aside.
 pub fn more_levels_are_no_later()
-    ensures { (d m n start : ℕ) (ds : List ℕ) (banks : LastAnswers) (es : List Entry) → AreEqual d ds → n ≤ m →
-        AreCalm [] es →
-        AllZip IsRowSooner (rows ds m (opening banks start) es) (rows ds n (opening banks start) es) }
+    ensures { (d m n start : ℕ) (ds : List ℕ) (banks : LastAnswers) (es : List Entry) →
+        AreEqual d ds → n ≤ m → AreCalm [] es →
+        AllZip IsRowSooner
+        (rows ds m (opening banks start) es) (rows ds n (opening banks start) es) }
+{}
+
+/// An entry that lies as many back as there are levels is done when the last one is prepared.
+pub fn older_entries_are_done_before()
+    ensures opening { (n start : ℕ) (banks : LastAnswers) → AreInOrder (opening banks start)
+        × AreOlderDone n (opening banks start) }
+    ensures after { (ds : List ℕ) (n : ℕ) (f : Front) (e : Entry) → 1 ≤ n → AreInOrder f →
+        AreInOrder (after ds n f e) × AreOlderDone n (after ds n f e) }
+{}
+
+/// So it decides no tick: the last n entries alone give the same row, and the same front behind it.
+pub fn older_entries_decide_nothing()
+    ensures row { (ds : List ℕ) (n : ℕ) (f : Front) (e : Entry) → 1 ≤ n → AreOlderDone n f →
+        row ds n (kept n f) e ≡ row ds n f e }
+    ensures after { (ds : List ℕ) (n : ℕ) (f : Front) (e : Entry) → 1 ≤ n → AreOlderDone n f →
+        kept n (after ds n (kept n f) e) ≡ kept n (after ds n f e) }
 {}
 
 /// The reads that are asked for an entry, made one after the other, give the bus behind it. They are at most as many as its words,
 /// one index-side word and two following ones.
 pub fn rows_make_their_reads()
-    ensures bus { (ds : List ℕ) (n : ℕ) (f : Front) (e : Entry) → served ds (asked ds n f e) f.bus ≡ (after ds n f e).bus }
+    ensures bus { (ds : List ℕ) (n : ℕ) (f : Front) (e : Entry) →
+        served ds (asked ds n f e) f.bus ≡ (after ds n f e).bus }
     ensures few { (ds : List ℕ) (n : ℕ) (f : Front) (e : Entry) → length (asked ds n f e)
         ≤ e.own.len + e.target.len + 1 + e.reads.one.len + e.reads.two.len + 2 }
 {}
@@ -83,6 +113,7 @@ pub fn reads_come_in_order()
 
 /// The reads that are accepted before a tick leave a bus that is free at that tick, and what they ask for is answered soon after it.
 pub fn made_reads_are_answered_soon()
-    ensures { (most t : ℕ) (ds : List ℕ) (reads : List Read) (b : Bus) → AreDelays most ds → IsNear most b → b.free ≤ t →
+    ensures { (most t : ℕ) (ds : List ℕ) (reads : List Read) (b : Bus) → AreDelays most ds →
+        IsNear most b → b.free ≤ t →
         IsNear most (made_before ds t reads b) × ((made_before ds t reads b).free ≤ t) }
 {}

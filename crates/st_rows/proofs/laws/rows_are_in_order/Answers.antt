@@ -1,12 +1,15 @@
 use Rattle.std.proofs.Common.{arith}
-use Rattle.st_rows.specs.Rows.{row, addressed, prepared, tick_a, tick_p}
-use Rattle.st_rows.proofs.Awaited.{awaited-own, awaited-target}
-use Rattle.st_rows.proofs.Tight.{later-r, later-c}
+use Rattle.st_rows.specs.Rows.{row, addressed, prepared, tick_a, tick_p, tick_c}
+use Rattle.st_rows.proofs.Awaited.{awaited-own, awaited-target, ready-after}
 use Rattle.st_rows.proofs.laws.rows_are_in_order.Goals as goal
 
 pub returns-clause-address : goal.returns-clause-address
 unfolding row tick_a addressed
-returns-clause-address c most n ds f e are entry tight = (omega arith, omega arith, omega arith)
+returns-clause-address c ds n f e = (omega arith, omega arith)
+
+pub returns-clause-answers : goal.returns-clause-answers
+unfolding row tick_a addressed
+returns-clause-answers c ds n f e = omega arith
 
 pub returns-clause-awaited : goal.returns-clause-awaited
 unfolding row tick_a addressed
@@ -29,5 +32,8 @@ returns-clause-levels c ds n f e = omega arith
 
 pub returns-clause-ready : goal.returns-clause-ready
 unfolding row
-returns-clause-ready c most n ds f e are entry tight =
-    let late = later-c most ds are n f e entry tight in (later-r most ds are n f e entry tight, late.1, late.0)
+returns-clause-ready c ds n f e = ready-after ds n f e
+
+pub returns-clause-done : goal.returns-clause-done
+unfolding row tick_c
+returns-clause-done c ds n f e entry = (omega (arith, entry.costs.0), omega (arith, entry.costs.0))
