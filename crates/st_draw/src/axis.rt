@@ -6,7 +6,7 @@ use crate::timetable::Entry;
 use std::alloc::{AllocError, Global};
 
 /// The ticks that a picture shows.
-#[derive(Clone, Copy, Debug, PartialEq, Eq)]
+#[derive(Clone, Copy)]
 pub struct Axis {
     /// The tick at its left end.
     pub start: u64,
@@ -19,7 +19,7 @@ pub struct Axis {
 }
 
 /// The room of an axis across a picture.
-#[derive(Clone, Copy, Debug, PartialEq, Eq)]
+#[derive(Clone, Copy)]
 pub struct Room {
     /// Its left end.
     pub left: u16,

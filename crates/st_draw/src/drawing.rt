@@ -12,7 +12,7 @@ use crate::timetable::Entry;
 use std::alloc::{AllocError, Global};
 
 /// What all rows of a picture share.
-#[derive(Clone, Copy, Debug, PartialEq, Eq)]
+#[derive(Clone, Copy)]
 pub struct Sheet {
     /// The room of the axis.
     pub room: Room,
@@ -32,7 +32,7 @@ const STYLES: &[u8; 502] =
     .i{stroke:#b3261e;stroke-width:2}.s{stroke:#2e7d32;stroke-dasharray:2 3}</style>\n";
 
 /// An entry, and the upper edge of its row.
-#[derive(Clone, Copy, Debug)]
+#[derive(Clone, Copy)]
 struct Row {
     y: u128,
     entry: Entry,

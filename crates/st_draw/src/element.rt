@@ -7,7 +7,7 @@ use itoa::Buffer;
 use std::alloc::AllocError;
 
 /// Where an element stands, and how far it reaches, or where a line ends.
-#[derive(Clone, Copy, Debug, PartialEq, Eq)]
+#[derive(Clone, Copy)]
 pub struct Area {
     /// The left edge.
     pub x: u128,
@@ -20,7 +20,7 @@ pub struct Area {
 }
 
 /// Where a text stands: one of its ends or its middle, and the line under it.
-#[derive(Clone, Copy, Debug, PartialEq, Eq)]
+#[derive(Clone, Copy)]
 pub struct Spot {
     pub x: u128,
     pub y: u128,

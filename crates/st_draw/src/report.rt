@@ -5,14 +5,14 @@ ghost use Rattle.st_draw.specs.Report as spec;
 use st_card::{Reading, cut, read_number};
 
 /// An address: a word, and a bit of it.
-#[derive(Clone, Copy, Debug, PartialEq, Eq)]
+#[derive(Clone, Copy)]
 pub struct Place {
     pub word: u64,
     pub bit: u64,
 }
 
 /// What a line says that speaks of the timetable.
-#[derive(Clone, Copy, Debug, PartialEq, Eq)]
+#[derive(Clone, Copy)]
 pub enum Item {
     /// An instruction is done: its number, its address, and the ticks at which it was prepared, its operands were there
     /// and it was complete.

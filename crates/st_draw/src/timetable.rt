@@ -9,7 +9,7 @@ use st_card::cut;
 use std::alloc::{AllocError, Global};
 
 /// The rows that are asked for, by their numbers.
-#[derive(Clone, Copy, Debug, PartialEq, Eq)]
+#[derive(Clone, Copy)]
 pub struct Part {
     /// The first row.
     pub from: u64,
@@ -18,7 +18,7 @@ pub struct Part {
 }
 
 /// One line of the picture.
-#[derive(Clone, Copy, Debug, PartialEq, Eq)]
+#[derive(Clone, Copy)]
 pub enum Entry {
     /// An instruction is done: its number, its address, and the ticks at which it was prepared, its operands were there
     /// and it was complete.
@@ -47,7 +47,7 @@ pub enum Entry {
 }
 
 /// What the lines told so far.
-#[derive(Debug, Drop)]
+#[derive(Drop)]
 pub struct Told {
     /// The entries of the part.
     pub entries: Vec<Entry>,

@@ -7,7 +7,7 @@ use crate::report::number;
 use crate::timetable::Part;
 
 /// A kind of picture.
-#[derive(Clone, Copy, Debug, PartialEq, Eq)]
+#[derive(Clone, Copy)]
 pub enum Kind {
     /// A picture for a browser.
     Svg,
@@ -16,7 +16,7 @@ pub enum Kind {
 }
 
 /// What is to be drawn.
-#[derive(Clone, Copy, Debug, PartialEq, Eq)]
+#[derive(Clone, Copy)]
 pub struct Choice {
     pub kind: Kind,
     pub part: Part,
