@@ -1,3 +1,4 @@
+//! The last steps of a machine, kept so that they can be undone.
 ghost use Rattle.std.specs.Prelude.{◌≡◌, ◌<◌, ◌≤◌, ◌^◌, true, length, IfOk};
 ghost use Rattle.st_bits.specs.Storage.{words_of_storage};
 ghost use Rattle.st_exec.specs.Step.{IsStep};

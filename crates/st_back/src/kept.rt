@@ -1,3 +1,4 @@
+//! A step that is kept, and the words that are put behind it.
 ghost use Rattle.std.specs.Prelude.{◌≡◌, ◌≤◌};
 ghost use Rattle.st_back.specs.Undone.{noted as noted_of};
 

@@ -1,3 +1,4 @@
+//! Steps back over a job that uses all that a step can change.
 ghost use Rattle.std.specs.Prelude.{◌≡◌, ℕ, length, slice_index, IfOk};
 
 use super::*;

@@ -1,3 +1,4 @@
+//! The ticks at which the banks answer their last reads, apart from the delays.
 ghost use Rattle.std.specs.Prelude.{◌≡◌, ◌<◌, replicate};
 ghost use Rattle.st_banks.specs.Bank.{bank_of as bank_of_word};
 

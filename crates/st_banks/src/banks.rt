@@ -1,3 +1,4 @@
+//! The banks of storage with their delays.
 ghost use Rattle.std.specs.Prelude.{◌≡◌, ◌+◌, ◌≤◌, ◌<◌, ◌^◌, IfSome};
 ghost use Rattle.st_bits.specs.Storage.{words_of_storage};
 

@@ -1,3 +1,4 @@
+//! Delay lists, which are gone round.
 ghost use Rattle.std.specs.Prelude.{◌≡◌, ◌+◌, ◌<◌, ◌≤◌, ◌^◌, length, All, IfSome, IfNone};
 ghost use Rattle.st_banks.specs.Delay.{delay, first_zero as place_of_zero};
 

@@ -1,3 +1,4 @@
+//! The contents of held words, beside their plan.
 ghost use Rattle.std.specs.Prelude.{◌≡◌, None, Some, if◌then◌else◌, ◌∷◌, replicate, take, map, zip};
 ghost use Rattle.std.specs.Option.{option_map};
 ghost use Rattle.st_fetch.specs.Planned.{content_answered, content_patched};

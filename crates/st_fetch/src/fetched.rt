@@ -1,3 +1,4 @@
+//! Held words as a plan knows them: words and the ticks of their answers.
 ghost use Rattle.std.specs.Prelude.{◌≡◌, ℕ, replicate, length};
 ghost use Rattle.st_fetch.specs.Planned.{nothing, tick_of as tick_of_word, asked_for, told};
 

@@ -1,3 +1,4 @@
+//! The bus: when reads are accepted and answered, and which instruction words are held.
 ghost use Rattle.std.specs.Prelude.{◌≡◌, ◌+◌, ◌-◌, ◌<◌, ◌≤◌, ◌^◌};
 ghost use Rattle.st_rows.specs.BusTimes.{no_reads, after_read, answer_at, requested, answer_of};
 ghost use Rattle.st_rows.specs.Ranges.{IsBusWithin};

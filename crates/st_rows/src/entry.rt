@@ -1,3 +1,4 @@
+//! Entries as the timetable sees them.
 ghost use Rattle.std.specs.Prelude.{◌≡◌};
 ghost use Rattle.st_rows.specs.Entries.{is_in, is_among};
 

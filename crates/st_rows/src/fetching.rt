@@ -1,3 +1,4 @@
+//! The instruction words of an entry, asked for one after another.
 ghost use Rattle.std.specs.Prelude.{◌≡◌, ◌+◌, ◌*◌, ◌-◌, ◌<◌, ◌≤◌, ◌^◌, All};
 ghost use Rattle.st_rows.specs.Rows.{fetch_word, fetch_words};
 ghost use Rattle.st_rows.specs.Ranges.{IsFetchingWithin, ArePastWithin, IsReadable};

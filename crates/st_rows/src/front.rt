@@ -1,3 +1,4 @@
+//! Fronts: what the row of the next entry is computed from.
 ghost use Rattle.std.specs.Prelude.{◌≡◌, ◌+◌, ◌*◌, ◌-◌, ◌<◌, ◌≤◌, ◌^◌, max, All};
 ghost use Rattle.st_rows.specs.BusTimes.{requested};
 ghost use Rattle.st_rows.specs.Rows.{opening, wanted_from, fetched, addressed, bus_sided, side_there, prepared as prepared_of};

@@ -1,3 +1,4 @@
+//! What is kept of the entries before.
 ghost use Rattle.std.specs.Prelude.{◌≡◌, ◌∷◌, take};
 ghost use Rattle.st_rows.specs.Entries.{latest_done as latest_done_of};
 

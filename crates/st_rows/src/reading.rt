@@ -1,3 +1,4 @@
+//! The operand words of an entry, read one after another.
 ghost use Rattle.std.specs.Prelude.{◌≡◌, ◌+◌, ◌*◌, ◌-◌, ◌<◌, ◌≤◌, ◌^◌, All};
 ghost use Rattle.st_rows.specs.Rows.{read_word, read_words};
 ghost use Rattle.st_rows.specs.Ranges.{IsReadingWithin, ArePastWithin, IsReadable};

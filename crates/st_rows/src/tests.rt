@@ -1,3 +1,4 @@
+//! Rows of worked decks, their entries written out by hand.
 ghost use Rattle.std.specs.Prelude.{◌+◌, ◌<◌, ◌≤◌, ◌^◌};
 ghost use Rattle.st_bits.specs.Storage.{words_of_storage};
 ghost use Rattle.st_rows.specs.Ranges.{IsEntry, IsTight};

@@ -1,3 +1,4 @@
+//! Programs and the decks that they become.
 use super::*;
 use itoa::Buffer;
 use st_object::read_object;
