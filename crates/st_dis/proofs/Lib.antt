@@ -4,3 +4,4 @@ pub mod Spelled
 pub mod Lengths
 pub mod WordRead
 pub mod PlacesRead
+pub mod ControlsRead

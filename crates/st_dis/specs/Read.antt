@@ -1,5 +1,6 @@
 -- What statements lay that are read one after another.
-use Rattle.std.specs.Prelude.{ℕ, ◌+◌, ◌*◌, ◌^◌, List, [], ◌∷◌, Option, Some, None}
+use Rattle.std.specs.Prelude.{◌≡◌, ℕ, ◌+◌, ◌*◌, ◌^◌, List, [], ◌∷◌, Option, Some, None}
+use Rattle.st_card.specs.Controls.{Asked, added}
 use Rattle.st_asm.specs.Alone.{laid_alone}
 use Rattle.st_asm.specs.declared.alone.LaidBits.{LaidBits}
 
@@ -17,3 +18,8 @@ laid_behind None b = None
 abbrev pub laid_together : List (List ℕ) → Option LaidBits
 laid_together [] = Some (bits_of_length 0 0)
 laid_together (text ∷ texts) = laid_behind (laid_alone [] text) (laid_together texts)
+
+-- control cards, added one after the other, lead from what is asked for to what is asked for behind them
+abbrev pub CardsLead : Asked → List (List ℕ) → Asked → Type 0
+CardsLead asked [] to = asked ≡ to
+CardsLead asked (card ∷ cards) to = (next : Asked) × (added asked card ≡ Some next) × CardsLead next cards to

@@ -1,12 +1,14 @@
 //! What holds of the cards of a deck, and not of one call.
 
-ghost use Rattle.std.specs.Prelude.{◌≡◌, ◌<◌, ◌*◌, ◌^◌, ℕ, [], Some, Ok};
+ghost use Rattle.std.specs.Prelude.{◌≡◌, ◌≤◌, ◌<◌, ◌*◌, ◌^◌, ◌++◌, ℕ, [], false, Some, Ok};
+ghost use Rattle.st_card.specs.Controls.{Asked, nothing};
+ghost use Rattle.st_card.specs.Limits.{IsWithinLimits};
 ghost use Rattle.st_strap.specs.Reading.{number_expr};
 ghost use Rattle.st_strap.specs.Saying.{statement_of};
 ghost use Rattle.st_strap.specs.declared.statement.Statement.TheVariants.{SetLocation, End};
-ghost use Rattle.st_dis.specs.Deck.{location_text, end_text};
+ghost use Rattle.st_dis.specs.Deck.{location_text, end_text, order_cards, show_cards};
 ghost use Rattle.st_dis.specs.Spelling.{statements_of};
-ghost use Rattle.st_dis.specs.Read.{bits_of_length, laid_together};
+ghost use Rattle.st_dis.specs.Read.{bits_of_length, laid_together, CardsLead};
 
 /// The statements of a word have no fault, and read and laid one behind the other they give its 64 bits.
 pub fn statements_lay_their_word()
@@ -21,4 +23,10 @@ pub fn places_come_back()
         statement_of [] (location_text w) ≡ Ok (SetLocation (number_expr (64 * w))) }
     ensures start { (start : ℕ) → start < 2 ^ 19 →
         statement_of [] (end_text start) ≡ Ok (End (number_expr (32 * start))) }
+{}
+
+/// The control cards of a deck are good, and added one after the other they ask for what the program asks for.
+pub fn controls_come_back()
+    ensures { (asked : Asked) → IsWithinLimits asked → 1 ≤ asked.budget → asked.list ≡ false →
+        CardsLead nothing (order_cards asked ++ show_cards asked) asked }
 {}

@@ -79,7 +79,7 @@ no_system_word (c ∷ cs) rest digits =
     ap (λ b. b && is_filled (cs ++ rest) && list_all is_name_byte (cs ++ rest) && nat_le (length (cs ++ rest)) 7) (no_dollar c first)
 
 -- a text is cut at a byte that it has once
-parted-once : (at : ℕ) (ahead back : List ℕ) → lacks at ahead ≡ true → parted at (ahead ++ at ∷ back) ≡ ahead ∷ parted at back
+pub parted-once : (at : ℕ) (ahead back : List ℕ) → lacks at ahead ≡ true → parted at (ahead ++ at ∷ back) ≡ ahead ∷ parted at back
 parted-once at [] back lack =
     let same : (at == at) ≡ true = grind (arith, nat_tests) in
     ap (λ b. if b then [] ∷ parted at back else onto_first at (parted at back)) same
