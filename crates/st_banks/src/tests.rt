@@ -1,3 +1,4 @@
+//! Delay lists and banks, tick by tick.
 use super::*;
 use std::alloc::{AllocError, Global};
 use std::test::Fail;

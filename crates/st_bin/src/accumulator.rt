@@ -1,3 +1,4 @@
+//! The accumulator with its sign byte.
 ghost use Rattle.std.specs.Prelude.{◌≡◌, ◌<◌};
 ghost use Rattle.st_bin.specs.BinaryResult.{is_minus as minus_of, with_number as with_number_of, from_offset as from_offset_of, addend_minus};
 

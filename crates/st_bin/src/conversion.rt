@@ -1,3 +1,4 @@
+//! From decimal digits to a binary number and back.
 ghost use Rattle.std.specs.Prelude.{◌≡◌, ◌<◌, ◌≤◌, ◌*◌, ◌%◌, ◌^◌, nat_le};
 ghost use Rattle.st_bin.specs.BinaryOperand.{IsShape, HasRoom};
 ghost use Rattle.st_bin.specs.BinaryResult.{converted};

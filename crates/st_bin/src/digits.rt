@@ -1,3 +1,4 @@
+//! Thirty-two decimal digits as a number.
 ghost use Rattle.std.specs.Prelude.{◌≡◌, ◌<◌, ◌^◌};
 ghost use Rattle.st_bin.specs.Digits.{value_of, digits_of};
 

@@ -1,3 +1,4 @@
+//! Loads of a binary field.
 ghost use Rattle.std.specs.Prelude.{◌≡◌};
 ghost use Rattle.st_bin.specs.BinaryOperand.{IsShape, HasRoom};
 ghost use Rattle.st_bin.specs.BinaryResult.{loaded, loaded_with_flags, transit_set, factor_set};

@@ -1,3 +1,4 @@
+//! The operand of a binary operation, as its field holds it.
 ghost use Rattle.std.specs.Prelude.{◌≡◌, ◌<◌, ◌^◌, ◌*◌, ◌%◌};
 ghost use Rattle.st_bin.specs.Numbers.{exceeds as exceeds_of};
 ghost use Rattle.st_bin.specs.BinaryOperand.{IsShape, HasRoom};

@@ -1,3 +1,4 @@
+//! What an operation on a field leaves.
 ghost use Rattle.std.specs.Prelude.{◌≡◌, ◌<◌, ◌^◌};
 ghost use Rattle.st_bin.specs.BinaryOperand.{IsShape, HasRoom};
 ghost use Rattle.st_bin.specs.BinaryResult.{done_with as done_with_of, in_accumulator as in_accumulator_of, in_field as in_field_of};

@@ -1,3 +1,4 @@
+//! Binary multiplication, multiplication with addition, and division.
 ghost use Rattle.std.specs.Prelude.{◌≡◌, ◌<◌, ◌^◌};
 ghost use Rattle.st_bin.specs.BinaryOperand.{IsShape, HasRoom};
 ghost use Rattle.st_bin.specs.BinaryResult.{multiplied as multiplied_of, product, product_added, divided};

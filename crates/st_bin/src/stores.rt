@@ -1,3 +1,4 @@
+//! Stores into a binary field.
 ghost use Rattle.std.specs.Prelude.{◌≡◌};
 ghost use Rattle.st_bin.specs.BinaryOperand.{IsShape, HasRoom};
 ghost use Rattle.st_bin.specs.BinaryResult.{stored, stored_field as stored_field_of};

@@ -1,3 +1,4 @@
+//! Binary addition, to the accumulator and to memory.
 ghost use Rattle.std.specs.Prelude.{◌≡◌, ◌≤◌, ℕ, ◌^◌, ◌%◌};
 ghost use Rattle.st_bin.specs.Numbers.{exceeds as exceeds_of};
 ghost use Rattle.st_bin.specs.BinaryOperand.{IsShape, HasRoom};

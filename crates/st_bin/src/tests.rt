@@ -1,3 +1,4 @@
+//! Binary operations on fields, their results worked out by hand.
 use super::*;
 use st_bits::{Ind, VflOp};
 

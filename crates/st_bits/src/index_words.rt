@@ -1,3 +1,4 @@
+//! The parts of an index word: value, count and refill address.
 ghost use Rattle.std.specs.Prelude.{◌≡◌, ◌<◌, ◌≤◌, ◌^◌, unsigned_abs};
 ghost use Rattle.st_bits.specs.IndexWord.{value_of as value, count_of as count, refill_of as refill, with_value as value_put, with_count as count_put, with_refill as refill_put};
 

@@ -1,3 +1,4 @@
+//! Words, fields and registers, bit by bit.
 use super::*;
 
 #[test]

@@ -1,3 +1,4 @@
+//! The result of a connective, and the counts of its bits.
 ghost use Rattle.std.specs.Prelude.{◌≡◌, ℕ, ◌+◌, ◌*◌, ◌%◌, ◌<◌, ◌≤◌, ◌^◌, sum};
 ghost use Rattle.std.specs.Int.{bit_at};
 ghost use Rattle.st_bits.specs.Bits.{bits as bits_of, num};

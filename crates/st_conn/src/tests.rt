@@ -1,3 +1,4 @@
+//! Connectives, their tables written out.
 use super::*;
 
 #[test]

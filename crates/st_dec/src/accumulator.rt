@@ -1,3 +1,4 @@
+//! The accumulator as decimal digits.
 ghost use Rattle.std.specs.Prelude.{◌≡◌, ◌<◌, ◌^◌};
 ghost use Rattle.st_bin.specs.BinaryResult.{is_minus as minus_of, addend_minus};
 ghost use Rattle.st_dec.specs.DigitLists.{joined, value};

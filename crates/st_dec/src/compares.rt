@@ -1,3 +1,4 @@
+//! Comparisons of the accumulator with a decimal field.
 ghost use Rattle.std.specs.Prelude.{◌≡◌, ◌<◌, ◌^◌};
 ghost use Rattle.st_bin.specs.Indicators.{flag_indicators as flag_indicators_of};
 ghost use Rattle.st_bin.specs.BinaryOperand.{HasRoom};

@@ -1,3 +1,4 @@
+//! The operand of a decimal operation, as its field holds it.
 ghost use Rattle.std.specs.Prelude.{◌≡◌, ◌<◌, ◌^◌};
 ghost use Rattle.st_bin.specs.BinaryOperand.{HasRoom, magnitude_bits as magnitude_bits_of};
 ghost use Rattle.st_bin.specs.BinaryResult.{operand_minus};

@@ -1,3 +1,4 @@
+//! Each decimal operation on a field.
 ghost use Rattle.std.specs.Prelude.{◌≡◌, ◌<◌, ◌^◌, IfSome};
 ghost use Rattle.st_bin.specs.BinaryOperand.{HasRoom};
 ghost use Rattle.st_dec.specs.DecimalOperand.{IsDecimalShape};

@@ -1,3 +1,4 @@
+//! What a decimal operation makes of the accumulator.
 ghost use Rattle.std.specs.Prelude.{◌≡◌, ◌<◌, ◌^◌};
 ghost use Rattle.st_bin.specs.BinaryOperand.{HasRoom};
 ghost use Rattle.st_dec.specs.DecimalOperand.{IsDecimalShape};

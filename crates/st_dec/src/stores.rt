@@ -1,3 +1,4 @@
+//! Stores into a decimal field.
 ghost use Rattle.std.specs.Prelude.{◌≡◌, ◌<◌, ◌-◌, ◌%◌, ◌^◌};
 ghost use Rattle.st_bin.specs.BinaryOperand.{HasRoom, magnitude_bits as magnitude_bits_of, zone_of};
 ghost use Rattle.st_dec.specs.DigitLists.{joined};

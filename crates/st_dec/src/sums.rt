@@ -1,3 +1,4 @@
+//! Decimal addition, to the accumulator and to memory.
 ghost use Rattle.std.specs.Prelude.{◌≡◌, ◌≤◌, ◌<◌, ◌*◌, ◌^◌, ◌+ℤ◌, unsigned_abs, nat_le};
 ghost use Rattle.st_bin.specs.Numbers.{number_of, sign_after};
 ghost use Rattle.st_bin.specs.BinaryOperand.{HasRoom};

@@ -1,3 +1,4 @@
+//! Decimal operations on fields, their results worked out by hand.
 ghost use Rattle.std.specs.Prelude.{◌<◌};
 
 use super::*;

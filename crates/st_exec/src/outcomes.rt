@@ -1,3 +1,4 @@
+//! What an operation on a field or a connective leaves of a state.
 use st_bin::Done;
 
 /// What an operation on a field or a connective leaves.

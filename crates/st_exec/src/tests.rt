@@ -1,3 +1,4 @@
+//! Steps of whole instructions, their states worked out by hand.
 ghost use Rattle.std.specs.Prelude.{◌≡◌, ℕ, length, slice_index, IfOk};
 
 use super::*;

@@ -1,3 +1,4 @@
+//! The held instruction words with their contents.
 ghost use Rattle.std.specs.Prelude.{◌≡◌, ◌≤◌, [], length, false, true, if◌then◌else◌, ◌==◌, Some};
 ghost use Rattle.st_fetch.specs.HeldWords.{is_held, requested, answered, answer_of, found, patched};
 ghost use Rattle.st_fetch.specs.Planned.{with_its_content};

@@ -1,3 +1,4 @@
+//! Held words and wanted reads, one call after another.
 use super::*;
 
 #[test]

@@ -1,3 +1,4 @@
+//! The reads that are still to be made, first in, first out.
 ghost use Rattle.std.specs.Prelude.{◌≡◌, ◌≤◌, ◌<◌, [], ◌∷◌, ◌++◌, length, drop, slice_get, ◌==◌};
 
 use std::marker::Model;

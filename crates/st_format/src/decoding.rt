@@ -1,3 +1,4 @@
+//! From the bits of an instruction to the instruction.
 ghost use Rattle.std.specs.Prelude.{◌≡◌, false, None, Some, if◌then◌else◌};
 ghost use Rattle.st_format.specs.Halves.{is_full as has_ones};
 ghost use Rattle.st_format.specs.Operations.{full_op as full_op_of};

@@ -1,3 +1,4 @@
+//! From an instruction to its bits.
 ghost use Rattle.std.specs.Prelude.{◌≡◌, ◌+◌, ◌*◌, ◌<◌, ◌^◌, ℕ, unwrap_or, is_some};
 ghost use Rattle.st_format.specs.Halves.{is_full, half_bits as half_of, first_bits as first_of, field_bits as field_of, second_bits as second_of};
 ghost use Rattle.st_format.specs.Operations.{full_number as number_of};

@@ -1,3 +1,4 @@
+//! Instructions with their fields.
 use crate::operations::UNUSED;
 use st_bits::{BranchOp, ConnKind, HalfOp, VflOp};
 

@@ -1,3 +1,4 @@
+//! Half-words and the instructions that they spell.
 use super::*;
 use st_bits::{BranchOp, ConnKind, HalfOp, VflOp};
 

@@ -1,3 +1,4 @@
+//! What instructions make of an index word.
 ghost use Rattle.std.specs.Prelude.{◌≡◌, ◌<◌, ◌≤◌, ◌^◌, unsigned_abs, ◌==◌, ◌&&◌};
 ghost use Rattle.st_bits.specs.Bits.{part};
 ghost use Rattle.st_bits.specs.IndexWord.{value_of as value, count_of as count};

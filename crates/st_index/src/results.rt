@@ -1,3 +1,4 @@
+//! The indicators of comparisons and of changed index words.
 ghost use Rattle.std.specs.Prelude.{◌≡◌};
 ghost use Rattle.st_index.specs.IndexChange.{comparison, index_result as result_of};
 

@@ -1,3 +1,4 @@
+//! The sum of selected index values.
 ghost use Rattle.std.specs.Prelude.{◌≡◌, ◌<◌, ◌≤◌, ◌^◌, ◌-◌, ◌*◌, unsigned_abs};
 ghost use Rattle.std.specs.Int.{bit_at};
 ghost use Rattle.st_bits.specs.Bits.{bits};

@@ -1,3 +1,4 @@
+//! Index arithmetic at its limits.
 use super::*;
 use st_bits::Ind;
 

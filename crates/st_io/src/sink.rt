@@ -1,3 +1,4 @@
+//! Where bytes go, and how a whole piece is written.
 ghost use Rattle.std.specs.Prelude.{◌≡◌, ◌<◌, ◌≤◌, [], length, take, MatchResult, IfOk, IsOk};
 ghost use Rattle.st_io.specs.Output.{OutputState, Wrote, WroteNothing, WroteFront};
 

@@ -1,3 +1,4 @@
+//! Lines that are written whole or in part.
 use super::*;
 use st_io::MemSink;
 use std::test::Fail;

@@ -1,3 +1,4 @@
+//! Effective addresses.
 ghost use Rattle.std.specs.Prelude.{◌≡◌, ◌<◌, ◌^◌};
 ghost use Rattle.st_prep.specs.EarlyChange.{index_part as part_of, half_address as half_of, bit_address as bit_of, field_address as field_of, effective as effective_of};
 ghost use Rattle.st_prep.specs.Ranges.{HasFields};

@@ -1,3 +1,4 @@
+//! What an instruction changes before its operands are read.
 ghost use Rattle.std.specs.Prelude.{◌≡◌, ◌<◌, ◌^◌, slice_index};
 ghost use Rattle.st_prep.specs.EarlyChange.{refill_word as refill_word_of, half_side as half_side_of, progressive_side as progressive_side_of, side as side_of};
 ghost use Rattle.st_prep.specs.EarlyChange.{unchanged, compared as compared_of, changed as changed_of, half_change as half_change_of, progressive_change as progressive_change_of, change as change_of};

@@ -1,3 +1,4 @@
+//! Entries: where they stand, what they need, and how they are prepared.
 use st_bits::Ind;
 use st_format::{Decoded, Instr};
 

@@ -1,3 +1,4 @@
+//! The checks before an instruction is executed.
 ghost use Rattle.std.specs.Prelude.{◌≡◌, ◌+◌, ◌/◌, ◌<◌, ◌^◌, IfSome};
 ghost use Rattle.st_state.specs.Machine.{word, word as word_of};
 ghost use Rattle.st_prep.specs.Ranges.{HasFields, IsAim, IsFetched, IsRuns};

@@ -1,3 +1,4 @@
+//! The counter behind an entry, what it stores, its cost, and whether it is done alone.
 ghost use Rattle.std.specs.Prelude.{◌≡◌, ◌<◌, ◌^◌};
 ghost use Rattle.st_prep.specs.Entry.{next as next_of, after_count as after_count_of, after_half as after_half_of, after_branch as after_branch_of, after as after_of};
 ghost use Rattle.st_prep.specs.Entry.{stored_part as stored_part_of, value as value_of, binary_cost as binary_cost_of, decimal_cost as decimal_cost_of, cost as cost_of, acts_alone as acts_alone_of};

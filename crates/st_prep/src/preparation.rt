@@ -1,3 +1,4 @@
+//! What an entry is aimed at, and the entry prepared.
 ghost use Rattle.std.specs.Prelude.{◌≡◌, ◌<◌, ◌^◌, IfSome, is_some};
 ghost use Rattle.st_bits.specs.Indicators.{indicator as indicator_of};
 ghost use Rattle.st_bits.specs.Storage.{words_of_storage};

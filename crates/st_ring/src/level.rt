@@ -1,3 +1,4 @@
+//! A level of the look-ahead.
 ghost use Rattle.std.specs.Prelude.{◌≡◌, ◌<◌};
 ghost use Rattle.st_ring.specs.Levels.{filled as filled_of};
 

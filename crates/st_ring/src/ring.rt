@@ -1,3 +1,4 @@
+//! The levels of the look-ahead, oldest first.
 ghost use Rattle.std.specs.Prelude.{◌≡◌, ℕ, ◌+◌, ◌<◌, ◌≤◌, List, [], ◌∷◌, ◌++◌, length, slice_get, slice_set, MatchOption, IfSome, Some};
 ghost use Rattle.st_ring.specs.declared.level.Level.{Level as Row};
 ghost use Rattle.st_ring.specs.Levels.{HasNumber, filled as filled_of};

@@ -1,3 +1,4 @@
+//! Levels that are pushed, filled, retired and undone.
 ghost use Rattle.std.specs.Prelude.{◌<◌};
 ghost use Rattle.st_ring.specs.Levels.{HasNumber};
 

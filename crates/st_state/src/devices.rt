@@ -1,3 +1,4 @@
+//! The reader and the printer, and orders to them.
 ghost use Rattle.std.specs.Prelude.{◌≡◌};
 ghost use Rattle.st_state.specs.Orders.{is_due as is_due_of};
 

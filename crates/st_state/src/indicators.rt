@@ -1,3 +1,4 @@
+//! The leftmost indicator that is on and not masked.
 ghost use Rattle.std.specs.Prelude.{◌≡◌, ◌<◌, IfSome};
 ghost use Rattle.st_state.specs.Interrupts.{first_from, is_pending, turned as turned_of};
 

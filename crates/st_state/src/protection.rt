@@ -1,3 +1,5 @@
+//! The kinds of access that the boundary may forbid.
+
 /// What is done with a word.
 #[derive(Clone, Copy, Debug, PartialEq, Eq)]
 pub enum Access {

@@ -1,3 +1,4 @@
+//! States, interrupts and the boundary at its edges.
 ghost use Rattle.std.specs.Prelude.{◌≡◌, ℕ, length, slice_index, IfOk};
 
 use super::*;

@@ -1,3 +1,4 @@
+//! How a call of the program ends.
 ghost use Rattle.std.specs.Prelude.{◌≡◌};
 
 /// How a call of `stretch` ended. The number is the program's exit status.

@@ -1,3 +1,4 @@
+//! Jobs and the cards that they are cut into.
 use super::*;
 use std::test::Fail;
 

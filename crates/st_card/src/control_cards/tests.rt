@@ -1,3 +1,4 @@
+//! Control cards and what they ask for.
 use super::*;
 use std::test::Fail;
 

@@ -1,3 +1,4 @@
+//! Cards of the reader and the words that they become.
 use super::*;
 use std::test::Fail;
 

@@ -1,3 +1,4 @@
+//! Words and the text that is printed of them.
 use super::*;
 
 // What is printed of a first word, with zeros behind it.

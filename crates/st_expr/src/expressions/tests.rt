@@ -1,3 +1,4 @@
+//! Expressions and the terms that they spell.
 use super::*;
 use crate::terms::Atom;
 use std::test::Fail;

@@ -1,3 +1,4 @@
+//! Symbols and the values of expressions.
 use super::*;
 use crate::expressions::read_expr;
 use std::test::Fail;

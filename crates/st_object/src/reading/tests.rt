@@ -1,3 +1,4 @@
+//! Object texts and their bad lines.
 use super::*;
 use std::test::Fail;
 

@@ -1,3 +1,4 @@
+//! Images and the object texts that they become.
 use super::*;
 use crate::reading::read_object;
 use std::test::Fail;

@@ -1,3 +1,4 @@
+//! Statement cards and what they say.
 use super::*;
 use crate::statement::Spot;
 use st_bits::{BranchOp, ConnKind, VflOp};

@@ -1,3 +1,4 @@
+//! Texts with blanks at their end.
 use super::filled_len;
 
 /// A blank before the last filled place stays; a text of blanks alone has none filled.
