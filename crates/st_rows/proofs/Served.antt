@@ -4,7 +4,7 @@ use Rattle.std.proofs.Common.{◌≡◌, ℕ, zero, suc, ◌+◌, ◌<◌, ◌�
 use Rattle.std.proofs.lemmas.Bool.{cases_Bool, ltb-true}
 use Rattle.st_bits.specs.Storage.{words_of_storage}
 use Rattle.st_fetch.specs.Planned.{tick_of}
-use Rattle.st_rows.specs.Asked.{Read, word_asked, words_asked, data_asked, side_asked, operands_asked, inside_asked, following_asked, fetches_asked, asked, after_one, served, made_before}
+use Rattle.st_rows.specs.Asked.{Read, word_asked, words_asked, data_asked, side_asked, operands_asked, inside_asked, following_asked, fetches_asked, asked, after_one, served, made_before, side_count, own_reads}
 use Rattle.st_rows.specs.BusTimes.{accept_at, answer_at, after_read, requested_if, requested}
 use Rattle.st_rows.specs.Ranges.{AreDelays, IsNear}
 use Rattle.st_rows.specs.Rows.{fetch_word, fetch_words, wanted_from, fetched, is_forwarded, bus_sided, read_word, read_words, operands_read, request_inside, bus_followed, tick_a, bus_a, tick_p, operands, after}
@@ -130,7 +130,7 @@ few-data : (late : Bool) (w tick : ℕ) → length {A = Read} (if late then [] e
 few-data true w tick = omega arith
 few-data false w tick = omega arith
 
-few-side : (past : List Past) (side : Option ℕ) (a : ℕ) → length (side_asked past side a) ≤ 1
+few-side : (past : List Past) (side : Option ℕ) (a : ℕ) → length (side_asked past side a) ≤ side_count side
 unfolding side_asked
 few-side past None a = omega arith
 few-side past (Some w) a = few-data (is_forwarded past w a) w a
@@ -156,7 +156,7 @@ few-following true ds b w p =
     ))
 
 pub few-asked : (ds : List ℕ) (n : ℕ) (f : Front) (e : Entry)
-    → length (asked ds n f e) ≤ e.own.len + e.target.len + 1 + e.reads.one.len + e.reads.two.len + 2
+    → length (asked ds n f e) ≤ own_reads e + 2
 unfolding asked fetches_asked following_asked
 few-asked ds n f e =
     let start : Fetching = record { bus = f.bus; answered = 0; awaited = 0 } in
@@ -171,6 +171,9 @@ few-asked ds n f e =
       few-operands f.past p e.reads.two.first e.reads.two.len,
       few-following e.follows ds (operands ds n f e).bus (e.own.first + e.own.len) p,
     ))
+
+pub most-asked : (ds : List ℕ) (n : ℕ) (f : Front) (e : Entry) → own_reads e ≤ 36 → length (asked ds n f e) ≤ 36 + 2
+most-asked ds n f e few = omega (arith, few, few-asked ds n f e)
 
 -- ---- the reads that are made before a tick
 

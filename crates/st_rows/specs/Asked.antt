@@ -68,6 +68,14 @@ asked ds n f e =
     ++ operands_asked f.past (tick_p ds n f e) e.reads.two.first e.reads.two.len
     ++ following_asked ds (operands ds n f e).bus e (tick_p ds n f e)
 
+-- how many words an entry reads for itself: instruction words, the index-side word and operands
+abbrev pub side_count : Option ℕ → ℕ
+side_count None = 0
+side_count (Some w) = 1
+
+abbrev pub own_reads : Entry → ℕ
+own_reads e = e.own.len + e.target.len + side_count e.side + e.reads.one.len + e.reads.two.len
+
 -- the bus after a read, after the reads of a list, and after those of them that are accepted before the tick t
 abbrev pub after_one : List ℕ → Bus → Read → Bus
 after_one ds b r = if r.fetch then requested_if None ds b r.w r.want else after_read ds b r.w r.want

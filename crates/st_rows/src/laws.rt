@@ -5,7 +5,7 @@ ghost use Rattle.st_rows.specs.Entries.{latest_done};
 ghost use Rattle.st_rows.specs.Rows.{opening, fetched, done_before, row, after};
 ghost use Rattle.std.specs.List.{AllZip};
 ghost use Rattle.st_banks.specs.declared.answers.LastAnswers.{LastAnswers};
-ghost use Rattle.st_rows.specs.Asked.{Read, asked, served, after_one, made_before};
+ghost use Rattle.st_rows.specs.Asked.{Read, asked, served, after_one, made_before, own_reads};
 ghost use Rattle.st_rows.specs.BusTimes.{accept_at, after_read, answer_at, requested, answer_of};
 ghost use Rattle.st_rows.specs.Levels.{AreEqual, IsBusSooner, IsFrontSooner, IsRowSooner, AreInOrder, AreOlderDone, kept, IsCalm, AreCalm, AreCovered, rows};
 ghost use Rattle.st_rows.specs.declared.bus.Bus.{Bus};
@@ -93,13 +93,15 @@ pub fn older_entries_decide_nothing()
         kept n (after ds n (kept n f) e) ≡ kept n (after ds n f e) }
 {}
 
-/// The reads that are asked for an entry, made one after the other, give the bus behind it. They are at most as many as its words,
-/// one index-side word and two following ones.
+/// The reads that are asked for an entry, made one after the other, give the bus behind it. They are at most as many as the words
+/// that it reads for itself and two following ones: 36 and two, as each entry of a machine has 36 such words at most.
 pub fn rows_make_their_reads()
     ensures bus { (ds : List ℕ) (n : ℕ) (f : Front) (e : Entry) →
         served ds (asked ds n f e) f.bus ≡ (after ds n f e).bus }
-    ensures few { (ds : List ℕ) (n : ℕ) (f : Front) (e : Entry) → length (asked ds n f e)
-        ≤ e.own.len + e.target.len + 1 + e.reads.one.len + e.reads.two.len + 2 }
+    ensures few { (ds : List ℕ) (n : ℕ) (f : Front) (e : Entry) →
+        length (asked ds n f e) ≤ own_reads e + 2 }
+    ensures most { (ds : List ℕ) (n : ℕ) (f : Front) (e : Entry) → own_reads e ≤ 36 →
+        length (asked ds n f e) ≤ 36 + 2 }
 {}
 
 /// Each read is accepted when it is wanted and the bus is free, which is one tick after the read before it, and is answered later.
