@@ -19,7 +19,7 @@ pub record Timetable : Type 0 where
   pub end : ℕ
   pub later : ℕ
 
--- nothing told yet; what comes before the first row counts to row 1
+-- nothing told yet; what comes before any row counts to the first one
 abbrev pub untold : Timetable
 untold = record { entries = []; dropped = []; row = 1; end = 0; later = 0 }
 
