@@ -5,11 +5,7 @@ use super::*;
 use st_bits::WORDS;
 use st_state::{Order, State};
 use std::alloc::{AllocError, Global};
-use std::process::Abort;
 use std::test::Fail;
-
-mod jobs;
-mod operations;
 
 /// `LVI,$X1,100.0` in a left half, and `BEW` in a right one.
 const LOAD: u64 = 0x0019_0300_0000_0000;
@@ -33,26 +29,6 @@ fn opened(alloc: Global) -> Result<State, Fail>
         return Err(Fail::from(AllocError));
     };
     Ok(state)
-}
-
-/// A state with these words in storage, and the counter at 32.0.
-fn holding(rt: &impl Abort, alloc: Global, words: &[(u32, u64)]) -> Result<State, Fail> {
-    let mut state = opened(alloc)?;
-    for (w, word) in words {
-        assert!(rt; *w < WORDS);
-        state.store(*w, *word);
-    }
-    Ok(state)
-}
-
-/// The word that is listed for the word address `w`.
-fn listed(words: &[(u32, u64)], w: u32) -> Option<u64> {
-    for (v, word) in words {
-        if *v == w {
-            return Some(*word);
-        }
-    }
-    None
 }
 
 #[test]
