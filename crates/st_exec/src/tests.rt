@@ -71,26 +71,6 @@ fn an_interrupt_ends_a_wait_and_executes_one_instruction_of_the_table(
 }
 
 #[test]
-fn what_is_not_executed_turns_on_one_indicator(rt: HostRuntime) -> Result<(), Fail> {
-    for (ic, bounds, indicators, after) in [
-        (64, 0, 0x0001_0000_0000_0000, 65),
-        (63, 0, 0x0000_8000_0000_0000, 64),
-        (196_608, 0, 0x0000_8000_0000_0000, 196_609),
-        (524_287, 0, 0x0000_8000_0000_0000, 0),
-        (65, 0x0008_4000_0008_0000, 0x0000_0400_0000_0000, 66),
-    ] {
-        let mut state = opened(rt.alloc())?;
-        state.ic = ic;
-        state.store(3, bounds);
-        state.enabled = true;
-        assert_eq!(rt; one(&mut state), Step::Plain);
-        assert_eq!(rt; state.word(11), indicators, "at {ic}");
-        assert_eq!(rt; (state.ic, state.done), (after, 1));
-    }
-    Ok(())
-}
-
-#[test]
 fn the_reader_stores_a_card_or_tells_that_it_has_none(rt: HostRuntime) -> Result<(), Fail> {
     let mut state = opened(rt.alloc())?;
     let order = Some(Order { word: 50, due: 0 });
