@@ -1,1 +1,2 @@
 pub mod GuessLemmas
+pub mod StepLemmas
