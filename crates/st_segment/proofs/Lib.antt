@@ -1,2 +1,3 @@
 pub mod GuessLemmas
 pub mod StepLemmas
+pub mod IndexLemmas
