@@ -1,3 +1,4 @@
 pub mod GuessLemmas
 pub mod StepLemmas
 pub mod IndexLemmas
+pub mod RestLemmas
