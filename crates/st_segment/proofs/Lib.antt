@@ -1,0 +1,5 @@
+pub mod GuessLemmas
+pub mod StepLemmas
+pub mod IndexLemmas
+pub mod RestLemmas
+pub mod SeenLemmas
