@@ -4,7 +4,7 @@ use Rattle.st_rows.specs.Rows.{addressed, tick_a, bus_a, tick_y, tick_p}
 use Rattle.st_rows.specs.declared.fetching.Fetching.{Fetching}
 use Rattle.st_rows.proofs.Within.{AreDelays-list, past-weaker, bus-weaker, fetching-weaker}
 use Rattle.st_rows.proofs.Stages.{fetched-within, side-within}
-use Rattle.st_rows.proofs.front.Front.prepare.Goals as goal
+use Rattle.st_rows.proofs.front.Front.form.Goals as goal
 
 pub address-a-requires-clause-room : goal.address-a-requires-clause-room
 address-a-requires-clause-room c =
@@ -17,7 +17,7 @@ pub side-y-requires-clause-room : goal.side-y-requires-clause-room
 side-y-requires-clause-room c =
     let are = AreDelays-list c.args.delays.now c.shape.ensures in
     rw c.requires.words
-    (bus-weaker (c.args.self.now.c + 7 * 255 + 6) (2 ^ 63 - 512) _ (omega arith)
+    (bus-weaker (c.args.self.now.c + 7 * 255 + 6) (2 ^ 64 - 512) _ (omega arith)
     (fetched-within 255 c.args.delays.now are c.args.self.now c.args.entry.now c.requires.entry c.requires.tight).bus)
 
 pub prepared_at-p-requires-clause-side : goal.prepared_at-p-requires-clause-side
