@@ -1,5 +1,5 @@
 //! What an entry is aimed at, and the entry prepared.
-ghost use Rattle.std.specs.Prelude.{◌≡◌, ◌<◌, ◌^◌, IfSome, is_some};
+ghost use Rattle.std.specs.Prelude.{◌≡◌, ◌<◌, ◌^◌, IfSome, is_some, option_map};
 ghost use Rattle.st_bits.specs.Indicators.{indicator as indicator_of};
 ghost use Rattle.st_bits.specs.Storage.{words_of_storage};
 ghost use Rattle.st_state.specs.Machine.{Machine, word};
@@ -198,6 +198,42 @@ pub fn prepare_in(
     read_shape(read);
     fill(&aim(&p.place, fetched, x, state), x, read, p);
     change_index(p.index, x);
+}
+
+/// Prepares an entry as far as it goes without its index-side word, in whose place 0 stands: all but `index` and `ind` is
+/// final, and these too where no such word is asked for. The result says what is needed. `x` stays.
+#[tactic(auto, unfolding(crate::specs::Plan::prepared, crate::specs::Plan::needs))]
+pub fn prepare_without_side(
+    p: &mut Prepared,
+    fetched: &Fetched,
+    x: &[u64; 16],
+    state: &State,
+) -> Needs
+    requires place { IsPlace p.old.place }
+    requires fetched { IsFetched fetched.now }
+
+    ensures value { let v = seen p.old.place fetched.now x.now state.now in
+        p.new ≡ prepared_of v (option_map (λ w. 0) (needs_of v).index_read) }
+    ensures needs { result ≡ needs_of (seen p.old.place fetched.now x.now state.now) }
+    ensures place { p.new.place ≡ p.old.place }
+    ensures ranges { IsPrepared p.new }
+    ensures shape { IsNeeds result }
+{
+    let aim = aim(&p.place, fetched, x, state);
+    let needs = needs(&aim);
+    fill(&aim, x, zero_for(needs.index_read), p);
+    needs
+}
+
+/// A word of zeros in the place of an index-side word, where one is asked for.
+fn zero_for(word: Option<u32>) -> Option<u64>
+    ensures value { result ≡ option_map (λ w. 0) word }
+    ensures shape { IfSome result (λ w. w < 2 ^ 64) }
+{
+    match word {
+        Some(_) => Some(0),
+        None => None,
+    }
 }
 
 /// Makes the change of an index word, if there is one.
