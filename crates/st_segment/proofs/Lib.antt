@@ -1,0 +1,3 @@
+pub mod KnownEarly
+pub mod SameReading
+pub mod PassedOver
