@@ -19,7 +19,7 @@ use Rattle.st_rows.specs.Rows.{row, after}
 use Rattle.st_rows.specs.declared.front.Front.{Front}
 use Rattle.st_segment.specs.Entries.{instruction_words, own_count, entry}
 use Rattle.st_segment.specs.Guesses.{guesses, table_behind, after_early_change, split_words}
-use Rattle.st_segment.specs.Ahead.{Ahead, next_ahead, ahead}
+use Rattle.st_segment.specs.Ahead.{next_ahead, ahead}
 use Rattle.st_segment.specs.Alone.{RunAhead, IsSameAhead}
 use Rattle.st_segment.proofs.KnownEarly.{entry_seen, entry-seen}
 use Rattle.st_segment.proofs.SameReading.{same-index, same-sight, same-instruction}
