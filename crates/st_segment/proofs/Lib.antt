@@ -3,3 +3,8 @@ pub mod StepLemmas
 pub mod IndexLemmas
 pub mod RestLemmas
 pub mod SeenLemmas
+pub mod KnownEarly
+pub mod SameReading
+pub mod PassedOver
+pub mod InstructionRuns
+pub mod EntryRanges
