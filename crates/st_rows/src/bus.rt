@@ -69,7 +69,8 @@ impl Bus {
         requires room { IsBusWithin (2 ^ 64 - 512) self.old }
         requires early { want ≤ 2 ^ 64 - 512 }
         ensures value { result ≡ answer_at delays.now self.old w want }
-        ensures after { self.new ≡ after_one delays.now self.old (record { w = w; want = want; fetch = fetch }) }
+        ensures after { self.new ≡
+            after_one delays.now self.old (record { w = w; want = want; fetch = fetch }) }
     {
         let answer = self.read(delays, w, want);
         if fetch {

@@ -1,0 +1,1 @@
+//! What holds of reads that are made in their turn.

@@ -1,0 +1,1 @@
+//! Reads that are asked for and made in a small example.
