@@ -1,9 +1,6 @@
 -- An entry whose half-words are read at once from the state.
-use Rattle.std.proofs.Common.{◌≡◌, ℕ, ◌+◌, ◌/◌, Bool, true, false, ◌==◌, if◌then◌else◌, List, Option, None, Some, refl, sym, ◌∙◌, ap}
-use Rattle.std.proofs.lemmas.Bool.{eqb-true}
+use Rattle.std.proofs.Common.{◌≡◌, ℕ, ◌/◌, Bool, true, false, ◌==◌, if◌then◌else◌, List, Option, None, Some, refl, ◌∙◌, ap}
 use Rattle.st_state.specs.Machine.{Machine, word}
-use Rattle.st_state.specs.Boundary.{forbidden_by}
-use Rattle.st_state.specs.declared.protection.Access.TheVariants.{Fetch}
 use Rattle.st_format.specs.declared.operations.FullOp.{FullOp}
 use Rattle.st_format.specs.declared.operations.FullOp.TheVariants.{Variable, Connective, Transmission, BitTest, IndicatorTest, Order, CounterStore}
 use Rattle.st_format.specs.Formats.{decoded, instruction_of, word_of}
