@@ -63,6 +63,12 @@ pub fn first_is_late()
         AreFrom t (not_made ds t xs b) (made_before ds t xs b) }
 {}
 
+/// Where the first of the reads is not accepted before a tick, that stays so when reads are asked for that are wanted from it on.
+pub fn more_reads_are_late()
+    ensures { (t : ℕ) (xs ys : List Read) (b : Bus) → AreFrom t xs b →
+        All (λ r. t ≤ r.want) ys → AreFrom t (xs ++ ys) b }
+{}
+
 /// While a read is left, none that is asked for behind it is made.
 pub fn rest_of_more()
     ensures { (ds : List ℕ) (t : ℕ) (xs ys : List Read) (b : Bus) (r : Read) (rest : List Read) →
