@@ -1,7 +1,8 @@
 -- Reads that are made before a tick, and those that are not.
 use Rattle.std.specs.Prelude.{nat_lt}
-use Rattle.std.proofs.Common.{◌≡◌, ℕ, ◌+◌, ◌<◌, ◌≤◌, true, false, List, [], ◌∷◌, ◌++◌, refl, ap, inl, inr, ◌⊎◌, arith}
+use Rattle.std.proofs.Common.{◌≡◌, ℕ, ◌+◌, ◌<◌, ◌≤◌, true, false, List, [], ◌∷◌, ◌++◌, All, refl, ap, inl, inr, ◌⊎◌, arith}
 use Rattle.std.proofs.lemmas.Bool.{cases_Bool, ltb-true, lt-ltb, ltb-false}
+use Rattle.std.proofs.lemmas.List.Elements.{All-head}
 use Rattle.st_rows.specs.Asked.{Read, after_one, served, made_before}
 use Rattle.st_rows.specs.BusTimes.{accept_at}
 use Rattle.st_rows.specs.declared.bus.Bus.{Bus}
@@ -14,6 +15,12 @@ before-cases a t = elim (cases_Bool (nat_lt a t)) [ inl y ↦ inl (y, ltb-true a
 
 pub not-before : (a t : ℕ) → t ≤ a → nat_lt a t ≡ false
 not-before a t late = elim (before-cases a t) [ inl y ↦ let no : ⊥ = omega (arith, y.1) in absurd no | inr n ↦ n.0 ]
+
+-- reads that are wanted later, behind others
+pub from-more : (t : ℕ) (xs ys : List Read) (b : Bus) → AreFrom t xs b → All (λ r. t ≤ r.want) ys → AreFrom t (xs ++ ys) b
+from-more t (r ∷ xs) ys b first late = first
+from-more t [] [] b first late = tt
+from-more t [] (r ∷ ys) b first late = omega (arith, All-head (λ (r : Read). t ≤ r.want) r ys late)
 
 module _ (ds : List ℕ) where
   -- the bus is free one tick after a read

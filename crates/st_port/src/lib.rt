@@ -5,6 +5,11 @@
 mod laws;
 mod port;
 
+pub use laws::{
+    all_made, entries_ask_in_parts, first_is_late, free_rises, later_goes_on, more_reads_are_late,
+    near_buses_are_within, none_made, reads_are_of_storage, reads_are_wanted_in_time,
+    rest_is_served, rest_of_more, split_goes_on,
+};
 pub use port::Port;
 
 #[cfg(test)]

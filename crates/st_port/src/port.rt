@@ -1,5 +1,5 @@
 //! The port: reads are asked for, and each is made at the tick at which it is accepted.
-ghost use Rattle.std.specs.Prelude.{◌≡◌, ◌+◌, ◌-◌, ◌<◌, ◌≤◌, ◌^◌, ◌==◌, List, [], ◌∷◌, ◌++◌, ℕ, length, nat_lt, if◌then◌else◌};
+ghost use Rattle.std.specs.Prelude.{◌≡◌, ◌+◌, ◌-◌, ◌<◌, ◌≤◌, ◌^◌, ◌==◌, List, [], ◌∷◌, ◌++◌, ℕ, length, All, nat_lt, if◌then◌else◌};
 ghost use Rattle.st_bits.specs.Storage.{words_of_storage};
 ghost use Rattle.st_fetch.specs.Planned.{tick_of};
 ghost use Rattle.st_rows.specs.Asked.{word_asked, data_asked, side_asked, operands_asked, following_asked, side_count, made_before};
@@ -26,17 +26,23 @@ pub struct Port {
 }
 
 impl Model for Port {
-    ghost use Rattle.std.specs.Prelude.{map};
+    ghost use Rattle.std.specs.Prelude.{◌-◌, ◌^◌, map};
+    ghost use Rattle.st_rows.specs.Ranges.{IsBusWithin};
     ghost use Rattle.st_port.specs.Making.{PortView, read_of};
 
     ghost Value = { PortView };
 
     ghost view = { λ a. record { bus = a.bus; reads = map read_of a.wants } };
+
+    ghost invariant = { λ a. IsBusWithin (2 ^ 64 - 512) a.bus };
 }
 
 impl Port {
-    /// The port of a segment that starts at the tick `start`, where the banks have these last answers: nothing is asked for yet.
+    /// The port of a segment that starts at the tick `start`, at most 2^64 - 1,024, where the banks have these last answers: nothing is
+    /// asked for yet.
     pub fn new(banks: LastAnswers, start: u64) -> Port
+        requires early { start ≤ 2 ^ 64 - 1024 }
+        requires near { All (λ t. t ≤ start + 255) banks.ticks }
         ensures { result ≡ record { bus = no_reads banks start; reads = [] } }
     {
         Port {
@@ -80,6 +86,17 @@ impl Port {
             tick: want,
             purpose: purpose_of(fetch),
         });
+    }
+
+    /// Asks for the instruction word `w`, wanted from the tick `want` on, unless it is one of these held words.
+    pub fn ask_fetch(&mut self, held: HeldWords, w: u32, want: u64)
+        requires { length self.old.reads < 37 }
+        ensures reads { self.new.reads ≡ self.old.reads ++ word_asked (tick_of held.words w) w want }
+        ensures bus { self.new.bus ≡ self.old.bus }
+    {
+        if held.tick_of(w).is_none() {
+            self.ask(w, want, true);
+        }
     }
 
     /// Asks for the index-side word of an entry, if there is one, whose address is formed at `a`, unless an earlier entry writes it that
@@ -126,16 +143,18 @@ impl Port {
         }
     }
 
-    /// Makes the first of the reads, if it is accepted at the tick `now`; it is accepted then or later.
+    /// Makes the first of the reads, if it is accepted at the tick `now`, at most 2^64 - 1,024; it is accepted then or later. The next one
+    /// is accepted later.
     pub fn serve(&mut self, delays: &Delays, now: u64)
-        requires room { IsBusWithin (2 ^ 64 - 512) self.old.bus }
-        requires early { now ≤ 2 ^ 64 - 512 }
+        requires early { now ≤ 2 ^ 64 - 1024 }
         requires turn { AreFrom now self.old.reads self.old.bus }
         ensures bus { self.new.bus ≡
             made_before delays.now (now + 1) self.old.reads self.old.bus }
         ensures reads { self.new.reads ≡
             not_made_of delays.now (now + 1) self.old.reads self.old.bus }
+        ensures turn { AreFrom (now + 1) self.new.reads self.new.bus }
     {
+        delays.shape();
         let Some(want) = self.wants.front() else {
             return;
         };
@@ -143,9 +162,9 @@ impl Port {
         if bus.banks.accept_tick(want.w, bus.free, want.tick) > now {
             return;
         }
+        let fetch = want.purpose == FETCH;
         self.wants.pop();
-        self.bus
-            .serve(delays, want.w, want.tick, want.purpose == FETCH);
+        self.bus.serve(delays, want.w, want.tick, fetch);
     }
 
     /// Asks for a word that is no instruction word, unless an earlier entry writes it that is done later.
@@ -165,7 +184,8 @@ impl Port {
     fn ask_run(&mut self, past: &[Past; 8], run: Run, p: u64)
         requires words { IsReadable run }
         requires room { length self.old.reads + run.len ≤ 37 }
-        ensures reads { self.new.reads ≡ self.old.reads ++ operands_asked past.now p run.first run.len }
+        ensures reads { self.new.reads ≡
+            self.old.reads ++ operands_asked past.now p run.first run.len }
         ensures bus { self.new.bus ≡ self.old.bus }
         ensures few { length self.new.reads ≤ length self.old.reads + run.len }
     {
@@ -186,7 +206,8 @@ impl Port {
         ensures bus { self.new.bus ≡ self.old.bus }
         ensures few { length self.new.reads ≤ length self.old.reads + 1 }
         ensures held { result.words ≡
-            (if nat_lt w words_of_storage then held_with (tick_of held.words w) held.words w else held.words) }
+            (if nat_lt w words_of_storage then held_with (tick_of held.words w) held.words w
+            else held.words) }
     {
         if w >= WORDS {
             return held;

@@ -46,7 +46,8 @@ pub fn completions_are_bounded()
         IsEntry e → IsTight most f → (after ds n f e).c + 16 ≤ f.c + 64 * (most + 4) }
 {}
 
-/// The first two operand words are there after preparation, and before the entry is done: when all are read or the last entry is done.
+/// The first two operand words are there after preparation, and before the entry is done: when all are read or the last entry is
+/// done. Where there are no others, the latest of them, preparation and that completion decide when its turn comes.
 pub fn operands_are_there_before_completion()
     ensures first { (most n : ℕ) (ds : List ℕ) (f : Front) (e : Entry) → AreDelays most ds →
         1 ≤ e.reads.one.len → (row ds n f e).p < get_or (fills ds n f e) 0 0 }
@@ -56,6 +57,10 @@ pub fn operands_are_there_before_completion()
         get_or (fills ds n f e) i 0 ≤ max (row ds n f e).r f.c }
     ensures done { (most n i : ℕ) (ds : List ℕ) (f : Front) (e : Entry) → IsTight most f →
         IsEntry e → get_or (fills ds n f e) i 0 < (row ds n f e).c }
+    ensures last { (most n : ℕ) (ds : List ℕ) (f : Front) (e : Entry) → IsTight most f →
+        e.reads.one.len ≤ 2 → e.reads.two.len ≡ 0 →
+        max (row ds n f e).r f.c ≡ max (max (row ds n f e).p f.c)
+        (max (get_or (fills ds n f e) 0 0) (get_or (fills ds n f e) 1 0)) }
 {}
 
 /// Where all reads take the same time, a read that is wanted no later on a bus that is nowhere later is answered no later.
