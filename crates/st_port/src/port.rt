@@ -18,7 +18,7 @@ const WORDS: u32 = 98_304;
 /// The purpose of a want of an instruction word.
 const FETCH: u8 = 1;
 
-/// The bus after the reads that were made, and at most 37 reads that are asked for and still to be made, first in first out.
+/// The bus after the reads that were made, and at most 40 reads that are asked for and still to be made, first in first out.
 #[derive(Drop)]
 pub struct Port {
     bus: Bus,
@@ -68,15 +68,15 @@ impl Port {
     /// The number of reads that are still to be made.
     pub fn len(&self) -> usize
         ensures value { result ≡ length self.now.reads }
-        ensures bound { result ≤ 37 }
+        ensures bound { result ≤ 40 }
     {
         self.wants.len()
     }
 
     /// Asks for a read of the word `w` that is wanted from the tick `want` on, behind all others; `fetch` says whether it is one of an
-    /// instruction word, which is held once it is made. At most 36 are still to be made before.
+    /// instruction word, which is held once it is made. At most 39 are still to be made before.
     pub fn ask(&mut self, w: u32, want: u64, fetch: bool)
-        requires { length self.old.reads < 37 }
+        requires { length self.old.reads < 40 }
         ensures reads { self.new.reads ≡
             self.old.reads ++ record { w = w; want = want; fetch = fetch } ∷ [] }
         ensures bus { self.new.bus ≡ self.old.bus }
@@ -90,7 +90,7 @@ impl Port {
 
     /// Asks for the instruction word `w`, wanted from the tick `want` on, unless it is one of these held words.
     pub fn ask_fetch(&mut self, held: HeldWords, w: u32, want: u64)
-        requires { length self.old.reads < 37 }
+        requires { length self.old.reads < 40 }
         ensures reads { self.new.reads ≡ self.old.reads ++ word_asked (tick_of held.words w) w want }
         ensures bus { self.new.bus ≡ self.old.bus }
     {
@@ -103,7 +103,7 @@ impl Port {
     /// is done later.
     #[tactic(auto, unfolding(st_rows::specs::Asked::side_asked))]
     pub fn ask_side(&mut self, past: &[Past; 8], side: Option<u32>, a: u64)
-        requires { length self.old.reads + side_count side ≤ 37 }
+        requires { length self.old.reads + side_count side ≤ 40 }
         ensures reads { self.new.reads ≡ self.old.reads ++ side_asked past.now side a }
         ensures bus { self.new.bus ≡ self.old.bus }
     {
@@ -116,7 +116,7 @@ impl Port {
     pub fn ask_operands(&mut self, past: &[Past; 8], reads: Runs, p: u64)
         requires one { IsReadable reads.one }
         requires two { IsReadable reads.two }
-        requires room { length self.old.reads + reads.one.len + reads.two.len ≤ 37 }
+        requires room { length self.old.reads + reads.one.len + reads.two.len ≤ 40 }
         ensures reads { self.new.reads ≡ self.old.reads
             ++ (operands_asked past.now p reads.one.first reads.one.len
             ++ operands_asked past.now p reads.two.first reads.two.len) }
@@ -131,7 +131,7 @@ impl Port {
     #[tactic(auto, unfolding(st_rows::specs::Asked::following_asked))]
     pub fn ask_following(&mut self, bus: &Bus, entry: &Entry, p: u64)
         requires entry { IsEntry entry.now }
-        requires room { length self.old.reads + 2 ≤ 37 }
+        requires room { length self.old.reads + 2 ≤ 40 }
         ensures reads { (ds : List ℕ) →
             self.new.reads ≡ self.old.reads ++ following_asked ds bus.now entry.now p }
         ensures bus { self.new.bus ≡ self.old.bus }
@@ -169,7 +169,7 @@ impl Port {
 
     /// Asks for a word that is no instruction word, unless an earlier entry writes it that is done later.
     fn ask_data(&mut self, past: &[Past; 8], w: u32, tick: u64)
-        requires { length self.old.reads < 37 }
+        requires { length self.old.reads < 40 }
         ensures reads { self.new.reads ≡ self.old.reads ++ data_asked past.now w tick }
         ensures bus { self.new.bus ≡ self.old.bus }
         ensures few { length self.new.reads ≤ length self.old.reads + 1 }
@@ -183,7 +183,7 @@ impl Port {
     #[tactic(auto, unfolding(st_rows::specs::Asked::operands_asked))]
     fn ask_run(&mut self, past: &[Past; 8], run: Run, p: u64)
         requires words { IsReadable run }
-        requires room { length self.old.reads + run.len ≤ 37 }
+        requires room { length self.old.reads + run.len ≤ 40 }
         ensures reads { self.new.reads ≡
             self.old.reads ++ operands_asked past.now p run.first run.len }
         ensures bus { self.new.bus ≡ self.old.bus }
@@ -200,7 +200,7 @@ impl Port {
 
     /// Asks for the word `w`, if it is one of storage and not held. The result is held behind it, for the words alone.
     fn ask_inside(&mut self, held: HeldWords, w: u32, p: u64) -> HeldWords
-        requires { length self.old.reads < 37 }
+        requires { length self.old.reads < 40 }
         ensures reads { self.new.reads ≡ self.old.reads
             ++ (if nat_lt w words_of_storage then word_asked (tick_of held.words w) w p else []) }
         ensures bus { self.new.bus ≡ self.old.bus }
