@@ -4,6 +4,7 @@ use Rattle.st_io.specs.Count.{HasRisen}
 use Rattle.st_io.specs.Input.{InputState, CameWhole, CameWithin, CamePast}
 use Rattle.st_io.specs.Output.{OutputState, Wrote, WroteFront}
 use Rattle.st_draw.specs.Drawing.{svg}
+use Rattle.st_draw.specs.Log.{log}
 use Rattle.st_draw.specs.Terminal.{text}
 use Rattle.st_draw.specs.Timetable.{timetable}
 use Rattle.st_draw.specs.declared.status.Status.{Status}
@@ -12,7 +13,7 @@ use Rattle.st_draw.specs.declared.timetable.Entry.{Entry}
 use Rattle.st_draw.specs.declared.timetable.Entry.TheVariants.{Done as DoneEntry, Dropped, Taken, Shown}
 use Rattle.st_draw.specs.declared.words.Choice.{Choice}
 use Rattle.st_draw.specs.declared.words.Kind.{Kind}
-use Rattle.st_draw.specs.declared.words.Kind.TheVariants.{Svg, Text}
+use Rattle.st_draw.specs.declared.words.Kind.TheVariants.{Svg, Text, Kanata}
 
 -- the longest report, in bytes
 abbrev pub report_limit : ℕ
@@ -34,6 +35,7 @@ visible shown entries = if nat_eq shown 0 then [] else entries
 abbrev pub picture_of : Kind → List ℕ → List Entry → ℕ → ℕ → List ℕ
 picture_of Svg report entries shown later = svg report entries shown later
 picture_of Text report entries shown later = text report entries shown later
+picture_of Kanata report entries shown later = log report entries
 
 -- the bytes of a picture of these entries, of which some are rows or none
 abbrev pub drawn : Kind → List ℕ → List Entry → ℕ → List ℕ

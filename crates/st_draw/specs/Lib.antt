@@ -5,6 +5,8 @@ pub mod Drawing
 pub mod Element
 pub mod Escape
 pub mod Label
+pub mod Log
+pub mod Moments
 pub mod Report
 pub mod Terminal
 pub mod Timetable

@@ -6,7 +6,7 @@ use Rattle.st_draw.specs.Report.{number}
 use Rattle.st_draw.specs.declared.timetable.Part.{Part}
 use Rattle.st_draw.specs.declared.words.Choice.{Choice}
 use Rattle.st_draw.specs.declared.words.Kind.{Kind}
-use Rattle.st_draw.specs.declared.words.Kind.TheVariants.{Svg, Text}
+use Rattle.st_draw.specs.declared.words.Kind.TheVariants.{Svg, Text, Kanata}
 
 -- the rows that are drawn where no word names them
 abbrev pub first_part : Part
@@ -17,6 +17,7 @@ abbrev pub kind_named : List ℕ → Option Kind
 kind_named word =
     if pointwise nat_eq word (codes "svg") then Some Svg
     else if pointwise nat_eq word (codes "text") then Some Text
+    else if pointwise nat_eq word (codes "kanata") then Some Kanata
     else None
 
 -- the part from a row to a row: at least one row, and at most 200

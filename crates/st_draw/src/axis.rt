@@ -28,7 +28,7 @@ pub struct Room {
 }
 
 /// The first tick of an entry.
-fn first_tick(entry: &Entry) -> u64
+pub fn first_tick(entry: &Entry) -> u64
     ensures { result ≡ spec.first_tick entry.now }
 {
     match *entry {

@@ -8,6 +8,8 @@ mod element;
 mod escape;
 mod label;
 mod laws;
+mod log;
+mod moments;
 mod program;
 mod report;
 mod status;
@@ -15,7 +17,9 @@ mod terminal;
 mod timetable;
 mod words;
 
-pub use laws::{elements_are_closed, texts_stay_in_their_elements};
+pub use laws::{
+    elements_are_closed, labels_stay_in_their_lines, logs_go_forward, texts_stay_in_their_elements,
+};
 pub use program::draw;
 pub use status::Status;
 

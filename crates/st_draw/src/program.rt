@@ -6,6 +6,7 @@ ghost use Rattle.st_draw.specs.Answers.{Did, IsAnswer, Writes};
 ghost use Rattle.st_draw.specs.Words.{choice_of};
 
 use crate::drawing::draw_svg;
+use crate::log::write_log;
 use crate::status::Status;
 use crate::terminal::draw_text;
 use crate::timetable::{Entry, read_timetable};
@@ -52,6 +53,7 @@ fn picture_of(
     match kind {
         Kind::Svg => draw_svg(alloc, report, entries, counts.0, counts.1),
         Kind::Text => draw_text(alloc, report, entries, counts.0, counts.1),
+        Kind::Kanata => write_log(alloc, report, entries),
     }
 }
 
@@ -112,7 +114,7 @@ fn draw_choice<S: Source, K: Sink>(
 }
 
 /// Draws what the words of the command line, after the program's name, ask for, of a report of at most 16,000,000
-/// bytes: `svg` or `text`, and the numbers of the first and the last row; without words a picture of the first 200.
+/// bytes: `svg`, `text` or `kanata`, and the numbers of the first and the last row; without words a picture of the first 200.
 /// All memory is taken before the first write.
 pub fn draw<S: Source, K: Sink>(
     alloc: Global,

@@ -30,7 +30,7 @@ fn plain_byte(byte: u8) -> u8
 }
 
 /// Appends a text as a terminal may show it.
-fn push_plain(out: &mut Vec<u8>, text: &[u8]) -> Result<(), AllocError>
+pub fn push_plain(out: &mut Vec<u8>, text: &[u8]) -> Result<(), AllocError>
     ensures { IfOk result (λ _. out.new.items ≡ out.old.items ++ spec.plain text.now) }
 {
     let mut rest = text;

@@ -1,4 +1,4 @@
-//! The answers of the program, and one picture, whose places were worked out by hand.
+//! The answers of the program, and one picture and one log, which were worked out by hand.
 use super::*;
 use st_io::{MemSink, MemSource};
 use std::test::Fail;
@@ -10,10 +10,11 @@ type Call = (&'static [&'static str], &'static str, u32, u32, Status);
 const ROW: &str = "ROW 1 32.0 P 5 R 8 C 10\n";
 
 /// Calls for each answer.
-const CALLS: [Call; 8] = [
+const CALLS: [Call; 9] = [
     (&[], ROW, 0, 0, Status::Done),
     (&["svg", "1", "1"], ROW, 0, 0, Status::Done),
     (&["text"], ROW, 0, 0, Status::Done),
+    (&["kanata"], ROW, 0, 0, Status::Done),
     (&["text", "2", "9"], ROW, 0, 0, Status::NoRows),
     (&["svg", "2", "1"], ROW, 0, 0, Status::Usage),
     (&["svg", "1"], ROW, 0, 0, Status::Usage),
@@ -49,5 +50,22 @@ fn bars_lie_where_their_ticks_are(rt: HostRuntime) -> Result<(), Fail> {
     for bar in [waiting.as_slice(), executing.as_slice()] {
         assert!(rt; out.bytes().windows(bar.len()).any(|piece| piece == bar));
     }
+    Ok(())
+}
+
+/// The log of a row, and of an entry that was dropped at the tick at which the row was complete.
+const LOG: &str =
+    "Kanata\t0004\nC=\t5\nI\t0\t0\t0\nL\t0\t0\t1 32.0 \nS\t0\t0\tW\nC\t3\nE\t0\t0\tW\nS\t0\t0\tX\n\
+    I\t1\t1\t0\nL\t1\t0\tdrop 33.0 \nS\t1\t0\tD\nC\t2\nE\t0\t0\tX\nR\t0\t1\t0\nE\t1\t0\tD\nR\t1\t0\t1\n";
+
+#[test]
+fn a_log_goes_by_ticks(rt: HostRuntime) -> Result<(), Fail> {
+    let bytes = b"ROW 1 32.0 P 5 R 8 C 10\nDROP 33.0 P 8\n".to_vec(rt.alloc())?;
+    let mut report = MemSource::new(bytes, Vec::new(rt.alloc()));
+    let mut out = MemSink::new(Vec::with_capacity(rt.alloc(), 900)?, Vec::new(rt.alloc()));
+    let mut words = Vec::new(rt.alloc());
+    words.push(String::from_str(rt.alloc(), "kanata")?)?;
+    draw(rt.alloc(), &words, &mut report, &mut out);
+    assert_eq!(rt; out.bytes(), LOG.as_bytes());
     Ok(())
 }

@@ -13,6 +13,8 @@ pub enum Kind {
     Svg,
     /// Lines for a terminal.
     Text,
+    /// A log for a pipeline viewer.
+    Kanata,
 }
 
 /// What is to be drawn.
@@ -32,6 +34,7 @@ fn kind_named(word: &str) -> Option<Kind>
     match word {
         "svg" => Some(Kind::Svg),
         "text" => Some(Kind::Text),
+        "kanata" => Some(Kind::Kanata),
         _ => None,
     }
 }

@@ -1,0 +1,68 @@
+-- What happens to the entries of a timetable, in the order of ticks.
+use Rattle.std.specs.Prelude.{ℕ, ◌+◌, nat_le, max, if◌then◌else◌, List, [], ◌∷◌, ◌++◌}
+use Rattle.st_io.specs.Count.{counted}
+use Rattle.st_draw.specs.Axis.{first_tick}
+use Rattle.st_draw.specs.declared.moments.Moment.{Moment}
+use Rattle.st_draw.specs.declared.moments.Step.{Step}
+use Rattle.st_draw.specs.declared.moments.Step.TheVariants.{Begin, Ready, End}
+use Rattle.st_draw.specs.declared.timetable.Entry.{Entry}
+use Rattle.st_draw.specs.declared.timetable.Entry.TheVariants.{Done, Dropped, Taken, Shown}
+
+-- the tick at which an entry's operands are there: not before it begins
+abbrev pub ready_tick : Entry → ℕ
+ready_tick (Done n a p r c) = max p r
+ready_tick (Dropped a p end) = p
+ready_tick (Taken i t) = t
+ready_tick (Shown t) = t
+
+-- the tick at which an entry ends: not before it begins; an interrupt and a snapshot fill one tick
+abbrev pub end_tick : Entry → ℕ
+end_tick (Done n a p r c) = max (max p r) c
+end_tick (Dropped a p end) = max p end
+end_tick (Taken i t) = counted t 1
+end_tick (Shown t) = counted t 1
+
+-- the tick at which something happens to an entry
+abbrev pub tick_of : Step → Entry → ℕ
+tick_of Begin e = first_tick e
+tick_of Ready e = ready_tick e
+tick_of End e = end_tick e
+
+-- what happens to the entry with a number
+abbrev pub moment : ℕ → Step → Entry → Moment
+moment k step e = record { tick = tick_of step e; number = k; step = step; entry = e }
+
+-- that the operands of an entry are there: nothing else than an instruction that is done waits for any
+abbrev pub ready_of : ℕ → Entry → List Moment
+ready_of k (Done n a p r c) = moment k Ready (Done n a p r c) ∷ []
+ready_of k (Dropped a p end) = []
+ready_of k (Taken i t) = []
+ready_of k (Shown t) = []
+
+-- all that happens to the entry with a number
+unfoldable pub moments_of : ℕ → Entry → List Moment
+moments_of k e = moment k Begin e ∷ ready_of k e ++ moment k End e ∷ []
+
+-- that entries begin
+abbrev pub begins : List Entry → List Moment
+begins [] = []
+begins (e ∷ es) = moment 0 Begin e ∷ begins es
+
+-- all that happens to the entries that begin so, which are numbered from k on
+abbrev pub moments : ℕ → List Moment → List Moment
+moments k [] = []
+moments k (m ∷ ms) = moments_of k m.entry ++ moments (k + 1) ms
+
+-- a moment before the first one of a list that is not earlier
+unfoldable pub inserted : Moment → List Moment → List Moment
+inserted m [] = m ∷ []
+inserted m (n ∷ ns) = if nat_le m.tick n.tick then m ∷ n ∷ ns else n ∷ inserted m ns
+
+-- moments in the order of their ticks; those of one tick keep their order
+unfoldable pub in_order : List Moment → List Moment
+in_order [] = []
+in_order (m ∷ ms) = inserted m (in_order ms)
+
+-- what happens to entries, in the order of ticks; they are numbered from 0 on as they begin
+unfoldable pub happenings : List Entry → List Moment
+happenings entries = in_order (moments 0 (in_order (begins entries)))
