@@ -1,1 +1,4 @@
 pub mod Untimed
+pub mod SceneLemmas
+pub mod DoneLemmas
+pub mod Bounds

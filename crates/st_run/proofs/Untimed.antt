@@ -1,11 +1,9 @@
 -- A run with its timetable is the plain run, with what belongs to the timetable left out.
 use Rattle.std.specs.Prelude.{map, reverse}
-use Rattle.std.proofs.Common.{◌≡◌, ℕ, zero, suc, ◌+◌, Bool, true, false, if◌then◌else◌, List, [], ◌∷◌, ◌++◌, Option, None, Some, refl, sym, ◌∙◌, ap, append_assoc, append-nil}
-use Rattle.st_exec.specs.Step.{step, rests, address}
-use Rattle.st_exec.specs.Run.{Scene, Happening, Executes, Ends, settled, interrupts_by, ended, stepped, happens, goes_on, run}
-use Rattle.st_exec.proofs.Runs.{run-rests}
-use Rattle.st_segment.specs.Ahead.{Ahead}
-use Rattle.st_run.specs.Events.{Event, Timed, Completes, Drops, Shows, Happens, plain, untimed, drop_of, snapshot}
+use Rattle.std.proofs.Common.{◌≡◌, ℕ, zero, suc, ◌+◌, Bool, true, false, if◌then◌else◌, List, [], ◌∷◌, ◌++◌, refl, sym, ◌∙◌, ap, append_assoc, append-nil}
+use Rattle.st_exec.specs.Step.{rests, address}
+use Rattle.st_exec.specs.Run.{Happening, Ends, settled, interrupts_by, ended, stepped, happens, goes_on, run}
+use Rattle.st_run.specs.Events.{Timed, Completes, plain, untimed, drop_of, snapshot}
 use Rattle.st_run.specs.Moments.{Moment, next_scene, next_state, taken, ends_segment, next_row, completed, next_moment}
 use Rattle.st_run.specs.TimedRun.{at, before, from, snapshot_at, last_snapshot_at, drops, drops_if_ends, happening_at, between, turn, last_turn, timed_from}
 

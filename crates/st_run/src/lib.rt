@@ -3,4 +3,4 @@
 
 mod laws;
 
-pub use laws::the_timed_run_is_the_run;
+pub use laws::{delays_change_nothing_but_ticks, runs_are_in_time, the_timed_run_is_the_run};
