@@ -1,13 +1,13 @@
 -- No tick of a run is later than the number done allows.
 use Rattle.std.specs.Prelude.{All, map, reverse, nat_lt}
-use Rattle.std.proofs.Common.{◌≡◌, ℕ, zero, suc, ◌+◌, ◌*◌, ◌≤◌, List, [], ◌∷◌, ◌++◌, length, Option, None, refl, sym, ◌∙◌, ap, subst, arith}
+use Rattle.std.proofs.Common.{◌≡◌, ℕ, zero, suc, ◌+◌, ◌*◌, ◌≤◌, List, [], ◌∷◌, ◌++◌, length, Option, None, sym, ◌∙◌, ap, subst, arith}
 use Rattle.std.proofs.Math.Nat.{mul-add}
 use Rattle.std.proofs.lemmas.List.Elements.{All-nil, All-cons, All-append, All-replicate, All-weaker}
 use Rattle.st_fetch.specs.declared.fetched.Fetched.{Fetched}
 use Rattle.st_state.specs.Machine.{Machine}
 use Rattle.st_prep.proofs.Choices.{of_choice}
 use Rattle.st_exec.specs.Completion.{guess}
-use Rattle.st_exec.specs.Step.{interrupt, rests, address}
+use Rattle.st_exec.specs.Step.{interrupt, rests}
 use Rattle.st_exec.specs.Run.{Scene, Happening, Ends, settled, interrupts_by}
 use Rattle.st_exec.proofs.Runs.{step-done}
 use Rattle.st_banks.specs.declared.answers.LastAnswers.{LastAnswers}
@@ -25,10 +25,10 @@ use Rattle.st_rows.proofs.Tight.{tight-after}
 use Rattle.st_segment.specs.Entries.{entry}
 use Rattle.st_segment.specs.Ahead.{Ahead, ahead, prepared_before}
 use Rattle.st_segment.proofs.EntryRanges.{entry-ranges}
-use Rattle.st_run.specs.Events.{Event, Timed, Completes, Happens, drop_of}
+use Rattle.st_run.specs.Events.{Event, Timed, Happens, drop_of}
 use Rattle.st_run.specs.Scenes.{IsScene}
-use Rattle.st_run.specs.Moments.{Moment, start, unread, next_scene, next_state, taken, ends_segment, next_segment, next_front, next_row, ahead_of_guess, reads_of, completed, next_moment}
-use Rattle.st_run.specs.TimedRun.{at, before, from, snapshot_at, last_snapshot_at, drops, drops_if_ends, happening_at, between, turn, last_turn, timed_from}
+use Rattle.st_run.specs.Moments.{Moment, Standing, start, unread, next_scene, next_state, ends_segment, next_segment, next_front, standing, taken, next_row, front_behind, entries_behind, reads_until, completed}
+use Rattle.st_run.specs.TimedRun.{at, before, from, snapshot_at, last_snapshot_at, drops, drops_if_ends, happening_at, between, completion, until_done, last_events, timed_from}
 use Rattle.st_run.proofs.DoneLemmas.{settled-done}
 use Rattle.st_run.proofs.SceneLemmas.{interrupt-below, settled-scene, stepped-scene}
 
@@ -90,129 +90,142 @@ module _ (most n : ℕ) (ds : List ℕ) (are : AreDelays most ds) (levels : n �
       (next_segment-tight m is, omega (arith, is.few, levels))
       (is.tight, omega (arith, is.last))
 
-  completed-is : (tick : ℕ) (c : Scene) (f : Front) → IsScene c → IsTight most f
-      → tick ≡ (row ds n f (entry (interrupt c.machine) c.machine)).c
-      → IsMoment most n (completed ds n tick c f)
-  unfolding completed row after
-  completed-is tick c f is tight same =
-      let s = c.machine in
-      let t = interrupt s in
+  completed-is : (p : Standing) → IsScene p.scene → IsTight most p.front → IsMoment most n (completed ds n p)
+  unfolding completed next_row row after
+  completed-is p is tight =
+      let s = p.scene.machine in
+      let t = taken p in
       let e = entry t s in
+      let tick = tick_c ds n p.front e in
       let fits : IsEntry e = entry-ranges t s is.machine (interrupt-below s) in
-      let free : f.bus.free ≤ tick = omega (arith, same, free-before_done ds n f e fits) in
-      let made = made-bounds most ds are tick (reads_of ds n tick t s f) f.bus tight.near free in
+      let free : p.front.bus.free ≤ tick = free-before_done ds n p.front e fits in
+      let made = made-bounds most ds are tick (reads_until ds n tick p) p.front.bus tight.near free in
       record {
-        scene = stepped-scene c is;
-        tight = tight-after most ds are n f e fits tight;
-        last = omega (arith, same);
-        few = omega (arith, prepared-few tick (ahead_of_guess n ds n t s f), ahead-few ds n n None (guess t s) (after ds n f e));
-        banks = All-weaker (λ x. x ≤ (made_before ds tick (reads_of ds n tick t s f) f.bus).free + most) (λ x. x ≤ tick + most)
+        scene = stepped-scene p.scene is;
+        tight = tight-after most ds are n p.front e fits tight;
+        last = omega arith;
+        few = omega (arith, prepared-few tick (entries_behind ds n n p), ahead-few ds n n None (guess t s) (front_behind ds n p));
+        banks =
+            All-weaker (λ x. x ≤ (made_before ds tick (reads_until ds n tick p) p.front.bus).free + most) (λ x. x ≤ tick + most)
             (λ x low. omega (arith, made.1)) _ made.0.banks;
       }
 
-  next_moment-is : (m : Moment) → IsMoment most n m → IsMoment most n (next_moment ds n m)
-  unfolding next_row
-  next_moment-is m is =
-      let f = next_front-is m is in
-      completed-is (next_row ds n m).c (next_scene m) (next_front m) (settled-scene m.scene is.scene) f.0 refl
+  next-is : (m : Moment) → IsMoment most n m → IsMoment most n (completed ds n (standing m))
+  next-is m is = completed-is (standing m) (settled-scene m.scene is.scene) (next_front-is m is).0
 
-  next_tick-bound : (m : Moment) → IsMoment most n m → (next_moment ds n m).tick ≤ m.tick + 64 * (most + 4)
+  next-tick : (m : Moment) → IsMoment most n m → (completed ds n (standing m)).tick ≤ m.tick + 64 * (most + 4)
   unfolding completed next_row row
-  next_tick-bound m is =
+  next-tick m is =
       let s = next_state m in
-      let t = taken m in
+      let t = taken (standing m) in
       let scene : IsScene (next_scene m) = settled-scene m.scene is.scene in
       let fits : IsEntry (entry t s) = entry-ranges t s scene.machine (interrupt-below s) in
       let f = next_front-is m is in
       omega (arith, f.1, c-within most ds are (next_front m) (entry t s) fits f.0 n)
 
-  next_done : (m : Moment) → (next_moment ds n m).scene.machine.done ≡ m.scene.machine.done + 1
+  next-done : (m : Moment) → (completed ds n (standing m)).scene.machine.done ≡ m.scene.machine.done + 1
   unfolding completed
-  next_done m =
+  next-done m =
       let same : (next_state m).done ≡ m.scene.machine.done = settled-done m.scene in
       step-done (next_state m) ∙ ap (λ d. d + 1) same
 
 -- ---- events
 
--- a tick that the number done allows, by b ticks for each entry
+-- a tick that the number done allows, by b ticks for each entry and for one more
 abbrev IsInTime : ℕ → Timed → Type 0
 IsInTime b x = x.tick ≤ b * (x.done + 1)
 
-abbrev HasTime : ℕ → Moment → Type 0
-HasTime b m = m.tick ≤ b * m.scene.machine.done
+abbrev HasTime : ℕ → ℕ → Machine → Type 0
+HasTime b tick s = tick ≤ b * s.done
 
-at-time : (b : ℕ) (m : Moment) (e : Event) → HasTime b m → IsInTime b (at m e)
-at-time b m e has = omega (arith, mul-add b m.scene.machine.done 1)
+at-time : (b tick : ℕ) (s : Machine) (e : Event) → HasTime b tick s → IsInTime b (at tick s e)
+at-time b tick s e has = omega (arith, mul-add b s.done 1)
 
 each-time : {A : Type 0} (b : ℕ) (f : A → Timed) (xs : List A) → ((x : A) → IsInTime b (f x)) → All (IsInTime b) (map f xs)
 each-time b f [] holds = All-nil (IsInTime b)
 each-time b f (x ∷ xs) holds = All-cons (IsInTime b) (f x) (map f xs) (holds x) (each-time b f xs holds)
 
-module _ (b : ℕ) (m : Moment) (has : HasTime b m) where
+module _ (b : ℕ) (m : Moment) (has : HasTime b m.tick m.scene.machine) where
   drops-time : All (IsInTime b) (drops m)
   unfolding drops
-  drops-time = each-time b (λ a. at m (drop_of a)) (reverse m.dropped) (λ a. at-time b m (drop_of a) has)
+  drops-time =
+      each-time b (λ a. at m.tick m.scene.machine (drop_of a)) (reverse m.dropped)
+      (λ a. at-time b m.tick m.scene.machine (drop_of a) has)
 
   happenings-time : (hs : List Happening) → All (IsInTime b) (map (happening_at m) hs)
-  happenings-time hs = each-time b (happening_at m) hs (λ h. at-time b m (Happens h) has)
+  happenings-time hs = each-time b (happening_at m) hs (λ h. at-time b m.tick m.scene.machine (Happens h) has)
 
   between-time : All (IsInTime b) (between m)
   unfolding between
   between-time =
-      All-append (IsInTime b) (drops_if_ends m) (map (happening_at m) ((settled m.scene).happened ++ interrupts_by (taken m) (next_state m)))
+      let hs = (settled m.scene).happened ++ interrupts_by (interrupt (next_state m)) (next_state m) in
+      All-append (IsInTime b) (drops_if_ends m) (map (happening_at m) hs)
       (of_choice (λ xs. All (IsInTime b) xs) (ends_segment m) (drops m) [] drops-time (All-nil (IsInTime b)))
-      (happenings-time ((settled m.scene).happened ++ interrupts_by (taken m) (next_state m)))
+      (happenings-time hs)
 
-  last_turn-time : (snaps : List ℕ) → All (IsInTime b) (last_turn m snaps)
-  unfolding last_turn
-  last_turn-time snaps =
+  last_events-time : (snaps : List ℕ) → All (IsInTime b) (last_events m snaps)
+  unfolding last_events
+  last_events-time snaps =
       let came = map (happening_at m) (settled m.scene).happened in
       let shows = map (last_snapshot_at m) (before (m.tick + 1) snaps) in
       let last = happening_at m (Ends (next_state m) (rests (next_state m))) in
       All-append (IsInTime b) (drops m ++ came ++ shows) (last ∷ [])
       (All-append (IsInTime b) (drops m ++ came) shows
       (All-append (IsInTime b) (drops m) came drops-time (happenings-time (settled m.scene).happened))
-      (each-time b (last_snapshot_at m) (before (m.tick + 1) snaps) (λ x. at-time b m (last_snapshot_at m x).event has)))
-      (All-cons (IsInTime b) last [] (at-time b m last.event has) (All-nil (IsInTime b)))
+      (each-time b (last_snapshot_at m) (before (m.tick + 1) snaps)
+      (λ x. at-time b m.tick m.scene.machine (last_snapshot_at m x).event has)))
+      (All-cons (IsInTime b) last [] (at-time b m.tick m.scene.machine last.event has) (All-nil (IsInTime b)))
 
-  turn-time : (ds : List ℕ) (n : ℕ) (snaps : List ℕ) → HasTime b (next_moment ds n m) → All (IsInTime b) (turn ds n m snaps)
-  unfolding turn
-  turn-time ds n snaps next_has =
-      let next = next_moment ds n m in
-      let shows = map (snapshot_at ds n m) (before next.tick snaps) in
-      let last = at next (Completes next.scene.machine (address (next_state m)) (next_row ds n m)) in
-      All-append (IsInTime b) (between m ++ shows) (last ∷ [])
-      (All-append (IsInTime b) (between m) shows between-time
-      (each-time b (snapshot_at ds n m) (before next.tick snaps) (λ x. at-time b m (snapshot_at ds n m x).event has)))
-      (All-cons (IsInTime b) last [] (at-time b next last.event next_has) (All-nil (IsInTime b)))
+until_done-time : (b : ℕ) (ds : List ℕ) (n : ℕ) (p : Standing) (snaps : List ℕ) → HasTime b p.tick p.scene.machine
+    → HasTime b (completed ds n p).tick (completed ds n p).scene.machine → All (IsInTime b) (until_done ds n p snaps)
+unfolding until_done
+until_done-time b ds n p snaps has next_has =
+    let next = completed ds n p in
+    let due = before next.tick snaps in
+    let last = completion ds n p in
+    All-append (IsInTime b) (map (snapshot_at ds n p) due) (last ∷ [])
+    (each-time b (snapshot_at ds n p) due (λ x. at-time b p.tick p.scene.machine (snapshot_at ds n p x).event has))
+    (All-cons (IsInTime b) last [] (at-time b next.tick next.scene.machine last.event next_has) (All-nil (IsInTime b)))
 
 -- ---- the run
 
 module _ (most n : ℕ) (ds : List ℕ) (are : AreDelays most ds) (levels : n ≤ 8) where
-  next-time : (m : Moment) → IsMoment most n m → HasTime (64 * (most + 4)) m → HasTime (64 * (most + 4)) (next_moment ds n m)
+  -- what a moment has is enough for what stands behind it, and for the next moment
+  standing-time : (b : ℕ) (m : Moment) → HasTime b m.tick m.scene.machine → HasTime b m.tick (next_state m)
+  standing-time b m has =
+      let same : (next_state m).done ≡ m.scene.machine.done = settled-done m.scene in
+      subst (λ d. m.tick ≤ b * d) (sym same) has
+
+  next-time : (m : Moment) → IsMoment most n m → HasTime (64 * (most + 4)) m.tick m.scene.machine
+      → HasTime (64 * (most + 4)) (completed ds n (standing m)).tick (completed ds n (standing m)).scene.machine
   next-time m is has =
       let b = 64 * (most + 4) in
       let d = m.scene.machine.done in
-      let more : (next_moment ds n m).scene.machine.done ≡ d + 1 = next_done most n ds are levels m in
-      let tick : (next_moment ds n m).tick ≤ m.tick + b = next_tick-bound most n ds are levels m is in
+      let next = completed ds n (standing m) in
+      let more : next.scene.machine.done ≡ d + 1 = next-done most n ds are levels m in
+      let tick : next.tick ≤ m.tick + b = next-tick most n ds are levels m is in
       let sum : b * (d + 1) ≡ b * d + b * 1 = mul-add b d 1 in
-      let late : (next_moment ds n m).tick ≤ b * (d + 1) = omega (arith, has, tick, sum) in
-      subst (λ k. (next_moment ds n m).tick ≤ b * k) (sym more) late
+      let late : next.tick ≤ b * (d + 1) = omega (arith, has, tick, sum) in
+      subst (λ k. next.tick ≤ b * k) (sym more) late
 
-  timed-time : (left : ℕ) (m : Moment) (snaps : List ℕ) → IsMoment most n m → HasTime (64 * (most + 4)) m
+  timed-time : (left : ℕ) (m : Moment) (snaps : List ℕ) → IsMoment most n m
+      → HasTime (64 * (most + 4)) m.tick m.scene.machine
       → All (IsInTime (64 * (most + 4))) (timed_from ds n left m snaps)
   unfolding timed_from
-  timed-time zero m snaps is has = last_turn-time (64 * (most + 4)) m has snaps
+  timed-time zero m snaps is has = last_events-time (64 * (most + 4)) m has snaps
   timed-time (suc left) m snaps is has =
       let b = 64 * (most + 4) in
-      let next = next_moment ds n m in
-      let next_has : HasTime b next = next-time m is has in
+      let p = standing m in
+      let next = completed ds n p in
+      let next_has : HasTime b next.tick next.scene.machine = next-time m is has in
       let rest = timed_from ds n left next (from next.tick snaps) in
-      of_choice (λ xs. All (IsInTime b) xs) (rests (next_state m)) (last_turn m snaps) (turn ds n m snaps ++ rest)
-      (last_turn-time b m has snaps)
-      (All-append (IsInTime b) (turn ds n m snaps) rest
-      (turn-time b m has ds n snaps next_has)
-      (timed-time left next (from next.tick snaps) (next_moment-is most n ds are levels m is) next_has))
+      let turn = between m ++ until_done ds n p snaps in
+      of_choice (λ xs. All (IsInTime b) xs) (rests (next_state m)) (last_events m snaps) (turn ++ rest)
+      (last_events-time b m has snaps)
+      (All-append (IsInTime b) turn rest
+      (All-append (IsInTime b) (between m) (until_done ds n p snaps) (between-time b m has)
+      (until_done-time b ds n p snaps (standing-time b m has) next_has))
+      (timed-time left next (from next.tick snaps) (next-is most n ds are levels m is) next_has))
 
   start-is : (c : Scene) → IsScene c → IsMoment most n (start c)
   start-is c is = record {

@@ -1,11 +1,11 @@
 -- A run with its timetable is the plain run, with what belongs to the timetable left out.
 use Rattle.std.specs.Prelude.{map, reverse}
 use Rattle.std.proofs.Common.{◌≡◌, ℕ, zero, suc, ◌+◌, Bool, true, false, if◌then◌else◌, List, [], ◌∷◌, ◌++◌, refl, sym, ◌∙◌, ap, append_assoc, append-nil}
-use Rattle.st_exec.specs.Step.{rests, address}
-use Rattle.st_exec.specs.Run.{Happening, Ends, settled, interrupts_by, ended, stepped, happens, goes_on, run}
-use Rattle.st_run.specs.Events.{Timed, Completes, plain, untimed, drop_of, snapshot}
-use Rattle.st_run.specs.Moments.{Moment, next_scene, next_state, taken, ends_segment, next_row, completed, next_moment}
-use Rattle.st_run.specs.TimedRun.{at, before, from, snapshot_at, last_snapshot_at, drops, drops_if_ends, happening_at, between, turn, last_turn, timed_from}
+use Rattle.st_exec.specs.Step.{step, rests, address, interrupt}
+use Rattle.st_exec.specs.Run.{Happening, Executes, Ends, settled, interrupts_by, Ran, ended, stepped, happens, goes_on, run}
+use Rattle.st_run.specs.Events.{Timed, plain, untimed, drop_of, snapshot}
+use Rattle.st_run.specs.Moments.{Moment, Standing, next_scene, next_state, ends_segment, standing, completed}
+use Rattle.st_run.specs.TimedRun.{at, before, from, snapshot_at, last_snapshot_at, drops, drops_if_ends, happening_at, between, completion, until_done, last_events, timed_from}
 
 -- ---- lists of events
 
@@ -30,47 +30,52 @@ happenings m (h ∷ hs) = ap (λ rest. h ∷ rest) (happenings m hs)
 
 drops-none : (m : Moment) → untimed (drops m) ≡ []
 unfolding drops
-drops-none m = none-of (λ a. at m (drop_of a)) (reverse m.dropped) (λ a. refl)
+drops-none m = none-of (λ a. at m.tick m.scene.machine (drop_of a)) (reverse m.dropped) (λ a. refl)
 
 drops-none_if : (b : Bool) (m : Moment) → untimed (if b then drops m else []) ≡ []
 unfolding untimed
 drops-none_if true m = drops-none m
 drops-none_if false m = refl
 
-snapshots-none : (ds : List ℕ) (n : ℕ) (m : Moment) (xs : List ℕ) → untimed (map (snapshot_at ds n m) xs) ≡ []
+snapshots-none : (ds : List ℕ) (n : ℕ) (p : Standing) (xs : List ℕ) → untimed (map (snapshot_at ds n p) xs) ≡ []
 unfolding snapshot
-snapshots-none ds n m xs = none-of (snapshot_at ds n m) xs (λ x. refl)
+snapshots-none ds n p xs = none-of (snapshot_at ds n p) xs (λ x. refl)
 
 -- ---- a turn
 
-between-plain : (m : Moment) → untimed (between m) ≡ (settled m.scene).happened ++ interrupts_by (taken m) (next_state m)
+between-plain : (m : Moment)
+    → untimed (between m) ≡ (settled m.scene).happened ++ interrupts_by (interrupt (next_state m)) (next_state m)
 unfolding between
 between-plain m =
-    let hs = (settled m.scene).happened ++ interrupts_by (taken m) (next_state m) in
+    let hs = (settled m.scene).happened ++ interrupts_by (interrupt (next_state m)) (next_state m) in
     untimed-append (drops_if_ends m) (map (happening_at m) hs)
     ∙ ap (λ xs. xs ++ untimed (map (happening_at m) hs)) (drops-none_if (ends_segment m) m)
     ∙ happenings m hs
 
-pub turn-plain : (ds : List ℕ) (n : ℕ) (m : Moment) (snaps : List ℕ)
-    → untimed (turn ds n m snaps) ≡ (settled m.scene).happened ++ happens (next_state m)
-unfolding turn completed untimed
-turn-plain ds n m snaps =
-    let next = next_moment ds n m in
-    let shows = map (snapshot_at ds n m) (before next.tick snaps) in
-    let last = at next (Completes next.scene.machine (address (next_state m)) (next_row ds n m)) ∷ [] in
-    let came = (settled m.scene).happened in
-    let taking = interrupts_by (taken m) (next_state m) in
-    untimed-append (between m ++ shows) last
-    ∙ ap (λ xs. xs ++ untimed last)
-    (untimed-append (between m) shows
-    ∙ ap (λ xs. untimed (between m) ++ xs) (snapshots-none ds n m (before next.tick snaps))
-    ∙ append-nil (untimed (between m))
-    ∙ between-plain m)
-    ∙ append_assoc came taking (untimed last)
+until_done-plain : (ds : List ℕ) (n : ℕ) (p : Standing) (snaps : List ℕ)
+    → untimed (until_done ds n p snaps) ≡ Executes (step p.scene.machine) (address p.scene.machine) ∷ []
+unfolding until_done completed untimed
+until_done-plain ds n p snaps =
+    let due = before (completed ds n p).tick snaps in
+    let last = completion ds n p ∷ [] in
+    untimed-append (map (snapshot_at ds n p) due) last
+    ∙ ap (λ xs. xs ++ untimed last) (snapshots-none ds n p due)
 
-last_turn-plain : (m : Moment) (snaps : List ℕ) → untimed (last_turn m snaps) ≡ (ended (settled m.scene)).happened
-unfolding last_turn untimed
-last_turn-plain m snaps =
+turn-plain : (ds : List ℕ) (n : ℕ) (m : Moment) (snaps : List ℕ)
+    → untimed (between m ++ until_done ds n (standing m) snaps) ≡ (settled m.scene).happened ++ happens (next_state m)
+turn-plain ds n m snaps =
+    let came = (settled m.scene).happened in
+    let s = next_state m in
+    let taking = interrupts_by (interrupt s) s in
+    let done = Executes (step s) (address s) ∷ [] in
+    untimed-append (between m) (until_done ds n (standing m) snaps)
+    ∙ ap (λ xs. xs ++ untimed (until_done ds n (standing m) snaps)) (between-plain m)
+    ∙ ap (λ xs. came ++ taking ++ xs) (until_done-plain ds n (standing m) snaps)
+    ∙ append_assoc came taking done
+
+last_events-plain : (m : Moment) (snaps : List ℕ) → untimed (last_events m snaps) ≡ (ended (settled m.scene)).happened
+unfolding last_events untimed
+last_events-plain m snaps =
     let came = map (happening_at m) (settled m.scene).happened in
     let shows = map (last_snapshot_at m) (before (m.tick + 1) snaps) in
     let last = happening_at m (Ends (next_state m) (rests (next_state m))) ∷ [] in
@@ -85,24 +90,31 @@ last_turn-plain m snaps =
 
 -- ---- the run
 
-turns-plain_if : (b : Bool) (ds : List ℕ) (n left : ℕ) (m : Moment) (snaps : List ℕ)
-    → untimed (timed_from ds n left (next_moment ds n m) (from (next_moment ds n m).tick snaps))
-    ≡ (run left (stepped (next_scene m))).happened
-    → untimed (if b then last_turn m snaps else turn ds n m snaps ++ timed_from ds n left (next_moment ds n m) (from (next_moment ds n m).tick snaps))
-    ≡ (if b then ended (settled m.scene) else goes_on (settled m.scene) (run left (stepped (next_scene m)))).happened
-turns-plain_if true ds n left m snaps rest = last_turn-plain m snaps
-turns-plain_if false ds n left m snaps rest =
-    let next = next_moment ds n m in
-    let came = (settled m.scene).happened in
-    untimed-append (turn ds n m snaps) (timed_from ds n left next (from next.tick snaps))
-    ∙ ap (λ xs. xs ++ untimed (timed_from ds n left next (from next.tick snaps))) (turn-plain ds n m snaps)
-    ∙ ap (λ xs. came ++ happens (next_state m) ++ xs) rest
-    ∙ append_assoc came (happens (next_state m)) (run left (stepped (next_scene m))).happened
+module _ (ds : List ℕ) (n left : ℕ) (m : Moment) (snaps : List ℕ) where
+  abbrev next : Moment
+  next = completed ds n (standing m)
+
+  abbrev rest : List Timed
+  rest = timed_from ds n left next (from next.tick snaps)
+
+  abbrev later : Ran
+  later = run left (stepped (next_scene m))
+
+  turns-plain : (b : Bool) → untimed rest ≡ later.happened
+      → untimed (if b then last_events m snaps else between m ++ until_done ds n (standing m) snaps ++ rest)
+      ≡ (if b then ended (settled m.scene) else goes_on (settled m.scene) later).happened
+  turns-plain true same = last_events-plain m snaps
+  turns-plain false same =
+      let came = (settled m.scene).happened in
+      untimed-append (between m ++ until_done ds n (standing m) snaps) rest
+      ∙ ap (λ xs. xs ++ untimed rest) (turn-plain ds n m snaps)
+      ∙ ap (λ xs. came ++ happens (next_state m) ++ xs) same
+      ∙ append_assoc came (happens (next_state m)) later.happened
 
 pub timed-plain : (ds : List ℕ) (n left : ℕ) (m : Moment) (snaps : List ℕ)
     → untimed (timed_from ds n left m snaps) ≡ (run left m.scene).happened
 unfolding timed_from run completed
-timed-plain ds n zero m snaps = last_turn-plain m snaps
+timed-plain ds n zero m snaps = last_events-plain m snaps
 timed-plain ds n (suc left) m snaps =
-    let next = next_moment ds n m in
-    turns-plain_if (rests (next_state m)) ds n left m snaps (timed-plain ds n left next (from next.tick snaps))
+    let after = completed ds n (standing m) in
+    turns-plain ds n left m snaps (rests (next_state m)) (timed-plain ds n left after (from after.tick snaps))

@@ -1,5 +1,5 @@
--- Where a run with its timetable stands when an entry has just been done, and where the next entry begins. The machine has the
--- delays ds and n levels.
+-- Where a run with its timetable stands: when an entry has just been done, and before the next one. The machine has the delays ds and
+-- n levels.
 use Rattle.std.specs.Prelude.{ℕ, suc, ◌+◌, Bool, false, ◌||◌, nat_lt, if◌then◌else◌, is_some, List, [], ◌++◌, length, replicate, Option, None}
 use Rattle.st_state.specs.Machine.{Machine}
 use Rattle.st_prep.specs.Plan.{plan}
@@ -15,9 +15,9 @@ use Rattle.st_rows.specs.declared.front.Row.{Row}
 use Rattle.st_segment.specs.Entries.{entry}
 use Rattle.st_segment.specs.Ahead.{Ahead, ahead, prepared_before, reads_before}
 
--- an entry has just been done, at this tick, and nothing has come from outside since: the scene with the state that it leaves; the
+-- An entry has just been done, at this tick, and nothing has come from outside since: the scene with the state that it leaves; the
 -- front behind it; whether the guess was wrong that it was passed over by; and for the case that the segment ends here, the
--- entries that ran ahead of that guess, oldest first, and the last answers of the banks
+-- entries that are prepared behind that guess, oldest first, and the last answers of the banks.
 pub record Moment : Type 0 where
   pub scene : Scene
   pub tick : ℕ
@@ -25,6 +25,13 @@ pub record Moment : Type 0 where
   pub missed : Bool
   pub dropped : List Ahead
   pub banks : LastAnswers
+
+-- What comes between two entries is over: the scene, the tick at which the last entry was done, and the front that the row of the next
+-- one is computed from.
+pub record Standing : Type 0 where
+  pub scene : Scene
+  pub tick : ℕ
+  pub front : Front
 
 -- banks before their first read
 abbrev pub unread : LastAnswers
@@ -50,12 +57,6 @@ next_scene m = (settled m.scene).scene
 abbrev pub next_state : Moment → Machine
 next_state m = (next_scene m).machine
 
--- the interrupt whose table instruction is the next entry, if it is one
-abbrev pub taken : Moment → Option ℕ
-taken m = interrupt (next_state m)
-
--- ---- the end of a segment
-
 -- the reader has put a card into storage
 abbrev pub has_card : Moment → Bool
 has_card m = nat_lt (length (next_scene m).cards) (length m.scene.cards)
@@ -65,55 +66,55 @@ abbrev pub has_waited : Moment → Bool
 has_waited m =
     rests (with_due_orders (with_due_signals m.scene.machine m.scene.signals m.scene.cards)).scene.machine
 
--- the segment ends here, if the run goes on
+-- the segment ends here, if the run goes on: a branch was missed, a card came, the machine waited, or an interrupt is taken
 unfoldable pub ends_segment : Moment → Bool
-ends_segment m = m.missed || has_card m || has_waited m || is_some (taken m)
+ends_segment m = m.missed || has_card m || has_waited m || is_some (interrupt (next_state m))
 
--- the front of the segment behind it
+-- the front of the segment behind it: the levels are emptied one a tick
 abbrev pub next_segment : Moment → Front
 next_segment m = opening m.banks (m.tick + 1 + length m.dropped)
 
--- the front that the row of the next entry is computed from
 unfoldable pub next_front : Moment → Front
 next_front m = if ends_segment m then next_segment m else m.front
 
+abbrev pub standing : Moment → Standing
+standing m = record { scene = next_scene m; tick = m.tick; front = next_front m }
+
 -- ---- the next entry
 
--- its row
-unfoldable pub next_row : List ℕ → ℕ → Moment → Row
-next_row ds n m = row ds n (next_front m) (entry (taken m) (next_state m))
+-- the interrupt whose table instruction it is, if it is one
+abbrev pub taken : Standing → Option ℕ
+taken p = interrupt p.scene.machine
+
+-- its row, and the front behind it
+unfoldable pub next_row : List ℕ → ℕ → Standing → Row
+next_row ds n p = row ds n p.front (entry (taken p) p.scene.machine)
+
+abbrev pub front_behind : List ℕ → ℕ → Standing → Front
+front_behind ds n p = after ds n p.front (entry (taken p) p.scene.machine)
 
 -- it, and the entries behind it, by guessed steps
-abbrev pub entries_ahead : List ℕ → ℕ → Moment → List Ahead
-entries_ahead ds n m = ahead ds n n (taken m) (next_state m) (next_front m)
+abbrev pub entries_ahead : List ℕ → ℕ → Standing → List Ahead
+entries_ahead ds n p = ahead ds n n (taken p) p.scene.machine p.front
 
--- the front behind an entry, and k entries ahead of its guess
-abbrev pub front_after : List ℕ → ℕ → Option ℕ → Machine → Front → Front
-front_after ds n t s f = after ds n f (entry t s)
+-- k entries behind its guess
+abbrev pub entries_behind : List ℕ → ℕ → ℕ → Standing → List Ahead
+entries_behind ds n k p = ahead ds n k None (guess (taken p) p.scene.machine) (front_behind ds n p)
 
-abbrev pub ahead_of_guess : ℕ → List ℕ → ℕ → Option ℕ → Machine → Front → List Ahead
-ahead_of_guess k ds n t s f = ahead ds n k None (guess t s) (front_after ds n t s f)
+-- its reads, and those of the entries behind it that are prepared before the tick, and of the next one
+abbrev pub reads_until : List ℕ → ℕ → ℕ → Standing → List Read
+reads_until ds n tick p =
+    asked ds n p.front (entry (taken p) p.scene.machine) ++ reads_before ds n tick (entries_behind ds n (suc n) p)
 
--- the reads of an entry and of those behind it that may be made before a tick; n entries behind it are prepared by then at
--- most
-abbrev pub reads_of : List ℕ → ℕ → ℕ → Option ℕ → Machine → Front → List Read
-reads_of ds n tick t s f =
-    asked ds n f (entry t s) ++ reads_before ds n tick (ahead_of_guess (suc n) ds n t s f)
-
--- an entry of a scene, behind a front, is done at a tick
-unfoldable pub completed : List ℕ → ℕ → ℕ → Scene → Front → Moment
-completed ds n tick c f =
-    let s = c.machine in
-    let t = interrupt s in
+-- the moment at which it is done
+unfoldable pub completed : List ℕ → ℕ → Standing → Moment
+completed ds n p =
+    let tick = (next_row ds n p).c in
     record {
-      scene = stepped c;
+      scene = stepped p.scene;
       tick = tick;
-      front = front_after ds n t s f;
-      missed = is_missed (plan s t) s;
-      dropped = prepared_before tick (ahead_of_guess n ds n t s f);
-      banks = (made_before ds tick (reads_of ds n tick t s f) f.bus).banks;
+      front = front_behind ds n p;
+      missed = is_missed (plan p.scene.machine (taken p)) p.scene.machine;
+      dropped = prepared_before tick (entries_behind ds n n p);
+      banks = (made_before ds tick (reads_until ds n tick p) p.front.bus).banks;
     }
-
--- the moment at which the next entry has just been done
-abbrev pub next_moment : List ℕ → ℕ → Moment → Moment
-next_moment ds n m = completed ds n (next_row ds n m).c (next_scene m) (next_front m)

@@ -1,14 +1,15 @@
 -- A whole run with its timetable: what happens, and at which ticks. The machine has the delays ds and n levels.
 use Rattle.std.specs.Prelude.{ℕ, zero, suc, ◌+◌, nat_lt, if◌then◌else◌, List, [], ◌∷◌, ◌++◌, map, reverse}
-use Rattle.st_exec.specs.Step.{rests, address}
+use Rattle.st_state.specs.Machine.{Machine}
+use Rattle.st_exec.specs.Step.{rests, address, interrupt}
 use Rattle.st_exec.specs.Run.{Scene, Happening, Ends, settled, interrupts_by}
 use Rattle.st_segment.specs.Ahead.{prepared_before}
 use Rattle.st_run.specs.Events.{Event, Timed, Completes, Shows, Happens, drop_of, snapshot}
-use Rattle.st_run.specs.Moments.{Moment, start, next_state, taken, ends_segment, entries_ahead, next_row, next_moment}
+use Rattle.st_run.specs.Moments.{Moment, Standing, start, next_state, ends_segment, standing, taken, next_row, entries_ahead, completed}
 
--- an event at a moment
-abbrev pub at : Moment → Event → Timed
-at m event = record { done = m.scene.machine.done; tick = m.tick; event = event }
+-- an event by which the last entry was done at the tick, and left the state
+abbrev pub at : ℕ → Machine → Event → Timed
+at tick s event = record { done = s.done; tick = tick; event = event }
 
 -- ---- when snapshots are shown
 
@@ -21,60 +22,67 @@ unfoldable pub from : ℕ → List ℕ → List ℕ
 from t [] = []
 from t (x ∷ xs) = if nat_lt x t then from t xs else x ∷ xs
 
--- the state before the next entry at a tick, and what is ahead of it
-abbrev pub snapshot_at : List ℕ → ℕ → Moment → ℕ → Timed
-snapshot_at ds n m tick =
-    at m (snapshot tick (taken m) (next_state m) (prepared_before (tick + 1) (entries_ahead ds n m)))
-
--- the last state, of which nothing is ahead
-abbrev pub last_snapshot_at : Moment → ℕ → Timed
-last_snapshot_at m tick = at m (Shows tick (next_state m) [])
-
 -- ---- events at the tick of a moment
 
 -- what ran ahead is dropped, the youngest entry first
 unfoldable pub drops : Moment → List Timed
-drops m = map (λ a. at m (drop_of a)) (reverse m.dropped)
+drops m = map (λ a. at m.tick m.scene.machine (drop_of a)) (reverse m.dropped)
 
 abbrev pub drops_if_ends : Moment → List Timed
 drops_if_ends m = if ends_segment m then drops m else []
 
 -- what happens in the plain run
 abbrev pub happening_at : Moment → Happening → Timed
-happening_at m happening = at m (Happens happening)
+happening_at m happening = at m.tick m.scene.machine (Happens happening)
 
 -- the run goes on: what is dropped, words that are printed, and the interrupt that is taken
 unfoldable pub between : Moment → List Timed
 between m =
     drops_if_ends m
-    ++ map (happening_at m) ((settled m.scene).happened ++ interrupts_by (taken m) (next_state m))
+    ++ map (happening_at m) ((settled m.scene).happened ++ interrupts_by (interrupt (next_state m)) (next_state m))
 
--- ---- the whole
+-- ---- events until the next entry is done
 
--- what happens until the next entry is done, and that
-unfoldable pub turn : List ℕ → ℕ → Moment → List ℕ → List Timed
-turn ds n m snaps =
-    let next = next_moment ds n m in
-    between m
-    ++ map (snapshot_at ds n m) (before next.tick snaps)
-    ++ at next (Completes next.scene.machine (address (next_state m)) (next_row ds n m)) ∷ []
+-- the state at a tick, and what is ahead of it
+abbrev pub snapshot_at : List ℕ → ℕ → Standing → ℕ → Timed
+snapshot_at ds n p tick =
+    at p.tick p.scene.machine
+    (snapshot tick (taken p) p.scene.machine (prepared_before (tick + 1) (entries_ahead ds n p)))
+
+-- the next entry is done
+abbrev pub completion : List ℕ → ℕ → Standing → Timed
+completion ds n p =
+    let m = completed ds n p in
+    at m.tick m.scene.machine (Completes m.scene.machine (address p.scene.machine) (next_row ds n p))
+
+unfoldable pub until_done : List ℕ → ℕ → Standing → List ℕ → List Timed
+until_done ds n p snaps =
+    map (snapshot_at ds n p) (before (completed ds n p).tick snaps) ++ completion ds n p ∷ []
+
+-- ---- the end
+
+-- the last state, of which nothing is ahead
+abbrev pub last_snapshot_at : Moment → ℕ → Timed
+last_snapshot_at m tick = at m.tick m.scene.machine (Shows tick (next_state m) [])
 
 -- the run ends: what is dropped, words that are printed, the snapshots up to this tick, and the end itself
-unfoldable pub last_turn : Moment → List ℕ → List Timed
-last_turn m snaps =
+unfoldable pub last_events : Moment → List ℕ → List Timed
+last_events m snaps =
     drops m
     ++ map (happening_at m) (settled m.scene).happened
     ++ map (last_snapshot_at m) (before (m.tick + 1) snaps)
     ++ happening_at m (Ends (next_state m) (rests (next_state m))) ∷ []
 
--- the run from a moment on, in which so many entries may still be done, with snapshots at ticks that are to come; a rest is tried before the
--- budget
+-- ---- the whole
+
+-- the run from a moment on, in which so many entries may still be done, with snapshots at ticks that are to come; a rest is
+-- tried before the budget
 unfoldable pub timed_from : List ℕ → ℕ → ℕ → Moment → List ℕ → List Timed
-timed_from ds n zero m snaps = last_turn m snaps
+timed_from ds n zero m snaps = last_events m snaps
 timed_from ds n (suc left) m snaps =
-    if rests (next_state m) then last_turn m snaps
-    else turn ds n m snaps
-    ++ timed_from ds n left (next_moment ds n m) (from (next_moment ds n m).tick snaps)
+    if rests (next_state m) then last_events m snaps
+    else between m ++ until_done ds n (standing m) snaps
+    ++ timed_from ds n left (completed ds n (standing m)) (from (completed ds n (standing m)).tick snaps)
 
 -- the whole run of a scene
 abbrev pub timed_run : List ℕ → ℕ → ℕ → Scene → List ℕ → List Timed
