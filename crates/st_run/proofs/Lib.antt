@@ -1,4 +1,6 @@
 pub mod Untimed
+pub mod Turns
+pub mod OrderLemmas
 pub mod SceneLemmas
 pub mod DoneLemmas
 pub mod Bounds

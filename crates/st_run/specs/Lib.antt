@@ -2,3 +2,4 @@ pub mod Events
 pub mod Moments
 pub mod TimedRun
 pub mod Scenes
+pub mod Order

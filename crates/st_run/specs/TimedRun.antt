@@ -84,6 +84,11 @@ timed_from ds n (suc left) m snaps =
     else between m ++ until_done ds n (standing m) snaps
     ++ timed_from ds n left (completed ds n (standing m)) (from (completed ds n (standing m)).tick snaps)
 
+-- the same before an entry, behind which so many more may be done
+abbrev pub timed_behind : List ℕ → ℕ → ℕ → Standing → List ℕ → List Timed
+timed_behind ds n left p snaps =
+    until_done ds n p snaps ++ timed_from ds n left (completed ds n p) (from (completed ds n p).tick snaps)
+
 -- the whole run of a scene
 abbrev pub timed_run : List ℕ → ℕ → ℕ → Scene → List ℕ → List Timed
 timed_run ds n left c snaps = timed_from ds n left (start c) snaps

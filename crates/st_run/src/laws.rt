@@ -1,9 +1,12 @@
 //! What holds of each run with its timetable.
-ghost use Rattle.std.specs.Prelude.{◌≡◌, ℕ, ◌+◌, ◌*◌, ◌≤◌, List, All};
+ghost use Rattle.std.specs.Prelude.{◌≡◌, ℕ, ◌+◌, ◌*◌, ◌≤◌, true, List, [], length, All, Option};
+ghost use Rattle.st_state.specs.Machine.{Machine};
 ghost use Rattle.st_exec.specs.Run.{Scene, run};
 ghost use Rattle.st_rows.specs.Ranges.{AreDelays};
-ghost use Rattle.st_run.specs.Events.{Timed, untimed};
-ghost use Rattle.st_run.specs.Moments.{Moment};
+ghost use Rattle.st_segment.specs.Ahead.{prepared_before};
+ghost use Rattle.st_run.specs.Events.{Timed, Shows, snapshot, untimed};
+ghost use Rattle.st_run.specs.Moments.{Moment, ends_segment, standing, entries_ahead};
+ghost use Rattle.st_run.specs.Order.{AreInOrder, AreRising};
 ghost use Rattle.st_run.specs.Scenes.{IsScene};
 ghost use Rattle.st_run.specs.TimedRun.{timed_from, timed_run};
 
@@ -26,4 +29,19 @@ pub fn delays_change_nothing_but_ticks()
 pub fn runs_are_in_time()
     ensures { (ds snaps : List ℕ) (most n left : ℕ) (c : Scene) → AreDelays most ds → n ≤ 8 → IsScene c →
         All (λ (x : Timed). x.tick ≤ 64 * (most + 4) * (x.done + 1)) (timed_run ds n left c snaps) }
+{}
+
+/// The events of a run come in the order of their ticks, where snapshots are asked for in that order.
+pub fn events_come_in_order()
+    ensures { (ds snaps : List ℕ) (n left : ℕ) (c : Scene) → AreRising 0 snaps →
+        AreInOrder 0 (timed_run ds n left c snaps) }
+{}
+
+/// Behind the end of a segment nothing is ahead of the state until the next one starts, one tick later and one more for each entry that was
+/// dropped; and a snapshot of which nothing is ahead shows the state as it is.
+pub fn nothing_is_ahead_behind_an_end()
+    ensures ahead { (ds : List ℕ) (n tick : ℕ) (m : Moment) → ends_segment m ≡ true →
+        tick ≤ m.tick + 1 + length m.dropped →
+        prepared_before (tick + 1) (entries_ahead ds n (standing m)) ≡ [] }
+    ensures state { (tick : ℕ) (taken : Option ℕ) (s : Machine) → snapshot tick taken s [] ≡ Shows tick s [] }
 {}

@@ -3,4 +3,7 @@
 
 mod laws;
 
-pub use laws::{delays_change_nothing_but_ticks, runs_are_in_time, the_timed_run_is_the_run};
+pub use laws::{
+    delays_change_nothing_but_ticks, events_come_in_order, nothing_is_ahead_behind_an_end,
+    runs_are_in_time, the_timed_run_is_the_run,
+};
