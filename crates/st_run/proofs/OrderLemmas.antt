@@ -23,7 +23,7 @@ unfolding AreRising
 rising-weaker t u [] le is = tt
 rising-weaker t u (x ∷ xs) le is = (omega (arith, is.0), is.1)
 
-test-lt : (x u : ℕ) → ((nat_lt x u ≡ true) × (x < u)) ⊎ ((nat_lt x u ≡ false) × (u ≤ x))
+pub test-lt : (x u : ℕ) → ((nat_lt x u ≡ true) × (x < u)) ⊎ ((nat_lt x u ≡ false) × (u ≤ x))
 test-lt x u = elim (cases_Bool (nat_lt x u)) [ inl t ↦ inl (t, ltb-true x u t) | inr f ↦ inr (f, ltb-false x u f) ]
 
 rising-from : (t u : ℕ) (xs : List ℕ) → t ≤ u → AreRising t xs → AreRising u (from u xs)
@@ -110,13 +110,13 @@ until_done-lead ds n p snaps later rising =
 -- ---- the run
 
 module _ (ds : List ℕ) (n : ℕ) where
-  next-later : (m : Moment) → m.front.c ≡ m.tick → m.tick ≤ (completed ds n (standing m)).tick
+  pub next-later : (m : Moment) → m.front.c ≡ m.tick → m.tick ≤ (completed ds n (standing m)).tick
   unfolding completed next_row row tick_c next_front
   next-later m same =
       let front : m.tick ≤ (next_front m).c = of_choice (λ f. m.tick ≤ f.c) (ends_segment m) (next_segment m) m.front (omega arith) (omega (arith, same)) in
       omega (arith, front)
 
-  next-same : (p : Standing) → (completed ds n p).front.c ≡ (completed ds n p).tick
+  pub next-same : (p : Standing) → (completed ds n p).front.c ≡ (completed ds n p).tick
   unfolding completed next_row row after
   next-same p = refl
 

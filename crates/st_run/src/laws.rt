@@ -1,14 +1,14 @@
 //! What holds of each run with its timetable.
 ghost use Rattle.std.specs.Prelude.{◌≡◌, ℕ, ◌+◌, ◌*◌, ◌≤◌, true, List, [], length, All, Option};
 ghost use Rattle.st_state.specs.Machine.{Machine};
-ghost use Rattle.st_exec.specs.Run.{Scene, run};
+ghost use Rattle.st_exec.specs.Run.{Scene, settled, run};
 ghost use Rattle.st_rows.specs.Ranges.{AreDelays};
 ghost use Rattle.st_segment.specs.Ahead.{prepared_before};
 ghost use Rattle.st_run.specs.Events.{Timed, Shows, snapshot, untimed};
 ghost use Rattle.st_run.specs.Moments.{Moment, ends_segment, standing, entries_ahead};
-ghost use Rattle.st_run.specs.Order.{AreInOrder, AreRising};
+ghost use Rattle.st_run.specs.Order.{AreInOrder, AreRising, shown_ticks, last_tick};
 ghost use Rattle.st_run.specs.Scenes.{IsScene};
-ghost use Rattle.st_run.specs.TimedRun.{timed_from, timed_run};
+ghost use Rattle.st_run.specs.TimedRun.{before, timed_from, timed_run};
 
 /// Without its timetable, a run is the plain run, whatever the delays, the levels and the snapshots are, and from each moment on.
 pub fn the_timed_run_is_the_run()
@@ -44,4 +44,15 @@ pub fn nothing_is_ahead_behind_an_end()
         tick ≤ m.tick + 1 + length m.dropped →
         prepared_before (tick + 1) (entries_ahead ds n (standing m)) ≡ [] }
     ensures state { (tick : ℕ) (taken : Option ℕ) (s : Machine) → snapshot tick taken s [] ≡ Shows tick s [] }
+{}
+
+/// The snapshots that are asked for up to the last tick of a run are shown, each once, and no others.
+pub fn snapshots_are_shown_up_to_the_end()
+    ensures { (ds snaps : List ℕ) (n left : ℕ) (c : Scene) → let events = timed_run ds n left c snaps in
+        shown_ticks events ≡ before (last_tick 0 events + 1) snaps }
+{}
+
+/// What comes between two entries is one print at most.
+pub fn prints_come_one_at_a_time()
+    ensures { (c : Scene) → length (settled c).happened ≤ 1 }
 {}

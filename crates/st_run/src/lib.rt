@@ -5,5 +5,6 @@ mod laws;
 
 pub use laws::{
     delays_change_nothing_but_ticks, events_come_in_order, nothing_is_ahead_behind_an_end,
-    runs_are_in_time, the_timed_run_is_the_run,
+    prints_come_one_at_a_time, runs_are_in_time, snapshots_are_shown_up_to_the_end,
+    the_timed_run_is_the_run,
 };
