@@ -23,16 +23,18 @@ pub record Level : Type 0 where
 
 -- ---- events
 
--- an entry is done and leaves this state, with its address and its row; an entry that ran ahead is dropped, with its address
--- and the tick at which it was prepared; at a tick a state and the entries ahead of it are shown, oldest first; and what else
--- happens in the plain run: words are printed, an interrupt is taken, the run ends
+-- an entry is done and leaves this state, with its address and its row; an entry that ran ahead is dropped,
+-- with its address and the tick at which it was prepared; at a tick a state and the entries ahead of it are
+-- shown, oldest first; and what else happens in the plain run: words are printed, an interrupt is taken, the
+-- run ends
 pub data Event : Type 0 where
   Completes : Machine → ℕ → Row → Event
   Drops : ℕ → ℕ → Event
   Shows : ℕ → Machine → List Level → Event
   Happens : Happening → Event
 
--- an event, with the number of entries that are done by then and the tick at which the last of them was
+-- an event, with the number of entries that are done by then and the tick at which the last of them was,
+-- 0 before the first
 pub record Timed : Type 0 where
   pub done : ℕ
   pub tick : ℕ
@@ -40,15 +42,18 @@ pub record Timed : Type 0 where
 
 -- ---- entries ahead
 
+-- where it is, and that it is dropped
 abbrev pub address_of : Ahead → ℕ
 address_of a = (plan_of a).place.address
 
 abbrev pub drop_of : Ahead → Event
 drop_of a = Drops (address_of a) a.row.p
 
+-- the index word that it changes early, and what that is in the state before its step
 abbrev pub changed_by : Option IndexChange → Machine → Option Changed
 changed_by None s = None
-changed_by (Some c) s = Some (record { number = c.number; before = word s (FIRST_INDEX_WORD + c.number) })
+changed_by (Some c) s =
+    Some (record { number = c.number; before = word s (FIRST_INDEX_WORD + c.number) })
 
 -- how it is shown at a tick
 abbrev pub level_at : ℕ → Ahead → Level
@@ -63,8 +68,8 @@ unfoldable pub with_index_words : List ℕ → Machine → Machine
 with_index_words xs s =
     record s { words = take FIRST_INDEX_WORD s.words ++ xs ++ drop FIRST_STORAGE_WORD s.words }
 
--- the state with these entries ahead of it, shown at a tick; the first of them is the table instruction of an interrupt
--- where one was taken
+-- the state with these entries ahead of it, shown at a tick; the first of them is the table instruction of
+-- an interrupt where one was taken
 unfoldable pub snapshot : ℕ → Option ℕ → Machine → List Ahead → Event
 snapshot tick taken s levels =
     Shows tick (with_index_words (split_words (length levels) taken s) s) (map (level_at tick) levels)

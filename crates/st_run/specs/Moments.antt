@@ -1,5 +1,5 @@
--- Where a run with its timetable stands: when an entry has just been done, and before the next one. The machine has the delays ds and
--- n levels.
+-- Where a run with its timetable stands: when an entry has just been done, and before the next one.
+-- The machine has the delays ds and n levels.
 use Rattle.std.specs.Prelude.{ℕ, suc, ◌+◌, Bool, false, ◌||◌, nat_lt, if◌then◌else◌, is_some, List, [], ◌++◌, length, replicate, Option, None}
 use Rattle.st_state.specs.Machine.{Machine}
 use Rattle.st_prep.specs.Plan.{plan}
@@ -10,14 +10,16 @@ use Rattle.st_banks.specs.declared.answers.LastAnswers.{LastAnswers}
 use Rattle.st_banks.specs.declared.answers.TheConstants.{BANKS}
 use Rattle.st_rows.specs.Rows.{opening, row, after}
 use Rattle.st_rows.specs.Asked.{Read, asked, made_before}
+use Rattle.st_rows.specs.declared.entry.Entry.{Entry}
 use Rattle.st_rows.specs.declared.front.Front.{Front}
 use Rattle.st_rows.specs.declared.front.Row.{Row}
 use Rattle.st_segment.specs.Entries.{entry}
 use Rattle.st_segment.specs.Ahead.{Ahead, ahead, prepared_before, reads_before}
 
--- An entry has just been done, at this tick, and nothing has come from outside since: the scene with the state that it leaves; the
--- front behind it; whether the guess was wrong that it was passed over by; and for the case that the segment ends here, the
--- entries that are prepared behind that guess, oldest first, and the last answers of the banks.
+-- An entry has just been done, at this tick, and nothing has come from outside since: the scene with the
+-- state that it leaves; the front behind it; whether the guess was wrong by which others ran ahead of it;
+-- and for the case that the segment ends here, the entries that are prepared behind that guess, oldest
+-- first, and the last answers of the banks.
 pub record Moment : Type 0 where
   pub scene : Scene
   pub tick : ℕ
@@ -26,8 +28,8 @@ pub record Moment : Type 0 where
   pub dropped : List Ahead
   pub banks : LastAnswers
 
--- What comes between two entries is over: the scene, the tick at which the last entry was done, and the front that the row of the next
--- one is computed from.
+-- What comes between two entries is over: the scene, the tick at which the last entry was done, and the
+-- front that the row of the next one is computed from.
 pub record Standing : Type 0 where
   pub scene : Scene
   pub tick : ℕ
@@ -66,11 +68,12 @@ abbrev pub has_waited : Moment → Bool
 has_waited m =
     rests (with_due_orders (with_due_signals m.scene.machine m.scene.signals m.scene.cards)).scene.machine
 
--- the segment ends here, if the run goes on: a branch was missed, a card came, the machine waited, or an interrupt is taken
+-- where the run goes on, the segment ends here if a branch was missed, a card came, the machine waited, or
+-- an interrupt is taken
 unfoldable pub ends_segment : Moment → Bool
 ends_segment m = m.missed || has_card m || has_waited m || is_some (interrupt (next_state m))
 
--- the front of the segment behind it: the levels are emptied one a tick
+-- the front of the segment behind it, which starts one tick later and one more for each entry that is dropped
 abbrev pub next_segment : Moment → Front
 next_segment m = opening m.banks (m.tick + 1 + length m.dropped)
 
@@ -86,12 +89,15 @@ standing m = record { scene = next_scene m; tick = m.tick; front = next_front m 
 abbrev pub taken : Standing → Option ℕ
 taken p = interrupt p.scene.machine
 
+abbrev pub oldest : Standing → Entry
+oldest p = entry (taken p) p.scene.machine
+
 -- its row, and the front behind it
 unfoldable pub next_row : List ℕ → ℕ → Standing → Row
-next_row ds n p = row ds n p.front (entry (taken p) p.scene.machine)
+next_row ds n p = row ds n p.front (oldest p)
 
 abbrev pub front_behind : List ℕ → ℕ → Standing → Front
-front_behind ds n p = after ds n p.front (entry (taken p) p.scene.machine)
+front_behind ds n p = after ds n p.front (oldest p)
 
 -- it, and the entries behind it, by guessed steps
 abbrev pub entries_ahead : List ℕ → ℕ → Standing → List Ahead
@@ -101,12 +107,12 @@ entries_ahead ds n p = ahead ds n n (taken p) p.scene.machine p.front
 abbrev pub entries_behind : List ℕ → ℕ → ℕ → Standing → List Ahead
 entries_behind ds n k p = ahead ds n k None (guess (taken p) p.scene.machine) (front_behind ds n p)
 
--- its reads, and those of the entries behind it that are prepared before the tick, and of the next one
+-- its reads, those of the entries behind it that are prepared before the tick, and of the one behind these
 abbrev pub reads_until : List ℕ → ℕ → ℕ → Standing → List Read
 reads_until ds n tick p =
-    asked ds n p.front (entry (taken p) p.scene.machine) ++ reads_before ds n tick (entries_behind ds n (suc n) p)
+    asked ds n p.front (oldest p) ++ reads_before ds n tick (entries_behind ds n (suc n) p)
 
--- the moment at which it is done
+-- the moment at which it is done: of the reads those are made that are accepted before
 unfoldable pub completed : List ℕ → ℕ → Standing → Moment
 completed ds n p =
     let tick = (next_row ds n p).c in

@@ -2,7 +2,8 @@
 use Rattle.std.specs.Prelude.{ℕ, ◌+◌, ◌≤◌, List, [], ◌∷◌, ◌++◌}
 use Rattle.st_run.specs.Events.{Event, Timed, Completes, Drops, Shows, Happens}
 
--- the tick at which an event is told: a snapshot at the one that was asked for, else that at which the last entry was done
+-- the tick at which an event is told: a snapshot at the one that was asked for, else that at which the last
+-- entry was done
 abbrev pub told_at : ℕ → Event → ℕ
 told_at tick (Completes s address row) = tick
 told_at tick (Drops address p) = tick
@@ -21,6 +22,7 @@ AreRising t (x ∷ xs) = (t ≤ x) × AreRising (x + 1) xs
 
 -- ---- snapshots, and the last tick
 
+-- a snapshot's tick
 abbrev pub asked_by : Event → List ℕ
 asked_by (Completes s address row) = []
 asked_by (Drops address p) = []

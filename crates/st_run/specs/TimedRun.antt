@@ -1,4 +1,5 @@
--- A whole run with its timetable: what happens, and at which ticks. The machine has the delays ds and n levels.
+-- A whole run with its timetable: what happens, and at which ticks. The machine has the delays ds and n
+-- levels.
 use Rattle.std.specs.Prelude.{ℕ, zero, suc, ◌+◌, nat_lt, if◌then◌else◌, List, [], ◌∷◌, ◌++◌, map, reverse}
 use Rattle.st_state.specs.Machine.{Machine}
 use Rattle.st_exec.specs.Step.{rests, address, interrupt}
@@ -39,7 +40,8 @@ happening_at m happening = at m.tick m.scene.machine (Happens happening)
 unfoldable pub between : Moment → List Timed
 between m =
     drops_if_ends m
-    ++ map (happening_at m) ((settled m.scene).happened ++ interrupts_by (interrupt (next_state m)) (next_state m))
+    ++ map (happening_at m)
+    ((settled m.scene).happened ++ interrupts_by (interrupt (next_state m)) (next_state m))
 
 -- ---- events until the next entry is done
 
@@ -55,6 +57,7 @@ completion ds n p =
     let m = completed ds n p in
     at m.tick m.scene.machine (Completes m.scene.machine (address p.scene.machine) (next_row ds n p))
 
+-- the snapshots that come before, and that
 unfoldable pub until_done : List ℕ → ℕ → Standing → List ℕ → List Timed
 until_done ds n p snaps =
     map (snapshot_at ds n p) (before (completed ds n p).tick snaps) ++ completion ds n p ∷ []
@@ -65,7 +68,8 @@ until_done ds n p snaps =
 abbrev pub last_snapshot_at : Moment → ℕ → Timed
 last_snapshot_at m tick = at m.tick m.scene.machine (Shows tick (next_state m) [])
 
--- the run ends: what is dropped, words that are printed, the snapshots up to this tick, and the end itself
+-- the run ends, and its last segment: what is dropped, words that are printed, the snapshots up to this
+-- tick, and the end itself
 unfoldable pub last_events : Moment → List ℕ → List Timed
 last_events m snaps =
     drops m
@@ -75,19 +79,21 @@ last_events m snaps =
 
 -- ---- the whole
 
--- the run from a moment on, in which so many entries may still be done, with snapshots at ticks that are to come; a rest is
--- tried before the budget
+-- the run from a moment on, in which so many entries may still be done, with snapshots at ticks that are to
+-- come; a rest is tried before the budget
 unfoldable pub timed_from : List ℕ → ℕ → ℕ → Moment → List ℕ → List Timed
 timed_from ds n zero m snaps = last_events m snaps
 timed_from ds n (suc left) m snaps =
     if rests (next_state m) then last_events m snaps
     else between m ++ until_done ds n (standing m) snaps
-    ++ timed_from ds n left (completed ds n (standing m)) (from (completed ds n (standing m)).tick snaps)
+    ++ timed_from ds n left (completed ds n (standing m))
+    (from (completed ds n (standing m)).tick snaps)
 
 -- the same before an entry, behind which so many more may be done
 abbrev pub timed_behind : List ℕ → ℕ → ℕ → Standing → List ℕ → List Timed
 timed_behind ds n left p snaps =
-    until_done ds n p snaps ++ timed_from ds n left (completed ds n p) (from (completed ds n p).tick snaps)
+    until_done ds n p snaps
+    ++ timed_from ds n left (completed ds n p) (from (completed ds n p).tick snaps)
 
 -- the whole run of a scene
 abbrev pub timed_run : List ℕ → ℕ → ℕ → Scene → List ℕ → List Timed

@@ -10,7 +10,8 @@ ghost use Rattle.st_run.specs.Order.{AreInOrder, AreRising, shown_ticks, last_ti
 ghost use Rattle.st_run.specs.Scenes.{IsScene};
 ghost use Rattle.st_run.specs.TimedRun.{before, timed_from, timed_run};
 
-/// Without its timetable, a run is the plain run, whatever the delays, the levels and the snapshots are, and from each moment on.
+/// Without its timetable a run is the plain run, whatever the delays, the levels and the snapshots are; and
+/// so it is from each moment on.
 pub fn the_timed_run_is_the_run()
     ensures whole { (ds snaps : List ℕ) (n left : ℕ) (c : Scene) →
         untimed (timed_run ds n left c snaps) ≡ (run left c).happened }
@@ -18,16 +19,18 @@ pub fn the_timed_run_is_the_run()
         untimed (timed_from ds n left m snaps) ≡ (run left m.scene).happened }
 {}
 
-/// So the same happens on machines with any delays and any numbers of levels: the same states, in the same order.
+/// So the same happens on machines with any delays and any numbers of levels: the same states, in the same
+/// order.
 pub fn delays_change_nothing_but_ticks()
     ensures { (ds es snaps shots : List ℕ) (n k left : ℕ) (c : Scene) →
         untimed (timed_run ds n left c snaps) ≡ untimed (timed_run es k left c shots) }
 {}
 
-/// Each event of a run comes in time, by 64 reads of the longest delay and four ticks for each entry that is done, and for one more: so
-/// does its end.
+/// Each event of a run comes in time, its end too: the ticks are 64 times (the longest delay and four) for
+/// each entry that is done and for one more, at most.
 pub fn runs_are_in_time()
-    ensures { (ds snaps : List ℕ) (most n left : ℕ) (c : Scene) → AreDelays most ds → n ≤ 8 → IsScene c →
+    ensures { (ds snaps : List ℕ) (most n left : ℕ) (c : Scene) →
+        AreDelays most ds → n ≤ 8 → IsScene c →
         All (λ (x : Timed). x.tick ≤ 64 * (most + 4) * (x.done + 1)) (timed_run ds n left c snaps) }
 {}
 
@@ -37,19 +40,21 @@ pub fn events_come_in_order()
         AreInOrder 0 (timed_run ds n left c snaps) }
 {}
 
-/// Behind the end of a segment nothing is ahead of the state until the next one starts, one tick later and one more for each entry that was
-/// dropped; and a snapshot of which nothing is ahead shows the state as it is.
+/// The snapshots that are asked for up to the last tick of a run are shown, each once, and no others.
+pub fn snapshots_are_shown_up_to_the_end()
+    ensures { (ds snaps : List ℕ) (n left : ℕ) (c : Scene) →
+        let events = timed_run ds n left c snaps in
+        shown_ticks events ≡ before (last_tick 0 events + 1) snaps }
+{}
+
+/// Behind the end of a segment nothing is ahead of the state until the next one starts, one tick later and
+/// one more for each entry that was dropped. A snapshot of which nothing is ahead shows the state as it is.
 pub fn nothing_is_ahead_behind_an_end()
     ensures ahead { (ds : List ℕ) (n tick : ℕ) (m : Moment) → ends_segment m ≡ true →
         tick ≤ m.tick + 1 + length m.dropped →
         prepared_before (tick + 1) (entries_ahead ds n (standing m)) ≡ [] }
-    ensures state { (tick : ℕ) (taken : Option ℕ) (s : Machine) → snapshot tick taken s [] ≡ Shows tick s [] }
-{}
-
-/// The snapshots that are asked for up to the last tick of a run are shown, each once, and no others.
-pub fn snapshots_are_shown_up_to_the_end()
-    ensures { (ds snaps : List ℕ) (n left : ℕ) (c : Scene) → let events = timed_run ds n left c snaps in
-        shown_ticks events ≡ before (last_tick 0 events + 1) snaps }
+    ensures state { (tick : ℕ) (taken : Option ℕ) (s : Machine) →
+        snapshot tick taken s [] ≡ Shows tick s [] }
 {}
 
 /// What comes between two entries is one print at most.

@@ -1,4 +1,5 @@
-//! A whole run with its timetable: each event of it with its tick, as definitions and laws. `docs/timetable.md` has the rules.
+//! A whole run with its timetable: each event of it with its tick, as definitions and laws.
+//! `docs/timetable.md` has the rules.
 #![tactic(auto, using(st_bits::specs::Storage::words_of_storage_is))]
 
 mod laws;
