@@ -3,6 +3,7 @@ pub mod Turns
 pub mod OrderLemmas
 pub mod ShownLemmas
 pub mod PrintLemmas
+pub mod GuessLemmas
 pub mod SceneLemmas
 pub mod DoneLemmas
 pub mod Bounds

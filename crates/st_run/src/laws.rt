@@ -1,11 +1,12 @@
 //! What holds of each run with its timetable.
-ghost use Rattle.std.specs.Prelude.{◌≡◌, ℕ, ◌+◌, ◌*◌, ◌≤◌, true, List, [], length, All, Option};
+ghost use Rattle.std.specs.Prelude.{◌≡◌, ℕ, ◌+◌, ◌*◌, ◌<◌, ◌≤◌, true, false, List, [], length, All, Option, None, IfSome};
 ghost use Rattle.st_state.specs.Machine.{Machine};
+ghost use Rattle.st_prep.specs.Plan.{plan};
 ghost use Rattle.st_exec.specs.Run.{Scene, settled, run};
 ghost use Rattle.st_rows.specs.Ranges.{AreDelays};
-ghost use Rattle.st_segment.specs.Ahead.{prepared_before};
+ghost use Rattle.st_segment.specs.Ahead.{ahead, prepared_before};
 ghost use Rattle.st_run.specs.Events.{Timed, Shows, snapshot, untimed};
-ghost use Rattle.st_run.specs.Moments.{Moment, ends_segment, standing, entries_ahead};
+ghost use Rattle.st_run.specs.Moments.{Moment, Standing, ends_segment, standing, taken, entries_ahead, entries_behind, completed};
 ghost use Rattle.st_run.specs.Order.{AreInOrder, AreRising, shown_ticks, last_tick};
 ghost use Rattle.st_run.specs.Scenes.{IsScene};
 ghost use Rattle.st_run.specs.TimedRun.{before, timed_from, timed_run};
@@ -60,4 +61,24 @@ pub fn nothing_is_ahead_behind_an_end()
 /// What comes between two entries is one print at most.
 pub fn prints_come_one_at_a_time()
     ensures { (c : Scene) → length (settled c).happened ≤ 1 }
+{}
+
+/// What runs behind the guess of an entry runs ahead of the state that it leaves, where the guess was right;
+/// and where it was wrong, of that state with the counter of the guess.
+pub fn dropped_entries_follow_the_guess()
+    ensures right { (ds : List ℕ) (n k : ℕ) (p : Standing) → IsScene p.scene →
+        let m = completed ds n p in m.missed ≡ false →
+        entries_behind ds n k p ≡ ahead ds n k None m.scene.machine m.front }
+    ensures missed { (ds : List ℕ) (n k : ℕ) (p : Standing) → IsScene p.scene →
+        let m = completed ds n p in let h = (plan p.scene.machine (taken p)).following in
+        m.missed ≡ true →
+        entries_behind ds n k p ≡ ahead ds n k None (record m.scene.machine { ic = h }) m.front }
+{}
+
+/// What a run starts from is kept between two entries and by each of them: states, and cards of eight words.
+pub fn scenes_are_kept()
+    ensures between { (m : Moment) → IsScene m.scene → IsScene (standing m).scene }
+    ensures done { (ds : List ℕ) (n : ℕ) (p : Standing) → IsScene p.scene →
+        IsScene (completed ds n p).scene }
+    ensures taken { (p : Standing) → IfSome (taken p) (λ i. i < 64) }
 {}
