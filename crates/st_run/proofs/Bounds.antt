@@ -27,8 +27,8 @@ use Rattle.st_segment.specs.Ahead.{Ahead, ahead, prepared_before}
 use Rattle.st_segment.proofs.EntryRanges.{entry-ranges}
 use Rattle.st_run.specs.Events.{Event, Timed, Happens, drop_of}
 use Rattle.st_run.specs.Scenes.{IsScene}
-use Rattle.st_run.specs.Moments.{Moment, Standing, start, unread, next_scene, next_state, ends_segment, next_segment, next_front, standing, taken, next_row, front_behind, entries_behind, reads_until, completed}
-use Rattle.st_run.specs.TimedRun.{at, before, from, snapshot_at, last_snapshot_at, drops, drops_if_ends, happening_at, between, completion, until_done, last_events, timed_from}
+use Rattle.st_run.specs.Moments.{Moment, Standing, start, unread, next_scene, next_state, ends_segment, next_segment, next_front, standing, taken, next_row, front_after, entries_behind, reads_until, next_moment}
+use Rattle.st_run.specs.TimedRun.{at, ticks_before, ticks_from, snapshot_at, last_snapshot_at, drops, drops_if_ends, happening_at, between, completion, until_done, last_events, timed_from}
 use Rattle.st_run.proofs.DoneLemmas.{settled-done}
 use Rattle.st_run.proofs.SceneLemmas.{interrupt-below, settled-scene, stepped-scene}
 
@@ -90,8 +90,8 @@ module _ (most n : ℕ) (ds : List ℕ) (are : AreDelays most ds) (levels : n �
       (next_segment-tight m is, omega (arith, is.few, levels))
       (is.tight, omega (arith, is.last))
 
-  completed-is : (p : Standing) → IsScene p.scene → IsTight most p.front → IsMoment most n (completed ds n p)
-  unfolding completed next_row row after
+  completed-is : (p : Standing) → IsScene p.scene → IsTight most p.front → IsMoment most n (next_moment ds n p)
+  unfolding next_moment next_row row after
   completed-is p is tight =
       let s = p.scene.machine in
       let t = taken p in
@@ -104,17 +104,17 @@ module _ (most n : ℕ) (ds : List ℕ) (are : AreDelays most ds) (levels : n �
         scene = stepped-scene p.scene is;
         tight = tight-after most ds are n p.front e fits tight;
         last = omega arith;
-        few = omega (arith, prepared-few tick (entries_behind ds n n p), ahead-few ds n n None (guess t s) (front_behind ds n p));
+        few = omega (arith, prepared-few tick (entries_behind ds n n p), ahead-few ds n n None (guess t s) (front_after ds n p));
         banks =
             All-weaker (λ x. x ≤ (made_before ds tick (reads_until ds n tick p) p.front.bus).free + most) (λ x. x ≤ tick + most)
             (λ x low. omega (arith, made.1)) _ made.0.banks;
       }
 
-  next-is : (m : Moment) → IsMoment most n m → IsMoment most n (completed ds n (standing m))
+  next-is : (m : Moment) → IsMoment most n m → IsMoment most n (next_moment ds n (standing m))
   next-is m is = completed-is (standing m) (settled-scene m.scene is.scene) (next_front-is m is).0
 
-  next-tick : (m : Moment) → IsMoment most n m → (completed ds n (standing m)).tick ≤ m.tick + 64 * (most + 4)
-  unfolding completed next_row row
+  next-tick : (m : Moment) → IsMoment most n m → (next_moment ds n (standing m)).tick ≤ m.tick + 64 * (most + 4)
+  unfolding next_moment next_row row
   next-tick m is =
       let s = next_state m in
       let t = taken (standing m) in
@@ -123,8 +123,8 @@ module _ (most n : ℕ) (ds : List ℕ) (are : AreDelays most ds) (levels : n �
       let f = next_front-is m is in
       omega (arith, f.1, c-within most ds are (next_front m) (entry t s) fits f.0 n)
 
-  next-done : (m : Moment) → (completed ds n (standing m)).scene.machine.done ≡ m.scene.machine.done + 1
-  unfolding completed
+  next-done : (m : Moment) → (next_moment ds n (standing m)).scene.machine.done ≡ m.scene.machine.done + 1
+  unfolding next_moment
   next-done m =
       let same : (next_state m).done ≡ m.scene.machine.done = settled-done m.scene in
       step-done (next_state m) ∙ ap (λ d. d + 1) same
@@ -167,21 +167,21 @@ module _ (b : ℕ) (m : Moment) (has : HasTime b m.tick m.scene.machine) where
   unfolding last_events
   last_events-time snaps =
       let came = map (happening_at m) (settled m.scene).happened in
-      let shows = map (last_snapshot_at m) (before (m.tick + 1) snaps) in
+      let shows = map (last_snapshot_at m) (ticks_before (m.tick + 1) snaps) in
       let last = happening_at m (Ends (next_state m) (rests (next_state m))) in
       All-append (IsInTime b) (drops m ++ came ++ shows) (last ∷ [])
       (All-append (IsInTime b) (drops m ++ came) shows
       (All-append (IsInTime b) (drops m) came drops-time (happenings-time (settled m.scene).happened))
-      (each-time b (last_snapshot_at m) (before (m.tick + 1) snaps)
+      (each-time b (last_snapshot_at m) (ticks_before (m.tick + 1) snaps)
       (λ x. at-time b m.tick m.scene.machine (last_snapshot_at m x).event has)))
       (All-cons (IsInTime b) last [] (at-time b m.tick m.scene.machine last.event has) (All-nil (IsInTime b)))
 
 until_done-time : (b : ℕ) (ds : List ℕ) (n : ℕ) (p : Standing) (snaps : List ℕ) → HasTime b p.tick p.scene.machine
-    → HasTime b (completed ds n p).tick (completed ds n p).scene.machine → All (IsInTime b) (until_done ds n p snaps)
+    → HasTime b (next_moment ds n p).tick (next_moment ds n p).scene.machine → All (IsInTime b) (until_done ds n p snaps)
 unfolding until_done
 until_done-time b ds n p snaps has next_has =
-    let next = completed ds n p in
-    let due = before next.tick snaps in
+    let next = next_moment ds n p in
+    let due = ticks_before next.tick snaps in
     let last = completion ds n p in
     All-append (IsInTime b) (map (snapshot_at ds n p) due) (last ∷ [])
     (each-time b (snapshot_at ds n p) due (λ x. at-time b p.tick p.scene.machine (snapshot_at ds n p x).event has))
@@ -197,11 +197,11 @@ module _ (most n : ℕ) (ds : List ℕ) (are : AreDelays most ds) (levels : n �
       subst (λ d. m.tick ≤ b * d) (sym same) has
 
   next-time : (m : Moment) → IsMoment most n m → HasTime (64 * (most + 4)) m.tick m.scene.machine
-      → HasTime (64 * (most + 4)) (completed ds n (standing m)).tick (completed ds n (standing m)).scene.machine
+      → HasTime (64 * (most + 4)) (next_moment ds n (standing m)).tick (next_moment ds n (standing m)).scene.machine
   next-time m is has =
       let b = 64 * (most + 4) in
       let d = m.scene.machine.done in
-      let next = completed ds n (standing m) in
+      let next = next_moment ds n (standing m) in
       let more : next.scene.machine.done ≡ d + 1 = next-done most n ds are levels m in
       let tick : next.tick ≤ m.tick + b = next-tick most n ds are levels m is in
       let sum : b * (d + 1) ≡ b * d + b * 1 = mul-add b d 1 in
@@ -216,16 +216,16 @@ module _ (most n : ℕ) (ds : List ℕ) (are : AreDelays most ds) (levels : n �
   timed-time (suc left) m snaps is has =
       let b = 64 * (most + 4) in
       let p = standing m in
-      let next = completed ds n p in
+      let next = next_moment ds n p in
       let next_has : HasTime b next.tick next.scene.machine = next-time m is has in
-      let rest = timed_from ds n left next (from next.tick snaps) in
+      let rest = timed_from ds n left next (ticks_from next.tick snaps) in
       let turn = between m ++ until_done ds n p snaps in
       of_choice (λ xs. All (IsInTime b) xs) (rests (next_state m)) (last_events m snaps) (turn ++ rest)
       (last_events-time b m has snaps)
       (All-append (IsInTime b) turn rest
       (All-append (IsInTime b) (between m) (until_done ds n p snaps) (between-time b m has)
       (until_done-time b ds n p snaps (standing-time b m has) next_has))
-      (timed-time left next (from next.tick snaps) (next-is most n ds are levels m is) next_has))
+      (timed-time left next (ticks_from next.tick snaps) (next-is most n ds are levels m is) next_has))
 
   start-is : (c : Scene) → IsScene c → IsMoment most n (start c)
   start-is c is = record {

@@ -7,8 +7,8 @@ use Rattle.st_exec.specs.Step.{interrupt, rests}
 use Rattle.st_exec.specs.Run.{Happening, Ends, settled, interrupts_by}
 use Rattle.st_rows.specs.Rows.{row, tick_c, after}
 use Rattle.st_run.specs.Events.{Timed, drop_of, snapshot}
-use Rattle.st_run.specs.Moments.{Moment, Standing, next_state, ends_segment, next_segment, next_front, standing, next_row, completed}
-use Rattle.st_run.specs.TimedRun.{at, before, from, snapshot_at, last_snapshot_at, drops, drops_if_ends, happening_at, between, completion, until_done, last_events, timed_from}
+use Rattle.st_run.specs.Moments.{Moment, Standing, next_state, ends_segment, next_segment, next_front, standing, next_row, next_moment}
+use Rattle.st_run.specs.TimedRun.{at, ticks_before, ticks_from, snapshot_at, last_snapshot_at, drops, drops_if_ends, happening_at, between, completion, until_done, last_events, timed_from}
 use Rattle.st_run.specs.Order.{told_at, AreInOrder, AreRising}
 
 -- ---- lists of ticks
@@ -26,8 +26,8 @@ rising-weaker t u (x ∷ xs) le is = (omega (arith, is.0), is.1)
 pub test-lt : (x u : ℕ) → ((nat_lt x u ≡ true) × (x < u)) ⊎ ((nat_lt x u ≡ false) × (u ≤ x))
 test-lt x u = elim (cases_Bool (nat_lt x u)) [ inl t ↦ inl (t, ltb-true x u t) | inr f ↦ inr (f, ltb-false x u f) ]
 
-rising-from : (t u : ℕ) (xs : List ℕ) → t ≤ u → AreRising t xs → AreRising u (from u xs)
-unfolding AreRising from
+rising-from : (t u : ℕ) (xs : List ℕ) → t ≤ u → AreRising t xs → AreRising u (ticks_from u xs)
+unfolding AreRising ticks_from
 rising-from t u [] le is = tt
 rising-from t u (x ∷ xs) le is = elim (test-lt x u) [
   | inl early ↦ rw early.0 (rising-from (x + 1) u xs (omega (arith, early.1)) is.1)
@@ -58,8 +58,8 @@ leads-at t f (x ∷ xs) told ys is = rw (told x) (omega arith, leads-at t f xs t
 
 -- snapshots at rising ticks, those before v
 leads-snapshots : (t u v : ℕ) (f : ℕ → Timed) (xs : List ℕ) → ((x : ℕ) → told_at (f x).tick (f x).event ≡ x)
-    → t ≤ u → v ≤ u + 1 → AreRising t xs → Leads t u (map f (before v xs))
-unfolding AreInOrder AreRising before
+    → t ≤ u → v ≤ u + 1 → AreRising t xs → Leads t u (map f (ticks_before v xs))
+unfolding AreInOrder AreRising ticks_before
 leads-snapshots t u v f [] told le near rising ys is = order-weaker t u ys le is
 leads-snapshots t u v f (x ∷ xs) told le near rising ys is = elim (test-lt x v) [
   | inl early ↦
@@ -91,33 +91,33 @@ module _ (m : Moment) where
   unfolding last_events AreInOrder
   last-order snaps rising =
       let came = map (happening_at m) (settled m.scene).happened in
-      let shows = map (last_snapshot_at m) (before (m.tick + 1) snaps) in
+      let shows = map (last_snapshot_at m) (ticks_before (m.tick + 1) snaps) in
       let last = happening_at m (Ends (next_state m) (rests (next_state m))) in
       leads-append m.tick m.tick m.tick (drops m ++ came) shows
       (leads-append m.tick m.tick m.tick (drops m) came drops-lead (happenings-lead (settled m.scene).happened))
       (leads-snapshots m.tick m.tick (m.tick + 1) (last_snapshot_at m) snaps (λ x. refl) (omega arith) (omega arith) rising)
       (last ∷ []) (omega arith, tt)
 
-until_done-lead : (ds : List ℕ) (n : ℕ) (p : Standing) (snaps : List ℕ) → p.tick ≤ (completed ds n p).tick
-    → AreRising p.tick snaps → Leads p.tick (completed ds n p).tick (until_done ds n p snaps)
+until_done-lead : (ds : List ℕ) (n : ℕ) (p : Standing) (snaps : List ℕ) → p.tick ≤ (next_moment ds n p).tick
+    → AreRising p.tick snaps → Leads p.tick (next_moment ds n p).tick (until_done ds n p snaps)
 unfolding until_done snapshot
 until_done-lead ds n p snaps later rising =
-    let tick = (completed ds n p).tick in
-    leads-append p.tick tick tick (map (snapshot_at ds n p) (before tick snaps)) (completion ds n p ∷ [])
+    let tick = (next_moment ds n p).tick in
+    leads-append p.tick tick tick (map (snapshot_at ds n p) (ticks_before tick snaps)) (completion ds n p ∷ [])
     (leads-snapshots p.tick tick tick (snapshot_at ds n p) snaps (λ x. refl) later (omega arith) rising)
     (leads-one tick tick (completion ds n p) refl (omega arith))
 
 -- ---- the run
 
 module _ (ds : List ℕ) (n : ℕ) where
-  pub next-later : (m : Moment) → m.front.c ≡ m.tick → m.tick ≤ (completed ds n (standing m)).tick
-  unfolding completed next_row row tick_c next_front
+  pub next-later : (m : Moment) → m.front.c ≡ m.tick → m.tick ≤ (next_moment ds n (standing m)).tick
+  unfolding next_moment next_row row tick_c next_front
   next-later m same =
       let front : m.tick ≤ (next_front m).c = of_choice (λ f. m.tick ≤ f.c) (ends_segment m) (next_segment m) m.front (omega arith) (omega (arith, same)) in
       omega (arith, front)
 
-  pub next-same : (p : Standing) → (completed ds n p).front.c ≡ (completed ds n p).tick
-  unfolding completed next_row row after
+  pub next-same : (p : Standing) → (next_moment ds n p).front.c ≡ (next_moment ds n p).tick
+  unfolding next_moment next_row row after
   next-same p = refl
 
   pub timed-order : (left : ℕ) (m : Moment) (snaps : List ℕ) → m.front.c ≡ m.tick → AreRising m.tick snaps
@@ -126,11 +126,11 @@ module _ (ds : List ℕ) (n : ℕ) where
   timed-order zero m snaps same rising = last-order m snaps rising
   timed-order (suc left) m snaps same rising =
       let p = standing m in
-      let next = completed ds n p in
+      let next = next_moment ds n p in
       let later : m.tick ≤ next.tick = next-later m same in
       let turn = between m ++ until_done ds n p snaps in
-      let rest = timed_from ds n left next (from next.tick snaps) in
+      let rest = timed_from ds n left next (ticks_from next.tick snaps) in
       of_choice (λ xs. AreInOrder m.tick xs) (rests (next_state m)) (last_events m snaps) (turn ++ rest)
       (last-order m snaps rising)
       (leads-append m.tick m.tick next.tick (between m) (until_done ds n p snaps) (between-lead m) (until_done-lead ds n p snaps later rising)
-      rest (timed-order left next (from next.tick snaps) (next-same p) (rising-from m.tick next.tick snaps later rising)))
+      rest (timed-order left next (ticks_from next.tick snaps) (next-same p) (rising-from m.tick next.tick snaps later rising)))

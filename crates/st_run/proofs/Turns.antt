@@ -11,8 +11,8 @@ use Rattle.st_segment.specs.Entries.{entry}
 use Rattle.st_segment.specs.Ahead.{ahead, prepared_before}
 use Rattle.st_segment.specs.Guesses.{split_words}
 use Rattle.st_run.specs.Events.{Shows, with_index_words, snapshot}
-use Rattle.st_run.specs.Moments.{Moment, Standing, next_state, ends_segment, next_segment, next_front, standing, taken, entries_ahead, completed}
-use Rattle.st_run.specs.TimedRun.{before, from, snapshot_at, between, completion, until_done, last_events, timed_from, timed_behind}
+use Rattle.st_run.specs.Moments.{Moment, Standing, next_state, ends_segment, next_segment, next_front, standing, taken, entries_ahead, next_moment}
+use Rattle.st_run.specs.TimedRun.{ticks_before, ticks_from, snapshot_at, between, completion, until_done, last_events, timed_from, timed_behind}
 
 -- ---- turns
 
@@ -35,8 +35,8 @@ goes_on-some : (ds : List ℕ) (n left : ℕ) (m : Moment) (snaps : List ℕ) �
     → timed_from ds n (suc left) m snaps ≡ between m ++ timed_behind ds n left (standing m) snaps
 unfolding timed_from
 goes_on-some ds n left m snaps h =
-    let next = completed ds n (standing m) in
-    rw h (append_assoc (between m) (until_done ds n (standing m) snaps) (timed_from ds n left next (from next.tick snaps)))
+    let next = next_moment ds n (standing m) in
+    rw h (append_assoc (between m) (until_done ds n (standing m) snaps) (timed_from ds n left next (ticks_from next.tick snaps)))
 
 pub timed-goes_on : (ds : List ℕ) (n left : ℕ) (m : Moment) (snaps : List ℕ) → left ≢ 0 → rests (next_state m) ≡ false
     → timed_from ds n left m snaps ≡ between m ++ timed_behind ds n (left - 1) (standing m) snaps
@@ -48,20 +48,20 @@ timed-goes_on ds n (suc left) m snaps some h =
 -- ---- before an entry is done
 
 -- a snapshot that is due before is shown first
-pub behind-snapshot : (ds : List ℕ) (n left : ℕ) (p : Standing) (x : ℕ) (xs : List ℕ) → x < (completed ds n p).tick
+pub behind-snapshot : (ds : List ℕ) (n left : ℕ) (p : Standing) (x : ℕ) (xs : List ℕ) → x < (next_moment ds n p).tick
     → timed_behind ds n left p (x ∷ xs) ≡ snapshot_at ds n p x ∷ timed_behind ds n left p xs
-unfolding until_done before from
-behind-snapshot ds n left p x xs early = rw (lt-ltb x (completed ds n p).tick early) refl
+unfolding until_done ticks_before ticks_from
+behind-snapshot ds n left p x xs early = rw (lt-ltb x (next_moment ds n p).tick early) refl
 
 -- where none is, the entry is done
-pub behind-done : (ds : List ℕ) (n left : ℕ) (p : Standing) (x : ℕ) (xs : List ℕ) → (completed ds n p).tick ≤ x
-    → timed_behind ds n left p (x ∷ xs) ≡ completion ds n p ∷ timed_from ds n left (completed ds n p) (x ∷ xs)
-unfolding until_done before from
-behind-done ds n left p x xs late = rw (le-ltb x (completed ds n p).tick late) refl
+pub behind-done : (ds : List ℕ) (n left : ℕ) (p : Standing) (x : ℕ) (xs : List ℕ) → (next_moment ds n p).tick ≤ x
+    → timed_behind ds n left p (x ∷ xs) ≡ completion ds n p ∷ timed_from ds n left (next_moment ds n p) (x ∷ xs)
+unfolding until_done ticks_before ticks_from
+behind-done ds n left p x xs late = rw (le-ltb x (next_moment ds n p).tick late) refl
 
 pub behind-none : (ds : List ℕ) (n left : ℕ) (p : Standing)
-    → timed_behind ds n left p [] ≡ completion ds n p ∷ timed_from ds n left (completed ds n p) []
-unfolding until_done before from
+    → timed_behind ds n left p [] ≡ completion ds n p ∷ timed_from ds n left (next_moment ds n p) []
+unfolding until_done ticks_before ticks_from
 behind-none ds n left p = refl
 
 -- ---- snapshots of which nothing is ahead

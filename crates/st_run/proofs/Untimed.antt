@@ -4,8 +4,8 @@ use Rattle.std.proofs.Common.{◌≡◌, ℕ, zero, suc, ◌+◌, Bool, true, fa
 use Rattle.st_exec.specs.Step.{step, rests, address, interrupt}
 use Rattle.st_exec.specs.Run.{Happening, Executes, Ends, settled, interrupts_by, Ran, ended, stepped, happens, goes_on, run}
 use Rattle.st_run.specs.Events.{Timed, plain, untimed, drop_of, snapshot}
-use Rattle.st_run.specs.Moments.{Moment, Standing, next_scene, next_state, ends_segment, standing, completed}
-use Rattle.st_run.specs.TimedRun.{at, before, from, snapshot_at, last_snapshot_at, drops, drops_if_ends, happening_at, between, completion, until_done, last_events, timed_from}
+use Rattle.st_run.specs.Moments.{Moment, Standing, next_scene, next_state, ends_segment, standing, next_moment}
+use Rattle.st_run.specs.TimedRun.{at, ticks_before, ticks_from, snapshot_at, last_snapshot_at, drops, drops_if_ends, happening_at, between, completion, until_done, last_events, timed_from}
 
 -- ---- lists of events
 
@@ -54,9 +54,9 @@ between-plain m =
 
 until_done-plain : (ds : List ℕ) (n : ℕ) (p : Standing) (snaps : List ℕ)
     → untimed (until_done ds n p snaps) ≡ Executes (step p.scene.machine) (address p.scene.machine) ∷ []
-unfolding until_done completed untimed
+unfolding until_done next_moment untimed
 until_done-plain ds n p snaps =
-    let due = before (completed ds n p).tick snaps in
+    let due = ticks_before (next_moment ds n p).tick snaps in
     let last = completion ds n p ∷ [] in
     untimed-append (map (snapshot_at ds n p) due) last
     ∙ ap (λ xs. xs ++ untimed last) (snapshots-none ds n p due)
@@ -77,12 +77,12 @@ last_events-plain : (m : Moment) (snaps : List ℕ) → untimed (last_events m s
 unfolding last_events untimed
 last_events-plain m snaps =
     let came = map (happening_at m) (settled m.scene).happened in
-    let shows = map (last_snapshot_at m) (before (m.tick + 1) snaps) in
+    let shows = map (last_snapshot_at m) (ticks_before (m.tick + 1) snaps) in
     let last = happening_at m (Ends (next_state m) (rests (next_state m))) ∷ [] in
     untimed-append (drops m ++ came ++ shows) last
     ∙ ap (λ xs. xs ++ untimed last)
     (untimed-append (drops m ++ came) shows
-    ∙ ap (λ xs. untimed (drops m ++ came) ++ xs) (none-of (last_snapshot_at m) (before (m.tick + 1) snaps) (λ x. refl))
+    ∙ ap (λ xs. untimed (drops m ++ came) ++ xs) (none-of (last_snapshot_at m) (ticks_before (m.tick + 1) snaps) (λ x. refl))
     ∙ append-nil (untimed (drops m ++ came))
     ∙ untimed-append (drops m) came
     ∙ ap (λ xs. xs ++ untimed came) (drops-none m)
@@ -92,10 +92,10 @@ last_events-plain m snaps =
 
 module _ (ds : List ℕ) (n left : ℕ) (m : Moment) (snaps : List ℕ) where
   abbrev next : Moment
-  next = completed ds n (standing m)
+  next = next_moment ds n (standing m)
 
   abbrev rest : List Timed
-  rest = timed_from ds n left next (from next.tick snaps)
+  rest = timed_from ds n left next (ticks_from next.tick snaps)
 
   abbrev later : Ran
   later = run left (stepped (next_scene m))
@@ -113,8 +113,8 @@ module _ (ds : List ℕ) (n left : ℕ) (m : Moment) (snaps : List ℕ) where
 
 pub timed-plain : (ds : List ℕ) (n left : ℕ) (m : Moment) (snaps : List ℕ)
     → untimed (timed_from ds n left m snaps) ≡ (run left m.scene).happened
-unfolding timed_from run completed
+unfolding timed_from run next_moment
 timed-plain ds n zero m snaps = last_events-plain m snaps
 timed-plain ds n (suc left) m snaps =
-    let after = completed ds n (standing m) in
-    turns-plain ds n left m snaps (rests (next_state m)) (timed-plain ds n left after (from after.tick snaps))
+    let after = next_moment ds n (standing m) in
+    turns-plain ds n left m snaps (rests (next_state m)) (timed-plain ds n left after (ticks_from after.tick snaps))

@@ -96,8 +96,8 @@ oldest p = entry (taken p) p.scene.machine
 unfoldable pub next_row : List ℕ → ℕ → Standing → Row
 next_row ds n p = row ds n p.front (oldest p)
 
-abbrev pub front_behind : List ℕ → ℕ → Standing → Front
-front_behind ds n p = after ds n p.front (oldest p)
+abbrev pub front_after : List ℕ → ℕ → Standing → Front
+front_after ds n p = after ds n p.front (oldest p)
 
 -- it, and the entries behind it, by guessed steps
 abbrev pub entries_ahead : List ℕ → ℕ → Standing → List Ahead
@@ -105,7 +105,7 @@ entries_ahead ds n p = ahead ds n n (taken p) p.scene.machine p.front
 
 -- k entries behind its guess
 abbrev pub entries_behind : List ℕ → ℕ → ℕ → Standing → List Ahead
-entries_behind ds n k p = ahead ds n k None (guess (taken p) p.scene.machine) (front_behind ds n p)
+entries_behind ds n k p = ahead ds n k None (guess (taken p) p.scene.machine) (front_after ds n p)
 
 -- its reads, those of the entries behind it that are prepared before the tick, and of the one behind these
 abbrev pub reads_until : List ℕ → ℕ → ℕ → Standing → List Read
@@ -113,13 +113,13 @@ reads_until ds n tick p =
     asked ds n p.front (oldest p) ++ reads_before ds n tick (entries_behind ds n (suc n) p)
 
 -- the moment at which it is done: of the reads those are made that are accepted before
-unfoldable pub completed : List ℕ → ℕ → Standing → Moment
-completed ds n p =
+unfoldable pub next_moment : List ℕ → ℕ → Standing → Moment
+next_moment ds n p =
     let tick = (next_row ds n p).c in
     record {
       scene = stepped p.scene;
       tick = tick;
-      front = front_behind ds n p;
+      front = front_after ds n p;
       missed = is_missed (plan p.scene.machine (taken p)) p.scene.machine;
       dropped = prepared_before tick (entries_behind ds n n p);
       banks = (made_before ds tick (reads_until ds n tick p) p.front.bus).banks;

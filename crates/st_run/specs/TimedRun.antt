@@ -6,7 +6,7 @@ use Rattle.st_exec.specs.Step.{rests, address, interrupt}
 use Rattle.st_exec.specs.Run.{Scene, Happening, Ends, settled, interrupts_by}
 use Rattle.st_segment.specs.Ahead.{prepared_before}
 use Rattle.st_run.specs.Events.{Event, Timed, Completes, Shows, Happens, drop_of, snapshot}
-use Rattle.st_run.specs.Moments.{Moment, Standing, start, next_state, ends_segment, standing, taken, next_row, entries_ahead, completed}
+use Rattle.st_run.specs.Moments.{Moment, Standing, start, next_state, ends_segment, standing, taken, next_row, entries_ahead, next_moment}
 
 -- an event by which the last entry was done at the tick, and left the state
 abbrev pub at : ℕ → Machine → Event → Timed
@@ -15,13 +15,13 @@ at tick s event = record { done = s.done; tick = tick; event = event }
 -- ---- when snapshots are shown
 
 -- of ticks in order those before the tick t, and the others
-unfoldable pub before : ℕ → List ℕ → List ℕ
-before t [] = []
-before t (x ∷ xs) = if nat_lt x t then x ∷ before t xs else []
+unfoldable pub ticks_before : ℕ → List ℕ → List ℕ
+ticks_before t [] = []
+ticks_before t (x ∷ xs) = if nat_lt x t then x ∷ ticks_before t xs else []
 
-unfoldable pub from : ℕ → List ℕ → List ℕ
-from t [] = []
-from t (x ∷ xs) = if nat_lt x t then from t xs else x ∷ xs
+unfoldable pub ticks_from : ℕ → List ℕ → List ℕ
+ticks_from t [] = []
+ticks_from t (x ∷ xs) = if nat_lt x t then ticks_from t xs else x ∷ xs
 
 -- ---- events at the tick of a moment
 
@@ -54,13 +54,13 @@ snapshot_at ds n p tick =
 -- the next entry is done
 abbrev pub completion : List ℕ → ℕ → Standing → Timed
 completion ds n p =
-    let m = completed ds n p in
+    let m = next_moment ds n p in
     at m.tick m.scene.machine (Completes m.scene.machine (address p.scene.machine) (next_row ds n p))
 
 -- the snapshots that come before, and that
 unfoldable pub until_done : List ℕ → ℕ → Standing → List ℕ → List Timed
 until_done ds n p snaps =
-    map (snapshot_at ds n p) (before (completed ds n p).tick snaps) ++ completion ds n p ∷ []
+    map (snapshot_at ds n p) (ticks_before (next_moment ds n p).tick snaps) ++ completion ds n p ∷ []
 
 -- ---- the end
 
@@ -74,7 +74,7 @@ unfoldable pub last_events : Moment → List ℕ → List Timed
 last_events m snaps =
     drops m
     ++ map (happening_at m) (settled m.scene).happened
-    ++ map (last_snapshot_at m) (before (m.tick + 1) snaps)
+    ++ map (last_snapshot_at m) (ticks_before (m.tick + 1) snaps)
     ++ happening_at m (Ends (next_state m) (rests (next_state m))) ∷ []
 
 -- ---- the whole
@@ -86,14 +86,14 @@ timed_from ds n zero m snaps = last_events m snaps
 timed_from ds n (suc left) m snaps =
     if rests (next_state m) then last_events m snaps
     else between m ++ until_done ds n (standing m) snaps
-    ++ timed_from ds n left (completed ds n (standing m))
-    (from (completed ds n (standing m)).tick snaps)
+    ++ timed_from ds n left (next_moment ds n (standing m))
+    (ticks_from (next_moment ds n (standing m)).tick snaps)
 
 -- the same before an entry, behind which so many more may be done
 abbrev pub timed_behind : List ℕ → ℕ → ℕ → Standing → List ℕ → List Timed
 timed_behind ds n left p snaps =
     until_done ds n p snaps
-    ++ timed_from ds n left (completed ds n p) (from (completed ds n p).tick snaps)
+    ++ timed_from ds n left (next_moment ds n p) (ticks_from (next_moment ds n p).tick snaps)
 
 -- the whole run of a scene
 abbrev pub timed_run : List ℕ → ℕ → ℕ → Scene → List ℕ → List Timed

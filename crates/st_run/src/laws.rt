@@ -6,10 +6,10 @@ ghost use Rattle.st_exec.specs.Run.{Scene, settled, run};
 ghost use Rattle.st_rows.specs.Ranges.{AreDelays};
 ghost use Rattle.st_segment.specs.Ahead.{ahead, prepared_before};
 ghost use Rattle.st_run.specs.Events.{Timed, Shows, snapshot, untimed};
-ghost use Rattle.st_run.specs.Moments.{Moment, Standing, ends_segment, standing, taken, entries_ahead, entries_behind, completed};
+ghost use Rattle.st_run.specs.Moments.{Moment, Standing, ends_segment, standing, taken, entries_ahead, entries_behind, next_moment};
 ghost use Rattle.st_run.specs.Order.{AreInOrder, AreRising, shown_ticks, last_tick};
 ghost use Rattle.st_run.specs.Scenes.{IsScene};
-ghost use Rattle.st_run.specs.TimedRun.{before, timed_from, timed_run};
+ghost use Rattle.st_run.specs.TimedRun.{ticks_before, timed_from, timed_run};
 
 /// Without its timetable a run is the plain run, whatever the delays, the levels and the snapshots are; and
 /// so it is from each moment on.
@@ -45,7 +45,7 @@ pub fn events_come_in_order()
 pub fn snapshots_are_shown_up_to_the_end()
     ensures { (ds snaps : List ℕ) (n left : ℕ) (c : Scene) →
         let events = timed_run ds n left c snaps in
-        shown_ticks events ≡ before (last_tick 0 events + 1) snaps }
+        shown_ticks events ≡ ticks_before (last_tick 0 events + 1) snaps }
 {}
 
 /// Behind the end of a segment nothing is ahead of the state until the next one starts, one tick later and
@@ -67,10 +67,10 @@ pub fn prints_come_one_at_a_time()
 /// and where it was wrong, of that state with the counter of the guess.
 pub fn dropped_entries_follow_the_guess()
     ensures right { (ds : List ℕ) (n k : ℕ) (p : Standing) → IsScene p.scene →
-        let m = completed ds n p in m.missed ≡ false →
+        let m = next_moment ds n p in m.missed ≡ false →
         entries_behind ds n k p ≡ ahead ds n k None m.scene.machine m.front }
     ensures missed { (ds : List ℕ) (n k : ℕ) (p : Standing) → IsScene p.scene →
-        let m = completed ds n p in let h = (plan p.scene.machine (taken p)).following in
+        let m = next_moment ds n p in let h = (plan p.scene.machine (taken p)).following in
         m.missed ≡ true →
         entries_behind ds n k p ≡ ahead ds n k None (record m.scene.machine { ic = h }) m.front }
 {}
@@ -79,6 +79,6 @@ pub fn dropped_entries_follow_the_guess()
 pub fn scenes_are_kept()
     ensures between { (m : Moment) → IsScene m.scene → IsScene (standing m).scene }
     ensures done { (ds : List ℕ) (n : ℕ) (p : Standing) → IsScene p.scene →
-        IsScene (completed ds n p).scene }
+        IsScene (next_moment ds n p).scene }
     ensures taken { (p : Standing) → IfSome (taken p) (λ i. i < 64) }
 {}
