@@ -70,12 +70,12 @@ prepared-few t (a ∷ rest) =
 -- ---- moments
 
 -- what each moment of a run keeps
-record IsMoment (most n : ℕ) (m : Moment) : Type 0 where
-  scene : IsScene m.scene
-  tight : IsTight most m.front
-  last : m.front.c ≤ m.tick
-  few : length m.dropped ≤ n
-  banks : All (λ t. t ≤ m.tick + most) m.banks.ticks
+pub record IsMoment (most n : ℕ) (m : Moment) : Type 0 where
+  pub scene : IsScene m.scene
+  pub tight : IsTight most m.front
+  pub last : m.front.c ≤ m.tick
+  pub few : length m.dropped ≤ n
+  pub banks : All (λ t. t ≤ m.tick + most) m.banks.ticks
 
 module _ (most n : ℕ) (ds : List ℕ) (are : AreDelays most ds) (levels : n ≤ 8) where
   next_segment-tight : (m : Moment) → IsMoment most n m → IsTight most (next_segment m)
@@ -110,7 +110,7 @@ module _ (most n : ℕ) (ds : List ℕ) (are : AreDelays most ds) (levels : n �
             (λ x low. omega (arith, made.1)) _ made.0.banks;
       }
 
-  next-is : (m : Moment) → IsMoment most n m → IsMoment most n (next_moment ds n (standing m))
+  pub next-is : (m : Moment) → IsMoment most n m → IsMoment most n (next_moment ds n (standing m))
   next-is m is = completed-is (standing m) (settled-scene m.scene is.scene) (next_front-is m is).0
 
   next-tick : (m : Moment) → IsMoment most n m → (next_moment ds n (standing m)).tick ≤ m.tick + 64 * (most + 4)
@@ -135,7 +135,7 @@ module _ (most n : ℕ) (ds : List ℕ) (are : AreDelays most ds) (levels : n �
 abbrev IsInTime : ℕ → Timed → Type 0
 IsInTime b x = x.tick ≤ b * (x.done + 1)
 
-abbrev HasTime : ℕ → ℕ → Machine → Type 0
+abbrev pub HasTime : ℕ → ℕ → Machine → Type 0
 HasTime b tick s = tick ≤ b * s.done
 
 at-time : (b tick : ℕ) (s : Machine) (e : Event) → HasTime b tick s → IsInTime b (at tick s e)
@@ -196,7 +196,7 @@ module _ (most n : ℕ) (ds : List ℕ) (are : AreDelays most ds) (levels : n �
       let same : (next_state m).done ≡ m.scene.machine.done = settled-done m.scene in
       subst (λ d. m.tick ≤ b * d) (sym same) has
 
-  next-time : (m : Moment) → IsMoment most n m → HasTime (64 * (most + 4)) m.tick m.scene.machine
+  pub next-time : (m : Moment) → IsMoment most n m → HasTime (64 * (most + 4)) m.tick m.scene.machine
       → HasTime (64 * (most + 4)) (next_moment ds n (standing m)).tick (next_moment ds n (standing m)).scene.machine
   next-time m is has =
       let b = 64 * (most + 4) in
@@ -227,7 +227,7 @@ module _ (most n : ℕ) (ds : List ℕ) (are : AreDelays most ds) (levels : n �
       (until_done-time b ds n p snaps (standing-time b m has) next_has))
       (timed-time left next (ticks_from next.tick snaps) (next-is most n ds are levels m is) next_has))
 
-  start-is : (c : Scene) → IsScene c → IsMoment most n (start c)
+  pub start-is : (c : Scene) → IsScene c → IsMoment most n (start c)
   start-is c is = record {
     scene = is;
     tight = opening-tight most 0 unread (All-replicate (λ t. t ≤ 0 + most) BANKS 0 (omega arith));

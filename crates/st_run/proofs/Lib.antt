@@ -4,6 +4,7 @@ pub mod OrderLemmas
 pub mod ShownLemmas
 pub mod PrintLemmas
 pub mod GuessLemmas
+pub mod EndLemmas
 pub mod SceneLemmas
 pub mod DoneLemmas
 pub mod Bounds

@@ -19,7 +19,7 @@ shown-append (x ∷ xs) ys =
     ap (λ rest. asked_by x.event ++ rest) (shown-append xs ys)
     ∙ sym (append_assoc (asked_by x.event) (shown_ticks xs) (shown_ticks ys))
 
-last-append : (t : ℕ) (xs ys : List Timed) → last_tick t (xs ++ ys) ≡ last_tick (last_tick t xs) ys
+pub last-append : (t : ℕ) (xs ys : List Timed) → last_tick t (xs ++ ys) ≡ last_tick (last_tick t xs) ys
 unfolding last_tick
 last-append t [] ys = refl
 last-append t (x ∷ xs) ys = last-append x.tick xs ys
@@ -90,7 +90,7 @@ last-one : (t : ℕ) (xs : List Timed) (x : Timed) → last_tick t (xs ++ x ∷ 
 unfolding last_tick
 last-one t xs x = last-append t xs (x ∷ [])
 
-last_events-tick : (t : ℕ) (m : Moment) (snaps : List ℕ) → last_tick t (last_events m snaps) ≡ m.tick
+pub last_events-tick : (t : ℕ) (m : Moment) (snaps : List ℕ) → last_tick t (last_events m snaps) ≡ m.tick
 unfolding last_events
 last_events-tick t m snaps =
     last-one t (drops m ++ map (happening_at m) (settled m.scene).happened ++ map (last_snapshot_at m) (ticks_before (m.tick + 1) snaps))

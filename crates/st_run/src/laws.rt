@@ -27,12 +27,15 @@ pub fn delays_change_nothing_but_ticks()
         untimed (timed_run ds n left c snaps) ≡ untimed (timed_run es k left c shots) }
 {}
 
-/// Each event of a run comes in time, its end too: the ticks are 64 times (the longest delay and four) for
-/// each entry that is done and for one more, at most.
+/// Each event of a run comes in time: after 64 times (the longest delay and four) ticks for each entry that is
+/// done and for one more, at most. So does its end.
 pub fn runs_are_in_time()
-    ensures { (ds snaps : List ℕ) (most n left : ℕ) (c : Scene) →
+    ensures each { (ds snaps : List ℕ) (most n left : ℕ) (c : Scene) →
         AreDelays most ds → n ≤ 8 → IsScene c →
         All (λ (x : Timed). x.tick ≤ 64 * (most + 4) * (x.done + 1)) (timed_run ds n left c snaps) }
+    ensures end { (ds snaps : List ℕ) (most n left : ℕ) (c : Scene) →
+        AreDelays most ds → n ≤ 8 → IsScene c →
+        last_tick 0 (timed_run ds n left c snaps) ≤ 64 * (most + 4) * ((run left c).last.done + 1) }
 {}
 
 /// The events of a run come in the order of their ticks, where snapshots are asked for in that order.
