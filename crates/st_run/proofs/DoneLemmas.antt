@@ -1,0 +1,67 @@
+-- What comes between two steps leaves the number done, and a step counts as one.
+use Rattle.std.proofs.Common.{◌≡◌, ℕ, ◌+◌, List, [], ◌∷◌, Bool, true, false, nat_le, Option, None, Some, refl, ◌∙◌, if◌then◌else◌}
+use Rattle.st_state.specs.Machine.{Machine, stored}
+use Rattle.st_state.specs.Interrupts.{signalled}
+use Rattle.st_state.specs.Orders.{next_device}
+use Rattle.st_state.specs.declared.devices.Order.{Order}
+use Rattle.st_state.specs.declared.devices.Device.{Device}
+use Rattle.st_state.specs.declared.devices.Device.TheVariants.{Reader, Printer}
+use Rattle.st_exec.specs.Step.{rests}
+use Rattle.st_exec.specs.Run.{Signal, Scene, all_stored, read_in, first_card, with_due_signals, with_signals_at_rest, with_reader, with_printer, if_due, with_due_orders, with_device, with_order_at_rest, with_wait, settled, nothing}
+
+either : {A : Type 0} (f : A → ℕ) (n : ℕ) (b : Bool) (x y : A) → f x ≡ n → f y ≡ n → f (if b then x else y) ≡ n
+either f n true x y p q = p
+either f n false x y p q = q
+
+due-done : (m : Machine) (xs : List Signal) (cards : List (List ℕ)) → (with_due_signals m xs cards).machine.done ≡ m.done
+due-done m [] cards = refl
+due-done m (x ∷ xs) cards = either (λ c. c.machine.done) m.done (nat_le x.count m.done) (with_due_signals (signalled m x.indicator) xs cards) _ (due-done (signalled m x.indicator) xs cards) refl
+
+rest-done : (m : Machine) (xs : List Signal) (cards : List (List ℕ)) → (with_signals_at_rest m xs cards).machine.done ≡ m.done
+rest-done m [] cards = refl
+rest-done m (x ∷ xs) cards = either (λ c. c.machine.done) m.done (rests m) (with_signals_at_rest (signalled m x.indicator) xs cards) _ (rest-done (signalled m x.indicator) xs cards) refl
+
+all_stored-done : (m : Machine) (w : ℕ) (xs : List ℕ) → (all_stored m w xs).done ≡ m.done
+unfolding all_stored
+all_stored-done m w [] = refl
+all_stored-done m w (x ∷ xs) = all_stored-done (stored m w x) (w + 1) xs
+
+read_in-done : (m : Machine) (w : ℕ) (card : Option (List ℕ)) → (read_in m w card).done ≡ m.done
+read_in-done m w None = refl
+read_in-done m w (Some card) = all_stored-done (record m { reader = None }) w card
+
+reader-done : (o : Option Order) (c : Scene) → (with_reader o c).scene.machine.done ≡ c.machine.done
+reader-done None c = refl
+reader-done (Some order) c = read_in-done c.machine order.word (first_card c.cards)
+
+printer-done : (o : Option Order) (c : Scene) → (with_printer o c).scene.machine.done ≡ c.machine.done
+printer-done None c = refl
+printer-done (Some order) c = refl
+
+device-done : (d : Option Device) (c : Scene) → (with_device d c).scene.machine.done ≡ c.machine.done
+device-done None c = refl
+device-done (Some Reader) c = reader-done c.machine.reader c
+device-done (Some Printer) c = printer-done c.machine.printer c
+
+due_orders-done : (c : Scene) → (with_due_orders c).scene.machine.done ≡ c.machine.done
+unfolding with_due_orders
+due_orders-done c =
+    let d = (with_reader (if_due c.machine.done c.machine.reader) c).scene in
+    printer-done (if_due d.machine.done d.machine.printer) d ∙ reader-done (if_due c.machine.done c.machine.reader) c
+
+order_at_rest-done : (c : Scene) → (with_order_at_rest c).scene.machine.done ≡ c.machine.done
+unfolding with_order_at_rest
+order_at_rest-done c = either (λ r. r.scene.machine.done) c.machine.done (rests c.machine) (with_device (next_device c.machine) c) (nothing c) (device-done (next_device c.machine) c) refl
+
+wait-done : (c : Scene) → (with_wait c).scene.machine.done ≡ c.machine.done
+unfolding with_wait
+wait-done c =
+    let d = (with_order_at_rest c).scene in
+    let e = (with_order_at_rest d).scene in
+    rest-done e.machine e.signals e.cards ∙ (order_at_rest-done d ∙ order_at_rest-done c)
+
+pub settled-done : (c : Scene) → (settled c).scene.machine.done ≡ c.machine.done
+unfolding settled
+settled-done c =
+    let d = with_due_signals c.machine c.signals c.cards in
+    wait-done (with_due_orders d).scene ∙ (due_orders-done d ∙ due-done c.machine c.signals c.cards)

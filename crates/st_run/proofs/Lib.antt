@@ -1,0 +1,10 @@
+pub mod Untimed
+pub mod Turns
+pub mod OrderLemmas
+pub mod ShownLemmas
+pub mod PrintLemmas
+pub mod GuessLemmas
+pub mod EndLemmas
+pub mod SceneLemmas
+pub mod DoneLemmas
+pub mod Bounds

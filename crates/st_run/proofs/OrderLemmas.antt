@@ -1,0 +1,136 @@
+-- The events of a run come in the order of their ticks.
+use Rattle.std.specs.Prelude.{map, reverse, nat_lt}
+use Rattle.std.proofs.Common.{◌≡◌, ℕ, zero, suc, ◌+◌, ◌≤◌, ◌<◌, ◌⊎◌, inl, inr, true, false, List, [], ◌∷◌, ◌++◌, refl, sym, subst, arith, append_assoc}
+use Rattle.std.proofs.lemmas.Bool.{cases_Bool, ltb-true, ltb-false}
+use Rattle.st_prep.proofs.Choices.{of_choice}
+use Rattle.st_exec.specs.Step.{interrupt, rests}
+use Rattle.st_exec.specs.Run.{Happening, Ends, settled, interrupts_by}
+use Rattle.st_rows.specs.Rows.{row, tick_c, after}
+use Rattle.st_run.specs.Events.{Timed, drop_of, snapshot}
+use Rattle.st_run.specs.Moments.{Moment, Standing, next_state, ends_segment, next_segment, next_front, standing, next_row, next_moment}
+use Rattle.st_run.specs.TimedRun.{at, ticks_before, ticks_from, snapshot_at, last_snapshot_at, drops, drops_if_ends, happening_at, between, completion, until_done, last_events, timed_from}
+use Rattle.st_run.specs.Order.{told_at, AreInOrder, AreRising}
+
+-- ---- lists of ticks
+
+order-weaker : (t u : ℕ) (xs : List Timed) → t ≤ u → AreInOrder u xs → AreInOrder t xs
+unfolding AreInOrder
+order-weaker t u [] le is = tt
+order-weaker t u (x ∷ xs) le is = (omega (arith, is.0), is.1)
+
+rising-weaker : (t u : ℕ) (xs : List ℕ) → t ≤ u → AreRising u xs → AreRising t xs
+unfolding AreRising
+rising-weaker t u [] le is = tt
+rising-weaker t u (x ∷ xs) le is = (omega (arith, is.0), is.1)
+
+pub test-lt : (x u : ℕ) → ((nat_lt x u ≡ true) × (x < u)) ⊎ ((nat_lt x u ≡ false) × (u ≤ x))
+test-lt x u = elim (cases_Bool (nat_lt x u)) [ inl t ↦ inl (t, ltb-true x u t) | inr f ↦ inr (f, ltb-false x u f) ]
+
+rising-from : (t u : ℕ) (xs : List ℕ) → t ≤ u → AreRising t xs → AreRising u (ticks_from u xs)
+unfolding AreRising ticks_from
+rising-from t u [] le is = tt
+rising-from t u (x ∷ xs) le is = elim (test-lt x u) [
+  | inl early ↦ rw early.0 (rising-from (x + 1) u xs (omega (arith, early.1)) is.1)
+  | inr late ↦ rw late.0 (late.1, is.1)
+]
+
+-- ---- events that lead from one tick to another: in order, and whatever comes from there on in order stands behind them in order
+
+abbrev Leads : ℕ → ℕ → List Timed → Type 0
+Leads t u xs = (ys : List Timed) → AreInOrder u ys → AreInOrder t (xs ++ ys)
+
+leads-nil : (t : ℕ) → Leads t t []
+leads-nil t ys is = is
+
+leads-append : (t u v : ℕ) (xs zs : List Timed) → Leads t u xs → Leads u v zs → Leads t v (xs ++ zs)
+leads-append t u v xs zs first second ys is =
+    subst (AreInOrder t) (sym (append_assoc xs zs ys)) (first (zs ++ ys) (second ys is))
+
+leads-one : (t u : ℕ) (x : Timed) → told_at x.tick x.event ≡ u → t ≤ u → Leads t u (x ∷ [])
+unfolding AreInOrder
+leads-one t u x told le ys is = rw told (le, is)
+
+leads-at : {A : Type 0} (t : ℕ) (f : A → Timed) (xs : List A) → ((x : A) → told_at (f x).tick (f x).event ≡ t)
+    → Leads t t (map f xs)
+unfolding AreInOrder
+leads-at t f [] told ys is = is
+leads-at t f (x ∷ xs) told ys is = rw (told x) (omega arith, leads-at t f xs told ys is)
+
+-- snapshots at rising ticks, those before v
+leads-snapshots : (t u v : ℕ) (f : ℕ → Timed) (xs : List ℕ) → ((x : ℕ) → told_at (f x).tick (f x).event ≡ x)
+    → t ≤ u → v ≤ u + 1 → AreRising t xs → Leads t u (map f (ticks_before v xs))
+unfolding AreInOrder AreRising ticks_before
+leads-snapshots t u v f [] told le near rising ys is = order-weaker t u ys le is
+leads-snapshots t u v f (x ∷ xs) told le near rising ys is = elim (test-lt x v) [
+  | inl early ↦
+      let on : x ≤ u = omega (arith, early.1) in
+      let behind = rising-weaker x (x + 1) xs (omega arith) rising.1 in
+      rw early.0 (rw (told x) (rising.0, leads-snapshots x u v f xs told on near behind ys is))
+  | inr late ↦ rw late.0 (order-weaker t u ys le is)
+]
+
+-- ---- turns
+
+module _ (m : Moment) where
+  drops-lead : Leads m.tick m.tick (drops m)
+  unfolding drops
+  drops-lead = leads-at m.tick (λ a. at m.tick m.scene.machine (drop_of a)) (reverse m.dropped) (λ a. refl)
+
+  happenings-lead : (hs : List Happening) → Leads m.tick m.tick (map (happening_at m) hs)
+  happenings-lead hs = leads-at m.tick (happening_at m) hs (λ h. refl)
+
+  between-lead : Leads m.tick m.tick (between m)
+  unfolding between
+  between-lead =
+      let hs = (settled m.scene).happened ++ interrupts_by (interrupt (next_state m)) (next_state m) in
+      leads-append m.tick m.tick m.tick (drops_if_ends m) (map (happening_at m) hs)
+      (of_choice (λ xs. Leads m.tick m.tick xs) (ends_segment m) (drops m) [] drops-lead (leads-nil m.tick))
+      (happenings-lead hs)
+
+  last-order : (snaps : List ℕ) → AreRising m.tick snaps → AreInOrder m.tick (last_events m snaps)
+  unfolding last_events AreInOrder
+  last-order snaps rising =
+      let came = map (happening_at m) (settled m.scene).happened in
+      let shows = map (last_snapshot_at m) (ticks_before (m.tick + 1) snaps) in
+      let last = happening_at m (Ends (next_state m) (rests (next_state m))) in
+      leads-append m.tick m.tick m.tick (drops m ++ came) shows
+      (leads-append m.tick m.tick m.tick (drops m) came drops-lead (happenings-lead (settled m.scene).happened))
+      (leads-snapshots m.tick m.tick (m.tick + 1) (last_snapshot_at m) snaps (λ x. refl) (omega arith) (omega arith) rising)
+      (last ∷ []) (omega arith, tt)
+
+until_done-lead : (ds : List ℕ) (n : ℕ) (p : Standing) (snaps : List ℕ) → p.tick ≤ (next_moment ds n p).tick
+    → AreRising p.tick snaps → Leads p.tick (next_moment ds n p).tick (until_done ds n p snaps)
+unfolding until_done snapshot
+until_done-lead ds n p snaps later rising =
+    let tick = (next_moment ds n p).tick in
+    leads-append p.tick tick tick (map (snapshot_at ds n p) (ticks_before tick snaps)) (completion ds n p ∷ [])
+    (leads-snapshots p.tick tick tick (snapshot_at ds n p) snaps (λ x. refl) later (omega arith) rising)
+    (leads-one tick tick (completion ds n p) refl (omega arith))
+
+-- ---- the run
+
+module _ (ds : List ℕ) (n : ℕ) where
+  pub next-later : (m : Moment) → m.front.c ≡ m.tick → m.tick ≤ (next_moment ds n (standing m)).tick
+  unfolding next_moment next_row row tick_c next_front
+  next-later m same =
+      let front : m.tick ≤ (next_front m).c = of_choice (λ f. m.tick ≤ f.c) (ends_segment m) (next_segment m) m.front (omega arith) (omega (arith, same)) in
+      omega (arith, front)
+
+  pub next-same : (p : Standing) → (next_moment ds n p).front.c ≡ (next_moment ds n p).tick
+  unfolding next_moment next_row row after
+  next-same p = refl
+
+  pub timed-order : (left : ℕ) (m : Moment) (snaps : List ℕ) → m.front.c ≡ m.tick → AreRising m.tick snaps
+      → AreInOrder m.tick (timed_from ds n left m snaps)
+  unfolding timed_from
+  timed-order zero m snaps same rising = last-order m snaps rising
+  timed-order (suc left) m snaps same rising =
+      let p = standing m in
+      let next = next_moment ds n p in
+      let later : m.tick ≤ next.tick = next-later m same in
+      let turn = between m ++ until_done ds n p snaps in
+      let rest = timed_from ds n left next (ticks_from next.tick snaps) in
+      of_choice (λ xs. AreInOrder m.tick xs) (rests (next_state m)) (last_events m snaps) (turn ++ rest)
+      (last-order m snaps rising)
+      (leads-append m.tick m.tick next.tick (between m) (until_done ds n p snaps) (between-lead m) (until_done-lead ds n p snaps later rising)
+      rest (timed-order left next (ticks_from next.tick snaps) (next-same p) (rising-from m.tick next.tick snaps later rising)))

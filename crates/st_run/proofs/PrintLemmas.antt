@@ -1,0 +1,110 @@
+-- What comes between two steps is one print at most: the printer has one order at most, and gets none there.
+use Rattle.std.proofs.Common.{◌≡◌, ℕ, ◌+◌, ◌≤◌, List, [], ◌∷◌, length, length-append, nat_le, Option, None, Some, refl, ap, arith}
+use Rattle.st_state.specs.Machine.{Machine, stored}
+use Rattle.st_state.specs.Interrupts.{signalled}
+use Rattle.st_state.specs.Orders.{is_due, next_device}
+use Rattle.st_state.specs.declared.devices.Order.{Order}
+use Rattle.st_state.specs.declared.devices.Device.{Device}
+use Rattle.st_state.specs.declared.devices.Device.TheVariants.{Reader, Printer}
+use Rattle.st_prep.proofs.Choices.{of_choice}
+use Rattle.st_exec.specs.Step.{rests}
+use Rattle.st_exec.specs.Run.{Signal, Scene, Reached, all_stored, read_in, first_card, with_due_signals, with_signals_at_rest, with_reader, with_printer, if_due, with_due_orders, with_device, with_order_at_rest, with_wait, settled, nothing, and_then}
+
+-- how many orders the printer has
+orders : Option Order → ℕ
+orders None = 0
+orders (Some order) = 1
+
+orders-few : (o : Option Order) → orders o ≤ 1
+unfolding orders
+orders-few None = omega arith
+orders-few (Some order) = omega arith
+
+-- what happened, and what can still be printed, is no more than could be printed before
+record PrintsWithin (c : Scene) (r : Reached) : Type 0 where
+  few : length r.happened + orders r.scene.machine.printer ≤ orders c.machine.printer
+
+-- ---- signals and the reader print nothing
+
+due-printer : (m : Machine) (xs : List Signal) (cards : List (List ℕ)) → (with_due_signals m xs cards).machine.printer ≡ m.printer
+due-printer m [] cards = refl
+due-printer m (x ∷ xs) cards =
+    of_choice (λ c. c.machine.printer ≡ m.printer) (nat_le x.count m.done) (with_due_signals (signalled m x.indicator) xs cards) _
+    (due-printer (signalled m x.indicator) xs cards) refl
+
+rest-printer : (m : Machine) (xs : List Signal) (cards : List (List ℕ)) → (with_signals_at_rest m xs cards).machine.printer ≡ m.printer
+rest-printer m [] cards = refl
+rest-printer m (x ∷ xs) cards =
+    of_choice (λ c. c.machine.printer ≡ m.printer) (rests m) (with_signals_at_rest (signalled m x.indicator) xs cards) _
+    (rest-printer (signalled m x.indicator) xs cards) refl
+
+stored-printer : (m : Machine) (w : ℕ) (xs : List ℕ) → (all_stored m w xs).printer ≡ m.printer
+unfolding all_stored
+stored-printer m w [] = refl
+stored-printer m w (x ∷ xs) = stored-printer (stored m w x) (w + 1) xs
+
+read-printer : (m : Machine) (w : ℕ) (card : Option (List ℕ)) → (read_in m w card).printer ≡ m.printer
+read-printer m w None = refl
+read-printer m w (Some card) = stored-printer (record m { reader = None }) w card
+
+reader-prints : (o : Option Order) (c : Scene) → PrintsWithin c (with_reader o c)
+reader-prints None c = record { few = omega arith }
+reader-prints (Some order) c =
+    let same = ap orders (read-printer c.machine order.word (first_card c.cards)) in
+    record { few = omega (arith, same) }
+
+-- ---- the printer
+
+printer-prints : (o : Option Order) (c : Scene) → orders o ≤ orders c.machine.printer → PrintsWithin c (with_printer o c)
+unfolding orders
+printer-prints None c few = record { few = omega arith }
+printer-prints (Some order) c few = record { few = few }
+
+if_due-few : (done : ℕ) (o : Option Order) → orders (if_due done o) ≤ orders o
+unfolding orders
+if_due-few done o = of_choice (λ p. orders p ≤ orders o) (is_due done o) o None (omega arith) (omega arith)
+
+-- ---- one after another
+
+then-prints : (c : Scene) (r : Reached) (f : Scene → Reached) → PrintsWithin c r → PrintsWithin r.scene (f r.scene)
+    → PrintsWithin c (and_then r f)
+then-prints c r f first second =
+    record { few = omega (arith, first.few, second.few, length-append r.happened (f r.scene).happened) }
+
+due_orders-prints : (c : Scene) → PrintsWithin c (with_due_orders c)
+unfolding with_due_orders
+due_orders-prints c =
+    let r = with_reader (if_due c.machine.done c.machine.reader) c in
+    let d = r.scene in
+    then-prints c r (λ e. with_printer (if_due e.machine.done e.machine.printer) e)
+    (reader-prints (if_due c.machine.done c.machine.reader) c)
+    (printer-prints (if_due d.machine.done d.machine.printer) d (if_due-few d.machine.done d.machine.printer))
+
+device-prints : (d : Option Device) (c : Scene) → PrintsWithin c (with_device d c)
+device-prints None c = record { few = omega arith }
+device-prints (Some Reader) c = reader-prints c.machine.reader c
+device-prints (Some Printer) c = printer-prints c.machine.printer c (omega arith)
+
+order_at_rest-prints : (c : Scene) → PrintsWithin c (with_order_at_rest c)
+unfolding with_order_at_rest
+order_at_rest-prints c =
+    of_choice (λ r. PrintsWithin c r) (rests c.machine) (with_device (next_device c.machine) c) (nothing c)
+    (device-prints (next_device c.machine) c) (record { few = omega arith })
+
+wait-prints : (c : Scene) → PrintsWithin c (with_wait c)
+unfolding with_wait
+wait-prints c =
+    let r = with_order_at_rest c in
+    let q = and_then r with_order_at_rest in
+    let e = q.scene in
+    let same = ap orders (rest-printer e.machine e.signals e.cards) in
+    then-prints c q (λ d. nothing (with_signals_at_rest d.machine d.signals d.cards))
+    (then-prints c r with_order_at_rest (order_at_rest-prints c) (order_at_rest-prints r.scene))
+    (record { few = omega (arith, same) })
+
+pub settled-one : (c : Scene) → length (settled c).happened ≤ 1
+unfolding settled
+settled-one c =
+    let d = with_due_signals c.machine c.signals c.cards in
+    let all = then-prints d (with_due_orders d) with_wait (due_orders-prints d) (wait-prints (with_due_orders d).scene) in
+    omega (arith, all.few, orders-few d.machine.printer)

@@ -1,0 +1,5 @@
+pub mod Events
+pub mod Moments
+pub mod TimedRun
+pub mod Scenes
+pub mod Order

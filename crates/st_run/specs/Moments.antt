@@ -1,0 +1,126 @@
+-- Where a run with its timetable stands: when an entry has just been done, and before the next one.
+-- The machine has the delays ds and n levels.
+use Rattle.std.specs.Prelude.{ℕ, suc, ◌+◌, Bool, false, ◌||◌, nat_lt, if◌then◌else◌, is_some, List, [], ◌++◌, length, replicate, Option, None}
+use Rattle.st_state.specs.Machine.{Machine}
+use Rattle.st_prep.specs.Plan.{plan}
+use Rattle.st_exec.specs.Completion.{guess, is_missed}
+use Rattle.st_exec.specs.Step.{interrupt, rests}
+use Rattle.st_exec.specs.Run.{Scene, with_due_signals, with_due_orders, settled, stepped}
+use Rattle.st_banks.specs.declared.answers.LastAnswers.{LastAnswers}
+use Rattle.st_banks.specs.declared.answers.TheConstants.{BANKS}
+use Rattle.st_rows.specs.Rows.{opening, row, after}
+use Rattle.st_rows.specs.Asked.{Read, asked, made_before}
+use Rattle.st_rows.specs.declared.entry.Entry.{Entry}
+use Rattle.st_rows.specs.declared.front.Front.{Front}
+use Rattle.st_rows.specs.declared.front.Row.{Row}
+use Rattle.st_segment.specs.Entries.{entry}
+use Rattle.st_segment.specs.Ahead.{Ahead, ahead, prepared_before, reads_before}
+
+-- An entry has just been done, at this tick, and nothing has come from outside since: the scene with the
+-- state that it leaves; the front behind it; whether the guess was wrong by which others ran ahead of it;
+-- and for the case that the segment ends here, the entries that are prepared behind that guess, oldest
+-- first, and the last answers of the banks.
+pub record Moment : Type 0 where
+  pub scene : Scene
+  pub tick : ℕ
+  pub front : Front
+  pub missed : Bool
+  pub dropped : List Ahead
+  pub banks : LastAnswers
+
+-- What comes between two entries is over: the scene, the tick at which the last entry was done, and the
+-- front that the row of the next one is computed from.
+pub record Standing : Type 0 where
+  pub scene : Scene
+  pub tick : ℕ
+  pub front : Front
+
+-- banks before their first read
+abbrev pub unread : LastAnswers
+unread = record { ticks = replicate BANKS 0 }
+
+-- the start of a run, at tick 0
+abbrev pub start : Scene → Moment
+start c = record {
+  scene = c;
+  tick = 0;
+  front = opening unread 0;
+  missed = false;
+  dropped = [];
+  banks = unread;
+}
+
+-- ---- what comes between two entries
+
+-- the scene before the next entry: signals, orders and waits are over
+abbrev pub next_scene : Moment → Scene
+next_scene m = (settled m.scene).scene
+
+abbrev pub next_state : Moment → Machine
+next_state m = (next_scene m).machine
+
+-- the reader has put a card into storage
+abbrev pub has_card : Moment → Bool
+has_card m = nat_lt (length (next_scene m).cards) (length m.scene.cards)
+
+-- with the signals and the orders that are due, the machine rests: it waits for what comes next
+abbrev pub has_waited : Moment → Bool
+has_waited m =
+    rests (with_due_orders (with_due_signals m.scene.machine m.scene.signals m.scene.cards)).scene.machine
+
+-- where the run goes on, the segment ends here if a branch was missed, a card came, the machine waited, or
+-- an interrupt is taken
+unfoldable pub ends_segment : Moment → Bool
+ends_segment m = m.missed || has_card m || has_waited m || is_some (interrupt (next_state m))
+
+-- the front of the segment behind it, which starts one tick later and one more for each entry that is dropped
+abbrev pub next_segment : Moment → Front
+next_segment m = opening m.banks (m.tick + 1 + length m.dropped)
+
+unfoldable pub next_front : Moment → Front
+next_front m = if ends_segment m then next_segment m else m.front
+
+abbrev pub standing : Moment → Standing
+standing m = record { scene = next_scene m; tick = m.tick; front = next_front m }
+
+-- ---- the next entry
+
+-- the interrupt whose table instruction it is, if it is one
+abbrev pub taken : Standing → Option ℕ
+taken p = interrupt p.scene.machine
+
+abbrev pub oldest : Standing → Entry
+oldest p = entry (taken p) p.scene.machine
+
+-- its row, and the front behind it
+unfoldable pub next_row : List ℕ → ℕ → Standing → Row
+next_row ds n p = row ds n p.front (oldest p)
+
+abbrev pub front_after : List ℕ → ℕ → Standing → Front
+front_after ds n p = after ds n p.front (oldest p)
+
+-- it, and the entries behind it, by guessed steps
+abbrev pub entries_ahead : List ℕ → ℕ → Standing → List Ahead
+entries_ahead ds n p = ahead ds n n (taken p) p.scene.machine p.front
+
+-- k entries behind its guess
+abbrev pub entries_behind : List ℕ → ℕ → ℕ → Standing → List Ahead
+entries_behind ds n k p = ahead ds n k None (guess (taken p) p.scene.machine) (front_after ds n p)
+
+-- its reads, those of the entries behind it that are prepared before the tick, and of the one behind these
+abbrev pub reads_until : List ℕ → ℕ → ℕ → Standing → List Read
+reads_until ds n tick p =
+    asked ds n p.front (oldest p) ++ reads_before ds n tick (entries_behind ds n (suc n) p)
+
+-- the moment at which it is done: of the reads those are made that are accepted before
+unfoldable pub next_moment : List ℕ → ℕ → Standing → Moment
+next_moment ds n p =
+    let tick = (next_row ds n p).c in
+    record {
+      scene = stepped p.scene;
+      tick = tick;
+      front = front_after ds n p;
+      missed = is_missed (plan p.scene.machine (taken p)) p.scene.machine;
+      dropped = prepared_before tick (entries_behind ds n n p);
+      banks = (made_before ds tick (reads_until ds n tick p) p.front.bus).banks;
+    }

@@ -1,0 +1,40 @@
+-- The order of events.
+use Rattle.std.specs.Prelude.{ℕ, ◌+◌, ◌≤◌, List, [], ◌∷◌, ◌++◌}
+use Rattle.st_run.specs.Events.{Event, Timed, Completes, Drops, Shows, Happens}
+
+-- the tick at which an event is told: a snapshot at the one that was asked for, else that at which the last
+-- entry was done
+abbrev pub told_at : ℕ → Event → ℕ
+told_at tick (Completes s address row) = tick
+told_at tick (Drops address p) = tick
+told_at tick (Shows asked s levels) = asked
+told_at tick (Happens happening) = tick
+
+-- events in the order of their ticks, none before the tick t
+unfoldable pub AreInOrder : ℕ → List Timed → Type 0
+AreInOrder t [] = Unit {0}
+AreInOrder t (x ∷ xs) = (t ≤ told_at x.tick x.event) × AreInOrder (told_at x.tick x.event) xs
+
+-- ticks that rise, none before the tick t
+unfoldable pub AreRising : ℕ → List ℕ → Type 0
+AreRising t [] = Unit {0}
+AreRising t (x ∷ xs) = (t ≤ x) × AreRising (x + 1) xs
+
+-- ---- snapshots, and the last tick
+
+-- a snapshot's tick
+abbrev pub asked_by : Event → List ℕ
+asked_by (Completes s address row) = []
+asked_by (Drops address p) = []
+asked_by (Shows asked s levels) = asked ∷ []
+asked_by (Happens happening) = []
+
+-- the ticks at which snapshots are shown
+unfoldable pub shown_ticks : List Timed → List ℕ
+shown_ticks [] = []
+shown_ticks (x ∷ xs) = asked_by x.event ++ shown_ticks xs
+
+-- the tick at which the last entry was done by the end of a list of events, t before it
+unfoldable pub last_tick : ℕ → List Timed → ℕ
+last_tick t [] = t
+last_tick t (x ∷ xs) = last_tick x.tick xs
