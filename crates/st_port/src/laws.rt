@@ -1,5 +1,5 @@
 //! What holds of reads that are asked for and made in their turn.
-ghost use Rattle.std.specs.Prelude.{◌≡◌, ℕ, List, [], ◌∷◌, ◌++◌, ◌+◌, ◌<◌, ◌≤◌, All};
+ghost use Rattle.std.specs.Prelude.{◌≡◌, ℕ, List, [], ◌∷◌, ◌++◌, ◌+◌, ◌≤◌, All};
 ghost use Rattle.st_rows.specs.Asked.{Read, asked, fetches_asked, side_asked, following_asked, served, made_before};
 ghost use Rattle.st_rows.specs.BusTimes.{accept_at};
 ghost use Rattle.st_rows.specs.Ranges.{IsNear, IsBusWithin, IsEntry};

@@ -4,8 +4,9 @@ ghost use Rattle.st_bits.specs.Storage.{words_of_storage};
 ghost use Rattle.st_fetch.specs.Planned.{tick_of};
 ghost use Rattle.st_rows.specs.Asked.{word_asked, data_asked, side_asked, operands_asked, following_asked, side_count, made_before};
 ghost use Rattle.st_rows.specs.BusTimes.{no_reads};
-ghost use Rattle.st_rows.specs.Ranges.{IsBusWithin, IsReadable, IsEntry};
+ghost use Rattle.st_rows.specs.Ranges.{IsReadable, IsEntry};
 ghost use Rattle.st_port.specs.Making.{not_made as not_made_of, AreFrom, held_with};
+ghost use Rattle.st_port.specs.Parts.{runs_asked};
 
 use st_banks::{Delays, LastAnswers};
 use st_fetch::{HeldWords, Want, Wants};
@@ -117,9 +118,7 @@ impl Port {
         requires one { IsReadable reads.one }
         requires two { IsReadable reads.two }
         requires room { length self.old.reads + reads.one.len + reads.two.len ≤ 40 }
-        ensures reads { self.new.reads ≡ self.old.reads
-            ++ (operands_asked past.now p reads.one.first reads.one.len
-            ++ operands_asked past.now p reads.two.first reads.two.len) }
+        ensures reads { self.new.reads ≡ self.old.reads ++ runs_asked past.now reads p }
         ensures bus { self.new.bus ≡ self.old.bus }
     {
         self.ask_run(past, reads.one, p);

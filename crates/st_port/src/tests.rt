@@ -1,5 +1,5 @@
 //! The reads of the first instructions of a worked deck.
-ghost use Rattle.std.specs.Prelude.{◌+◌, ◌≤◌, ◌-◌, ◌^◌};
+ghost use Rattle.std.specs.Prelude.{◌+◌, ◌≤◌};
 ghost use Rattle.st_port.specs.Making.{AreFrom};
 
 use super::*;
