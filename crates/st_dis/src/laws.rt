@@ -1,12 +1,23 @@
 //! What holds of the cards of a deck, and not of one call.
 
-ghost use Rattle.std.specs.Prelude.{◌≡◌, ◌≤◌, ◌<◌, ◌*◌, ◌^◌, ◌++◌, ℕ, [], false, Some, Ok};
+ghost use Rattle.std.specs.Prelude.{◌≡◌, ◌≤◌, ◌<◌, ◌*◌, ◌^◌, ◌++◌, ℕ, [], ◌∷◌, All, true, false, Some, Ok};
+ghost use Rattle.st_text.specs.Bytes.{line_end};
+ghost use Rattle.st_card.specs.Cards.{is_printable};
+ghost use Rattle.st_card.specs.Pieces.{parted};
 ghost use Rattle.st_card.specs.Controls.{Asked, nothing};
 ghost use Rattle.st_card.specs.Limits.{IsWithinLimits};
 ghost use Rattle.st_strap.specs.Reading.{number_expr};
 ghost use Rattle.st_strap.specs.Saying.{statement_of};
 ghost use Rattle.st_strap.specs.declared.statement.Statement.TheVariants.{SetLocation, End};
-ghost use Rattle.st_dis.specs.Deck.{location_text, end_text, order_cards, show_cards};
+ghost use Rattle.st_object.specs.Object.{Program};
+ghost use Rattle.st_dis.specs.Deck.{
+  location_text,
+  end_text,
+  order_cards,
+  show_cards,
+  deck_cards,
+  deck_text,
+};
 ghost use Rattle.st_dis.specs.Spelling.{statements_of};
 ghost use Rattle.st_dis.specs.Read.{bits_of_length, laid_together, CardsLead};
 
@@ -29,4 +40,11 @@ pub fn places_come_back()
 pub fn controls_come_back()
     ensures { (asked : Asked) → IsWithinLimits asked → 1 ≤ asked.budget → asked.list ≡ false →
         CardsLead nothing (order_cards asked ++ show_cards asked) asked }
+{}
+
+/// The cards of a deck have nothing but blanks and visible characters of ASCII, and they are the pieces of its text
+/// between its line ends.
+pub fn cards_are_lines()
+    ensures printable { (p : Program) → All (λ card. is_printable card ≡ true) (deck_cards p) }
+    ensures lines { (p : Program) → parted line_end (deck_text p) ≡ deck_cards p ++ [] ∷ [] }
 {}
