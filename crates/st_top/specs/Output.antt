@@ -1,5 +1,5 @@
 -- What the program writes for a command and a job.
-use Rattle.std.specs.Prelude.{ℕ, List, [], ◌∷◌, ◌++◌, Result, Ok, Err}
+use Rattle.std.specs.Prelude.{ℕ, List, [], ◌∷◌, ◌++◌, nat_le, if◌then◌else◌, Result, Ok, Err}
 use Rattle.st_card.specs.Controls.{Asked}
 use Rattle.st_card.specs.Faults.{name_of}
 use Rattle.st_asm.specs.Pass.{Refusal}
@@ -12,14 +12,15 @@ use Rattle.st_report.specs.Line.{fault_line}
 use Rattle.st_top.specs.Signals.{signals_of}
 use Rattle.st_top.specs.Listing.{listing}
 use Rattle.st_top.specs.Report.{report}
-use Rattle.st_top.specs.ObjectText.{program_in, object_lines}
+use Rattle.st_top.specs.ObjectText.{program_in, object_lines, deck_lines}
 use Rattle.st_top.specs.Loading.{loaded}
-use Rattle.st_object.specs.Object.{Program}
-use Rattle.st_card.specs.declared.faults.Fault.TheVariants.{BadObjectCard}
+use Rattle.st_object.specs.Object.{Program, read_text}
+use Rattle.st_dis.specs.Deck.{card_count}
+use Rattle.st_card.specs.declared.faults.Fault.TheVariants.{TooManyCards, BadObjectCard}
 use Rattle.st_top.specs.declared.answer.Status.{Status}
 use Rattle.st_top.specs.declared.answer.Status.TheVariants.{Done, Refused}
 use Rattle.st_top.specs.declared.command.Command.{Command}
-use Rattle.st_top.specs.declared.command.Command.TheVariants.{Run, Assemble, Load}
+use Rattle.st_top.specs.declared.command.Command.TheVariants.{Run, Assemble, Load, Disassemble}
 
 -- the status, the lines, the number of instructions done and the tick of the last completion
 pub record Output : Type 0 where
@@ -80,8 +81,20 @@ abbrev pub loaded_by : Result Program ℕ → Output
 loaded_by (Ok p) = output_of_run [] p.controls (loaded_run p)
 loaded_by (Err n) = refused (record { card = n; fault = BadObjectCard })
 
+-- the deck of a program, line by line, or the refusal of the first card that is too many
+abbrev pub deck_by : Program → Output
+deck_by p =
+    if nat_le (card_count p) 20000 then lines_alone Done (deck_lines p)
+    else refused (record { card = 20001; fault = TooManyCards })
+
+-- the output of `disassemble`, by what an object text holds: its deck, or the number of its bad line
+abbrev pub disassembled_by : Result Program ℕ → Output
+disassembled_by (Ok p) = deck_by p
+disassembled_by (Err n) = refused (record { card = n; fault = BadObjectCard })
+
 -- the output of a command on a job
 unfoldable pub output_of : Command → List ℕ → Output
 output_of Run job = ran_by job (assembly job)
 output_of Assemble job = assembled_by (assembly job)
 output_of Load text = loaded_by (loaded text)
+output_of Disassemble text = disassembled_by (read_text text)

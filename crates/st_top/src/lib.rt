@@ -18,7 +18,7 @@ mod scene;
 
 pub use answer::{Answer, Status};
 pub use command::Command;
-pub use objects::lines_are_the_object_text;
+pub use objects::{lines_are_the_deck, lines_are_the_object_text};
 pub use program::stretch;
 
 #[cfg(test)]
