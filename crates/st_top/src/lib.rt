@@ -11,6 +11,7 @@ mod layer_error;
 mod listing;
 mod loading;
 mod objects;
+mod past;
 mod program;
 mod refusal;
 mod running;
