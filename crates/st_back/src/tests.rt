@@ -152,41 +152,66 @@ fn run(
     Ok((before, after))
 }
 
+/// Undoes a step, which leads to the state of this picture.
+fn undo(rt: &impl Abort, back: &mut Back, state: &mut State, before: &Picture) {
+    assert!(rt; back.back(state));
+    assert!(rt; picture_of(state) == *before, "before step {}", before.done);
+}
+
+/// Makes a step again, which leads to the state of this picture.
+fn redo(rt: &impl Abort, back: &mut Back, state: &mut State, after: &Picture) {
+    assert!(rt; state.done < 100);
+    back.forth(state);
+    assert!(rt; picture_of(state) == *after, "after step {}", after.done);
+}
+
+/// Goes so many steps back, each of them once forth and back again on the way.
+fn go_back(
+    rt: &impl Abort,
+    back: &mut Back,
+    state: &mut State,
+    steps: usize,
+    pictures: &(Vec<Picture>, Vec<Picture>),
+) {
+    let ends = pictures.0.as_slice().iter().zip(pictures.1.as_slice());
+    for (before, after) in ends.rev().take(steps) {
+        undo(rt, back, state, before);
+        redo(rt, back, state, after);
+        undo(rt, back, state, before);
+    }
+}
+
+/// The end of the job.
+fn is_at_the_end(state: &State) -> bool {
+    state.done == 72 && state.ic == 83 && state.word(9) == 0x7047
+}
+
+/// The state after the first eight instructions.
+fn is_after_eight(state: &State) -> bool {
+    state.done == 8
+        && (state.ic, state.enabled) == (74, true)
+        && (state.word(9), state.word(11)) == (0x1234, 0x0008_0000_0000_1020)
+        && (state.word(17), state.word(20), state.word(80)) == (0x000B_2000_002C_0000, 0, 0)
+}
+
 #[test]
 fn sixty_four_steps_back_and_forth(rt: HostRuntime) -> Result<(), Fail> {
     let Ok(mut back) = Back::new(rt.alloc(), 64) else {
         return Err(Fail::from(AllocError));
     };
     let mut state = opened(&rt, rt.alloc())?;
-    let (before, after) = run(&rt, rt.alloc(), &mut back, &mut state)?;
-    assert!(rt; before.len() == 72);
-    assert!(rt; after.len() == 72);
-    assert_eq!(rt; (state.done, state.ic), (72, 83));
-    assert_eq!(rt; state.word(9), 0x7047, "the sum");
-    assert_eq!(rt; back.len(), 64);
+    let pictures = run(&rt, rt.alloc(), &mut back, &mut state)?;
+    assert!(rt; is_at_the_end(&state));
+    assert_eq!(rt;
+        (pictures.0.len(), pictures.1.len(), back.len()),
+        (72, 72, 64)
+    );
 
-    for k in 0..64 {
-        let n = 71 - k;
-        assert!(rt; back.back(&mut state));
-        assert_eq!(rt; picture_of(&state), before[n], "before step {n}");
-        assert!(rt; state.done < 100);
-        back.forth(&mut state);
-        assert_eq!(rt; picture_of(&state), after[n], "after step {n}");
-        assert!(rt; back.back(&mut state));
-        assert_eq!(rt; picture_of(&state), before[n], "before step {n} again");
-    }
-    assert_eq!(rt; (state.ic, state.enabled, state.done), (74, true, 8));
-    assert_eq!(rt;
-        (state.word(9), state.word(11)),
-        (0x1234, 0x0008_0000_0000_1020)
-    );
-    assert_eq!(rt;
-        (state.word(17), state.word(20), state.word(80)),
-        (0x000B_2000_002C_0000, 0, 0)
-    );
+    go_back(&rt, &mut back, &mut state, 64, &pictures);
+    assert!(rt; is_after_eight(&state));
     assert_eq!(rt; back.len(), 0);
     assert!(rt; !back.back(&mut state));
-    assert_eq!(rt; picture_of(&state), before[8], "nothing is undone");
+    assert!(rt; is_after_eight(&state), "nothing is undone");
     Ok(())
 }
 
@@ -197,11 +222,9 @@ fn a_ring_of_one_keeps_the_newest_step(rt: HostRuntime) -> Result<(), Fail> {
     };
     let mut state = opened(&rt, rt.alloc())?;
     assert!(rt; !back.can_put());
-    let (before, _after) = run(&rt, rt.alloc(), &mut back, &mut state)?;
+    let pictures = run(&rt, rt.alloc(), &mut back, &mut state)?;
     assert_eq!(rt; back.len(), 1);
-    assert!(rt; before.len() == 72);
-    assert!(rt; back.back(&mut state));
-    assert_eq!(rt; picture_of(&state), before[71]);
+    go_back(&rt, &mut back, &mut state, 1, &pictures);
     assert_eq!(rt; (state.ic, state.word(9)), (82, 0x7047));
     assert!(rt; !back.back(&mut state));
     Ok(())

@@ -9,7 +9,7 @@ pub const BANKS: usize = 6;
 const LOW_WORDS: u32 = 65_536;
 
 /// The tick of each bank's last answer, 0 before its first read. Contracts see the list of them.
-#[derive(Clone, Copy, Debug, PartialEq, Eq)]
+#[derive(Clone, Copy, Debug, Default, PartialEq, Eq)]
 pub struct LastAnswers {
     /// The tick of each bank, by its number.
     pub ticks: [u64; BANKS],

@@ -67,9 +67,9 @@ impl Delays {
         self.list[(tick % self.list.len() as u64) as usize]
     }
 
-    /// The tick, 1 to 255 later, at which a read is answered that is accepted at `tick`, which is below 2^63.
+    /// The tick, 1 to 255 later, at which a read is answered that is accepted at `tick`, which is below 2^64 - 255.
     pub fn answer(&self, tick: u64) -> u64
-        requires early { tick < 2 ^ 63 }
+        requires early { tick + 255 < 2 ^ 64 }
         ensures value { result ≡ answer_tick self.now tick }
         ensures later { tick < result }
         ensures most { result ≤ tick + 255 }

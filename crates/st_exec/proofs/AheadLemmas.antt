@@ -28,7 +28,7 @@ use Rattle.st_exec.proofs.SparedLemmas.{HasMarks, marks-same, marks-then, marks-
 
 -- ---- the early change
 
-change-marks : (c : Option IndexChange) (s : Machine) → HasMarks s (with_change c s)
+pub change-marks : (c : Option IndexChange) (s : Machine) → HasMarks s (with_change c s)
 change-marks None s = marks-same s
 change-marks (Some c) s = marks-words s _ (length-set s.words (16 + c.number) (fixed (16 + c.number) c.word))
 
@@ -38,7 +38,7 @@ early-marks p s =
     let u = with_change p.index s in
     marks-then s u (early p s) (change-marks p.index s) (marks-words u _ (length-set u.words 11 _))
 
-change-low : (c : Option IndexChange) (s : Machine) (i : ℕ) → i < 16 → word (with_change c s) i ≡ word s i
+pub change-low : (c : Option IndexChange) (s : Machine) (i : ℕ) → i < 16 → word (with_change c s) i ≡ word s i
 change-low None s i h = refl
 change-low (Some c) s i h = stored-other s (16 + c.number) c.word i (omega arith)
 

@@ -16,3 +16,4 @@ pub mod ResultBounds
 pub mod MachineKept
 pub mod UnwrittenLemmas
 pub mod BesideEntries
+pub mod MissedLemmas

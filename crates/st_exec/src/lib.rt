@@ -9,6 +9,7 @@ mod execution;
 mod fields;
 mod kept;
 mod laws;
+mod missed;
 mod operands;
 mod outcomes;
 mod overlap_laws;
@@ -23,6 +24,7 @@ pub use laws::{
     entries_ahead_leave_the_rest, entries_are_bounded, entries_count_as_one, entries_leave_states,
     indicators_are_passed_over, only_indicator_branches_are_missed,
 };
+pub use missed::is_missed;
 pub use overlap_laws::{
     early_changes_leave_their_index_words, entries_leave_what_they_do_not_write,
     guesses_leave_states, orders_are_passed_over,

@@ -5,11 +5,7 @@ use super::*;
 use st_bits::WORDS;
 use st_state::{Order, State};
 use std::alloc::{AllocError, Global};
-use std::process::Abort;
 use std::test::Fail;
-
-mod jobs;
-mod operations;
 
 /// `LVI,$X1,100.0` in a left half, and `BEW` in a right one.
 const LOAD: u64 = 0x0019_0300_0000_0000;
@@ -33,26 +29,6 @@ fn opened(alloc: Global) -> Result<State, Fail>
         return Err(Fail::from(AllocError));
     };
     Ok(state)
-}
-
-/// A state with these words in storage, and the counter at 32.0.
-fn holding(rt: &impl Abort, alloc: Global, words: &[(u32, u64)]) -> Result<State, Fail> {
-    let mut state = opened(alloc)?;
-    for (w, word) in words {
-        assert!(rt; *w < WORDS);
-        state.store(*w, *word);
-    }
-    Ok(state)
-}
-
-/// The word that is listed for the word address `w`.
-fn listed(words: &[(u32, u64)], w: u32) -> Option<u64> {
-    for (v, word) in words {
-        if *v == w {
-            return Some(*word);
-        }
-    }
-    None
 }
 
 #[test]
@@ -91,26 +67,6 @@ fn an_interrupt_ends_a_wait_and_executes_one_instruction_of_the_table(
     assert_eq!(rt; (state.ic, state.done, state.waiting), (64, 1, false));
     assert_eq!(rt; state.word(17), 0x0019_0000_0000_0000);
     assert_eq!(rt; state.word(11), 0x9000, "indicator 13 is off");
-    Ok(())
-}
-
-#[test]
-fn what_is_not_executed_turns_on_one_indicator(rt: HostRuntime) -> Result<(), Fail> {
-    for (ic, bounds, indicators, after) in [
-        (64, 0, 0x0001_0000_0000_0000, 65),
-        (63, 0, 0x0000_8000_0000_0000, 64),
-        (196_608, 0, 0x0000_8000_0000_0000, 196_609),
-        (524_287, 0, 0x0000_8000_0000_0000, 0),
-        (65, 0x0008_4000_0008_0000, 0x0000_0400_0000_0000, 66),
-    ] {
-        let mut state = opened(rt.alloc())?;
-        state.ic = ic;
-        state.store(3, bounds);
-        state.enabled = true;
-        assert_eq!(rt; one(&mut state), Step::Plain);
-        assert_eq!(rt; state.word(11), indicators, "at {ic}");
-        assert_eq!(rt; (state.ic, state.done), (after, 1));
-    }
     Ok(())
 }
 

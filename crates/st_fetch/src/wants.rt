@@ -15,7 +15,7 @@ pub struct Want {
 }
 
 /// The number of reads that can be wanted at once.
-pub const WANTS: usize = 37;
+pub const WANTS: usize = 40;
 
 /// The reads that are still to be made, at most WANTS, first in first out. Contracts see their list, the first one first.
 #[derive(Drop)]
@@ -65,7 +65,7 @@ impl Wants {
         self.len() == 0
     }
 
-    /// Wants one more read, after all others. At most 36 are wanted before.
+    /// Wants one more read, after all others. There is room: fewer than WANTS are wanted before.
     pub fn push(&mut self, want: Want)
         requires { length self.old < WANTS }
         ensures { self.new ≡ self.old ++ want ∷ [] }

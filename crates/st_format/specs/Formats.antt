@@ -6,6 +6,8 @@ use Rattle.st_format.specs.declared.operations.FullOp.TheVariants.{Variable, Con
 use Rattle.st_format.specs.declared.instruction.Instr.{Instr}
 use Rattle.st_format.specs.declared.instruction.Instr.TheVariants.{Half, Branch, Floating, Vfl, Connect, Move, BitBranch, IndBranch, StoreCounter, Transfer, Invalid}
 use Rattle.st_format.specs.declared.instruction.Decoded.{Decoded}
+use Rattle.st_format.specs.declared.instruction.Format.{Format}
+use Rattle.st_format.specs.declared.instruction.Format.TheVariants.{Index, Branch as BranchGroup, Floating as FloatingGroup, Whole, NoHalf, NoWhole}
 use Rattle.st_bits.specs.declared.operations.HalfOp.{HalfOp}
 use Rattle.st_bits.specs.declared.operations.BranchOp.{BranchOp}
 use Rattle.st_format.specs.Halves.{later, is_one, is_full, i_of, address_of, j_of, operation_of, bit_address_of, second_address_of, p_of, length_of, byte_of, offset_of, count_of, half_bits, first_bits, field_bits, second_bits}
@@ -60,6 +62,15 @@ full_word (Some op) first second =
 unfoldable pub instruction_of : ℕ → ℕ → Instr
 instruction_of first second =
     if is_full first then full_word (full_op second) first second else half_word first
+
+-- the instruction that the bits spell, if they have this format
+abbrev pub spelled_as : Format → ℕ → ℕ → Instr
+spelled_as (Index op) first second = Half op (address_of first) (j_of first) (i_of first)
+spelled_as (BranchGroup op) first second = Branch op (address_of first) (i_of first)
+spelled_as FloatingGroup first second = Floating (j_of first) (address_of first) (i_of first)
+spelled_as (Whole op) first second = word_of op first second
+spelled_as NoHalf first second = Invalid first 0 false
+spelled_as NoWhole first second = Invalid first second true
 
 -- the same with the number of its half-words
 abbrev pub decoded : ℕ → ℕ → Decoded

@@ -1,15 +1,15 @@
 //! From the bits of an instruction to the instruction.
-ghost use Rattle.std.specs.Prelude.{◌≡◌, false, None, Some, if◌then◌else◌};
+ghost use Rattle.std.specs.Prelude.{◌≡◌, ℕ, false, None, Some, if◌then◌else◌};
 ghost use Rattle.st_format.specs.Halves.{is_full as has_ones};
 ghost use Rattle.st_format.specs.Operations.{full_op as full_op_of};
 ghost use Rattle.st_format.specs.Validity.{is_invalid};
-ghost use Rattle.st_format.specs.Formats.{decoded, instruction_of, half_word, full_word, word_of, first_half, second_half, IsShape, is_no_instruction};
+ghost use Rattle.st_format.specs.Formats.{decoded, spelled_as, instruction_of, half_word, full_word, word_of, first_half, second_half, IsShape, is_no_instruction};
 
 use crate::fields::{
     bit_address, byte_size, field_length, half_address, index_field, is_full, later, offset,
     operation_field, progressive_form, register_field, second_address, word_count,
 };
-use crate::instruction::{Decoded, Instr};
+use crate::instruction::{Decoded, Format, Instr};
 use crate::operations::{BRANCH_GROUP, FLOATING_GROUP, FullOp, branch_op, full_op, half_op};
 use crate::rules::breaks_rules;
 
@@ -26,70 +26,128 @@ pub fn decode(first: u32, second: u32) -> Decoded
     ensures first { first_half result.instr ≡ first }
     ensures second { second_half result.instr ≡ (if has_ones first then Some second else None) }
 {
+    decode_as(format_of(first, second), first, second)
+}
+
+/// The instruction that two half-words spell, and its length, their format being known.
+#[inline(always)]
+pub fn decode_as(format: Format, first: u32, second: u32) -> Decoded
+    requires { spelled_as format first second ≡ instruction_of first second }
+    ensures value { result ≡ decoded first second }
+    ensures shape { IsShape result.instr }
+{
     Decoded {
-        instr: spelled(first, second),
+        instr: spelled_by(format, first, second),
         halves: length_in_halves(first),
     }
 }
 
 /// The number of half-words of the instruction with this first one, 1 or 2.
+#[inline(always)]
 pub fn length_in_halves(first: u32) -> u8
     ensures { result ≡ (if has_ones first then 2 else 1) }
 {
     if is_full(first) { 2 } else { 1 }
 }
 
+/// The format of the instruction that two half-words spell. The second is read only where the first is that of a full
+/// word.
+#[inline(always)]
 #[tactic(auto, unfolding(crate::specs::Formats::instruction_of))]
-fn spelled(first: u32, second: u32) -> Instr
-    ensures { result ≡ instruction_of first second }
+pub fn format_of(first: u32, second: u32) -> Format
+    ensures { spelled_as result first second ≡ instruction_of first second }
 {
     if is_full(first) {
-        decode_full(first, second)
+        whole_format(first, second)
     } else {
-        decode_half(first)
+        half_format(first)
     }
 }
 
+#[inline(always)]
 #[tactic(auto, unfolding(crate::specs::Formats::half_word))]
-fn decode_half(first: u32) -> Instr
-    ensures { result ≡ half_word first }
+fn half_format(first: u32) -> Format
+    ensures { (second : ℕ) → spelled_as result first second ≡ half_word first }
 {
-    let address = half_address(first);
-    let j = register_field(first);
-    let i = index_field(first);
     match operation_field(first) {
-        FLOATING_GROUP => Instr::Floating {
-            number: j,
-            address,
-            i,
-        },
-        BRANCH_GROUP => match branch_op(j) {
-            Some(op) => Instr::Branch { op, address, i },
-            None => invalid_half(first),
+        FLOATING_GROUP => Format::Floating,
+        BRANCH_GROUP => match branch_op(register_field(first)) {
+            Some(op) => Format::Branch(op),
+            None => Format::NoHalf,
         },
         number => match half_op(number) {
-            Some(op) => Instr::Half { op, address, j, i },
-            None => invalid_half(first),
+            Some(op) => Format::Index(op),
+            None => Format::NoHalf,
         },
     }
 }
 
-fn invalid_half(first: u32) -> Instr
-    ensures { result ≡ Instr.Invalid first 0 false }
+#[inline(always)]
+fn whole_format(first: u32, second: u32) -> Format
+    ensures { spelled_as result first second ≡ full_word (full_op_of second) first second }
 {
-    Instr::Invalid {
-        first,
-        second: 0,
-        full: false,
+    match full_op(second) {
+        Some(op) => ruled(op, first, second),
+        None => Format::NoWhole,
     }
 }
 
-fn decode_full(first: u32, second: u32) -> Instr
-    ensures { result ≡ full_word (full_op_of second) first second }
+// The format of a full word with this operation. What follows knows its kind, so that it is told apart once.
+#[inline(always)]
+fn ruled(op: FullOp, first: u32, second: u32) -> Format
+    ensures { spelled_as result first second ≡ full_word (Some op) first second }
 {
-    match full_op(second) {
-        Some(op) if !breaks_rules(op, first, second) => spell(op, first, second),
-        _ => Instr::Invalid {
+    match op {
+        FullOp::Variable(op) => checked(FullOp::Variable(op), first, second),
+        FullOp::Connective(kind) => checked(FullOp::Connective(kind), first, second),
+        FullOp::Transmission { swap } => checked(FullOp::Transmission { swap }, first, second),
+        FullOp::BitTest => checked(FullOp::BitTest, first, second),
+        FullOp::IndicatorTest => checked(FullOp::IndicatorTest, first, second),
+        FullOp::Order { write } => checked(FullOp::Order { write }, first, second),
+        FullOp::CounterStore => checked(FullOp::CounterStore, first, second),
+    }
+}
+
+#[inline(always)]
+fn checked(op: FullOp, first: u32, second: u32) -> Format
+    ensures { spelled_as result first second ≡ full_word (Some op) first second }
+{
+    if breaks_rules(op, first, second) {
+        Format::NoWhole
+    } else {
+        Format::Whole(op)
+    }
+}
+
+/// The instruction of this format that two half-words spell.
+#[inline(always)]
+fn spelled_by(format: Format, first: u32, second: u32) -> Instr
+    ensures { result ≡ spelled_as format first second }
+{
+    match format {
+        Format::Index(op) => Instr::Half {
+            op,
+            address: half_address(first),
+            j: register_field(first),
+            i: index_field(first),
+        },
+        Format::Branch(op) => Instr::Branch {
+            op,
+            address: half_address(first),
+            i: index_field(first),
+        },
+        Format::Floating => Instr::Floating {
+            number: register_field(first),
+            address: half_address(first),
+            i: index_field(first),
+        },
+        Format::Whole(op) => spell(op, first, second),
+        Format::NoHalf => Instr::Invalid {
+            first,
+            second: 0,
+            full: false,
+        },
+        Format::NoWhole => Instr::Invalid {
             first,
             second,
             full: true,
@@ -98,6 +156,7 @@ fn decode_full(first: u32, second: u32) -> Instr
 }
 
 // The full-word instruction with this operation.
+#[inline(always)]
 #[tactic(auto, unfolding(crate::specs::Formats::word_of))]
 fn spell(op: FullOp, first: u32, second: u32) -> Instr
     ensures { result ≡ word_of op first second }

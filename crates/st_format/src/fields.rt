@@ -3,6 +3,7 @@ ghost use Rattle.std.specs.Prelude.{◌≡◌, ◌+◌, ◌-◌, ◌<◌, ◌≤
 ghost use Rattle.st_format.specs.Halves.{part as part_of, later as later_of, is_full as has_ones, i_of, address_of, j_of, operation_of, bit_address_of, second_address_of, p_of, length_of, byte_of, offset_of, k_of, count_of, or_greatest as greatest_for_zero};
 
 /// The number of `count` bits of a half-word from bit `first` on.
+#[inline(always)]
 pub fn part(half: u32, first: u32, count: u32) -> u32
     requires some { 1 ≤ count }
     requires inside { first + count ≤ 32 }
@@ -13,6 +14,7 @@ pub fn part(half: u32, first: u32, count: u32) -> u32
 }
 
 /// The number of `count` bits of a second half-word from bit `first` on.
+#[inline(always)]
 pub fn later(second: u32, first: u32, count: u32) -> u32
     requires some { 1 ≤ count }
     requires behind { 32 ≤ first }
@@ -24,6 +26,7 @@ pub fn later(second: u32, first: u32, count: u32) -> u32
 }
 
 /// Whether a first half-word is that of a full word.
+#[inline(always)]
 #[tactic(auto, unfolding(crate::specs::Halves::is_full))]
 pub fn is_full(first: u32) -> bool
     ensures { result ≡ has_ones first }
@@ -32,6 +35,7 @@ pub fn is_full(first: u32) -> bool
 }
 
 /// The number of the index word of the address, 0 to 15.
+#[inline(always)]
 #[tactic(auto, unfolding(crate::specs::Halves::i_of))]
 pub fn index_field(first: u32) -> u8
     ensures value { result ≡ i_of first }
@@ -41,6 +45,7 @@ pub fn index_field(first: u32) -> u8
 }
 
 /// The half-word address of a half-word instruction, below 2^19.
+#[inline(always)]
 #[tactic(auto, unfolding(crate::specs::Halves::address_of))]
 pub fn half_address(first: u32) -> u32
     ensures value { result ≡ address_of first }
@@ -50,6 +55,7 @@ pub fn half_address(first: u32) -> u32
 }
 
 /// The number of the index word that a half-word instruction works on, 0 to 15.
+#[inline(always)]
 #[tactic(auto, unfolding(crate::specs::Halves::j_of))]
 pub fn register_field(first: u32) -> u8
     ensures value { result ≡ j_of first }
@@ -59,6 +65,7 @@ pub fn register_field(first: u32) -> u8
 }
 
 /// The number of a half-word operation, 0 to 31.
+#[inline(always)]
 #[tactic(auto, unfolding(crate::specs::Halves::operation_of))]
 pub fn operation_field(first: u32) -> u8
     ensures value { result ≡ operation_of first }
@@ -68,6 +75,7 @@ pub fn operation_field(first: u32) -> u8
 }
 
 /// The bit address of a full-word instruction, below 2^24.
+#[inline(always)]
 #[tactic(auto, unfolding(crate::specs::Halves::bit_address_of))]
 pub fn bit_address(first: u32) -> u32
     ensures value { result ≡ bit_address_of first }
@@ -77,6 +85,7 @@ pub fn bit_address(first: u32) -> u32
 }
 
 /// The second address of a full-word instruction, a half-word address below 2^19.
+#[inline(always)]
 #[tactic(auto, unfolding(crate::specs::Halves::second_address_of))]
 pub fn second_address(second: u32) -> u32
     ensures value { result ≡ second_address_of second }
@@ -86,6 +95,7 @@ pub fn second_address(second: u32) -> u32
 }
 
 /// The progressive form, 0 to 7.
+#[inline(always)]
 #[tactic(auto, unfolding(crate::specs::Halves::p_of))]
 pub fn progressive_form(second: u32) -> u8
     ensures value { result ≡ p_of second }
@@ -95,6 +105,7 @@ pub fn progressive_form(second: u32) -> u8
 }
 
 /// The length of a field, 1 to 64.
+#[inline(always)]
 #[tactic(auto, unfolding(crate::specs::Halves::length_of))]
 pub fn field_length(second: u32) -> u8
     ensures value { result ≡ length_of second }
@@ -105,6 +116,7 @@ pub fn field_length(second: u32) -> u8
 }
 
 /// The size of a field's bytes, 1 to 8.
+#[inline(always)]
 #[tactic(auto, unfolding(crate::specs::Halves::byte_of))]
 pub fn byte_size(second: u32) -> u8
     ensures value { result ≡ byte_of second }
@@ -115,6 +127,7 @@ pub fn byte_size(second: u32) -> u8
 }
 
 /// The offset in the accumulator, 0 to 127.
+#[inline(always)]
 #[tactic(auto, unfolding(crate::specs::Halves::offset_of))]
 pub fn offset(second: u32) -> u8
     ensures value { result ≡ offset_of second }
@@ -124,6 +137,7 @@ pub fn offset(second: u32) -> u8
 }
 
 /// The last four bits.
+#[inline(always)]
 #[tactic(auto, unfolding(crate::specs::Halves::k_of))]
 pub fn last_field(second: u32) -> u8
     ensures value { result ≡ k_of second }
@@ -133,6 +147,7 @@ pub fn last_field(second: u32) -> u8
 }
 
 /// The number of words that are moved, 1 to 16.
+#[inline(always)]
 #[tactic(auto, unfolding(crate::specs::Halves::count_of))]
 pub fn word_count(second: u32) -> u8
     ensures value { result ≡ count_of second }
@@ -143,6 +158,7 @@ pub fn word_count(second: u32) -> u8
 }
 
 // A field in which zero stands for the greatest number.
+#[inline(always)]
 fn or_greatest(greatest: u8, number: u8) -> u8
     ensures value { result ≡ greatest_for_zero greatest number }
     ensures some { 1 ≤ greatest → 1 ≤ result }

@@ -1,5 +1,5 @@
 //! Instructions with their fields.
-use crate::operations::UNUSED;
+use crate::operations::{FullOp, UNUSED};
 use st_bits::{BranchOp, ConnKind, HalfOp, VflOp};
 
 /// An instruction, or bits that spell none.
@@ -99,6 +99,23 @@ pub enum Instr {
         second: u32,
         full: bool,
     },
+}
+
+/// A format, with the operation where it has one: what is known of an instruction before its fields are taken out.
+#[derive(Clone, Copy, Debug, PartialEq, Eq)]
+pub enum Format {
+    /// The half-word format.
+    Index(HalfOp),
+    /// The branch group of the half-word format.
+    Branch(BranchOp),
+    /// The floating group of the half-word format.
+    Floating,
+    /// A format of full words.
+    Whole(FullOp),
+    /// A half-word that spells no instruction.
+    NoHalf,
+    /// A full word that spells none.
+    NoWhole,
 }
 
 /// An instruction, and the number of half-words that it takes, 1 or 2.

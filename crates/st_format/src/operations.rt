@@ -31,6 +31,7 @@ pub enum FullOp {
 }
 
 /// The half-word operation of a number, the floating group and the branch group apart.
+#[inline(always)]
 #[tactic(auto, unfolding(crate::specs::Operations::half_op, crate::specs::Operations::half_ops))]
 pub fn half_op(number: u8) -> Option<HalfOp>
     requires { number < 32 }
@@ -69,6 +70,7 @@ pub fn half_op(number: u8) -> Option<HalfOp>
 }
 
 /// The branch of a number.
+#[inline(always)]
 #[tactic(auto, unfolding(crate::specs::Operations::branch_op, crate::specs::Operations::branch_ops))]
 pub fn branch_op(number: u8) -> Option<BranchOp>
     ensures { result ≡ branch_op_of number }
@@ -85,6 +87,7 @@ pub fn branch_op(number: u8) -> Option<BranchOp>
 }
 
 /// The operation of a full word by its second half-word.
+#[inline(always)]
 #[tactic(auto, unfolding(crate::specs::Operations::full_op))]
 pub fn full_op(second: u32) -> Option<FullOp>
     ensures { result ≡ full_op_of second }
@@ -96,6 +99,7 @@ pub fn full_op(second: u32) -> Option<FullOp>
     }
 }
 
+#[inline(always)]
 #[tactic(auto, unfolding(crate::specs::Operations::numbered_op, crate::specs::Operations::full_ops))]
 fn numbered_op(number: u32) -> Option<FullOp>
     requires { number < 32 }
@@ -133,6 +137,7 @@ fn numbered_op(number: u32) -> Option<FullOp>
     }
 }
 
+#[inline(always)]
 #[tactic(auto, unfolding(crate::specs::Operations::kind, crate::specs::Operations::kinds))]
 fn kind(number: u32) -> Option<ConnKind>
     requires { number < 4 }
@@ -179,6 +184,7 @@ pub fn kind_number(kind: ConnKind) -> u32
 }
 
 /// Whether an operation writes its field.
+#[inline(always)]
 pub fn writes_field(op: FullOp) -> bool
     ensures { result ≡ writes op }
 {

@@ -8,6 +8,7 @@ use crate::fields::{
 use crate::operations::{FullOp, writes_field};
 
 /// Whether the bits of a full word with this operation break a rule.
+#[inline(always)]
 #[tactic(auto, unfolding(crate::specs::Validity::breaks_rules))]
 pub fn breaks_rules(op: FullOp, first: u32, second: u32) -> bool
     ensures { result ≡ breaks op first second }
@@ -20,6 +21,7 @@ pub fn breaks_rules(op: FullOp, first: u32, second: u32) -> bool
         || has_miscount(op, second)
 }
 
+#[inline(always)]
 fn unused_in_kind(op: FullOp, second: u32) -> u32
     ensures { result ≡ kind_rest op second }
 {
@@ -29,6 +31,7 @@ fn unused_in_kind(op: FullOp, second: u32) -> u32
     }
 }
 
+#[inline(always)]
 fn unused_k(op: FullOp, second: u32) -> u8
     ensures { result ≡ k_rest op second }
 {
@@ -38,6 +41,7 @@ fn unused_k(op: FullOp, second: u32) -> u8
     }
 }
 
+#[inline(always)]
 fn unused_marks(op: FullOp, second: u32) -> u32
     ensures { result ≡ marks_rest op second }
 {
@@ -50,6 +54,7 @@ fn unused_marks(op: FullOp, second: u32) -> u32
     }
 }
 
+#[inline(always)]
 fn has_misfit(op: FullOp, second: u32) -> bool
     ensures { result ≡ misfit op second }
 {
@@ -66,12 +71,14 @@ fn has_misfit(op: FullOp, second: u32) -> bool
 
 /// Whether a field has no such form: a decimal one has bytes of at least four bits and is made of whole bytes, and a signed one has
 /// room for its sign byte. The length is 1 to 64 bits, the byte 1 to 8.
+#[inline(always)]
 pub fn misfits_field(decimal: bool, unsigned: bool, length: u8, byte: u8) -> bool
     ensures { result ≡ misfits decimal unsigned length byte }
 {
     (decimal && (byte < 4 || length % byte != 0)) || (!unsigned && length < byte)
 }
 
+#[inline(always)]
 fn has_misused_p(op: FullOp, first: u32, second: u32) -> bool
     ensures { result ≡ misused_p op first second }
 {
@@ -86,12 +93,14 @@ fn has_misused_p(op: FullOp, first: u32, second: u32) -> bool
     }
 }
 
+#[inline(always)]
 fn misuses_form(writes: bool, p: u8, length: u8, i: u8) -> bool
     ensures { result ≡ misuses_p writes p length i }
 {
     (p == 1 && (writes || length > 24)) || (p >= 2 && i == 0)
 }
 
+#[inline(always)]
 fn has_miscount(op: FullOp, second: u32) -> bool
     ensures { result ≡ miscount op second }
 {
@@ -101,6 +110,7 @@ fn has_miscount(op: FullOp, second: u32) -> bool
     }
 }
 
+#[inline(always)]
 fn is_miscount(count: u32) -> bool
     ensures { result ≡ miscounts count }
 {

@@ -34,20 +34,6 @@ fn adding_leaves_flags_count_and_refill(rt: HostRuntime) {
 }
 
 #[test]
-fn a_sum_of_minus_two_to_the_24_is_a_minus_zero(rt: HostRuntime) {
-    let word = add_value(0xFFFF_FF80_0000_0000, -1);
-    assert_eq!(rt; word, MINUS_ZERO);
-    assert_eq!(rt;
-        index_result(word),
-        Ind {
-            on: 0xA000,
-            off: RESULT
-        }
-    );
-    assert_eq!(rt; add_value(MINUS_ZERO, 0), 0);
-}
-
-#[test]
 fn a_count_of_zero_wraps(rt: HostRuntime) {
     let once = count_down(0);
     assert_eq!(rt; once, 0x0000_000F_FFFC_0000);
@@ -57,19 +43,6 @@ fn a_count_of_zero_wraps(rt: HostRuntime) {
         index_result(twice),
         Ind {
             on: 0x2000,
-            off: RESULT
-        }
-    );
-}
-
-#[test]
-fn a_count_that_became_zero_is_seen(rt: HostRuntime) {
-    let word = count_down(0x0000_0000_0004_0000);
-    assert_eq!(rt; word, 0);
-    assert_eq!(rt;
-        index_result(word),
-        Ind {
-            on: 0xA000,
             off: RESULT
         }
     );
@@ -141,14 +114,4 @@ fn a_progressive_form_counts_and_asks_for_a_refill(rt: HostRuntime) {
             "form {form}"
         );
     }
-}
-
-#[test]
-fn a_table_is_walked_to_its_end(rt: HostRuntime) {
-    let first = progress(3, 0x000A_0000_000C_0000, 32);
-    assert_eq!(rt; first.word, 0x000A_2000_0008_0000);
-    assert_eq!(rt; first.ind.on, 0x1000);
-    let last = progress(3, progress(3, first.word, 32).word, 32);
-    assert_eq!(rt; last.word, 0x000A_6000_0000_0000);
-    assert_eq!(rt; last.ind.on, 0x9000);
 }

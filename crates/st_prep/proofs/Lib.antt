@@ -14,3 +14,4 @@ pub mod CountLemmas
 pub mod BesideLemmas
 pub mod FewLemmas
 pub mod GivenLemmas
+pub mod PlainLemmas

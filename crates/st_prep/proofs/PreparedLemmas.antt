@@ -261,3 +261,10 @@ fill-prepared a v p r e h = e ∙ ap (λ b. prepared_by b.fault v.place b v.x r)
 pub filled-fits : (v : Sight) (p : Prepared) (r : Option ℕ) → p ≡ prepared v r → IsSight v → IfSome r (λ w. w < 2 ^ 64)
     → IsPrepared p
 filled-fits v p r e k some = subst IsPrepared (sym e) (is_prepared v r k some)
+
+-- an entry stands where it stood before it was filled in
+pub filled-place : (f : Option ℕ) (place : Place) (a : Aim) (x : List ℕ) (r : Option ℕ)
+    → (prepared_by f place a x r).place ≡ place
+unfolding entry suppressed
+filled-place None place a x r = refl
+filled-place (Some i) place a x r = refl

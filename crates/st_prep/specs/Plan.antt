@@ -156,3 +156,7 @@ pub record IsSeen (s : Machine) (v : Sight) : Type 0 where
 -- the index-side word of an entry of the state, where one is read
 abbrev pub side_of : Machine → Sight → Option ℕ
 side_of s v = side_word v.place.table s (needs v).index_read
+
+-- the entry of a state at a place, by what is fetched there and the index words
+abbrev pub entry_by : Machine → Place → Fetched → List ℕ → Prepared
+entry_by s place f x = let v = seen place f x s in prepared v (side_of s v)

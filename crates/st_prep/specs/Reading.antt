@@ -69,6 +69,10 @@ half_of content h = part content (32 * (h % 2)) 32
 abbrev pub nothing : Decoded
 nothing = record { instr = Invalid 0 0 false; halves = 1 }
 
+-- the instruction that two half-words spell which may be fetched
+abbrev pub allowed_found : ℕ → ℕ → Found
+allowed_found first second = record { decoded = decoded first second; fault = None }
+
 -- what an instruction is read for
 abbrev pub Use : Type 0
 Use = Found → Reading
@@ -122,6 +126,10 @@ with_target ex target = record {
 -- another instruction
 abbrev pub alone : Found → Fetched
 alone own = record { instr = own.decoded; target = None; fault = own.fault }
+
+-- another instruction whose words may be fetched
+abbrev pub plain : Decoded → Fetched
+plain own = record { instr = own; target = None; fault = None }
 
 -- what the own instruction is read for: of EX its target is read then
 unfoldable pub own_use : List ℕ → ℕ → Bool → Use

@@ -7,6 +7,7 @@ use st_format::Instr;
 use st_index::effective;
 
 /// Index word `i`, and zero where `i` is 0.
+#[inline(always)]
 #[tactic(auto, unfolding(crate::specs::EarlyChange::index_part))]
 fn index_part(x: &[u64; 16], i: u8) -> u64
     requires { i < 16 }
@@ -16,6 +17,7 @@ fn index_part(x: &[u64; 16], i: u8) -> u64
 }
 
 /// Where a half-word instruction points.
+#[inline(always)]
 #[tactic(auto, unfolding(crate::specs::EarlyChange::half_address))]
 fn half_address(x: &[u64; 16], address: u32, i: u8) -> u32
     requires address { address < 2 ^ 19 }
@@ -27,6 +29,7 @@ fn half_address(x: &[u64; 16], address: u32, i: u8) -> u32
 }
 
 /// Where a full-word instruction points.
+#[inline(always)]
 #[tactic(auto, unfolding(crate::specs::EarlyChange::bit_address))]
 fn bit_address(x: &[u64; 16], address: u32, i: u8) -> u32
     requires address { address < 2 ^ 24 }
@@ -38,6 +41,7 @@ fn bit_address(x: &[u64; 16], address: u32, i: u8) -> u32
 }
 
 /// Where the field of an operation with the progressive form `p` begins.
+#[inline(always)]
 #[tactic(auto, unfolding(crate::specs::EarlyChange::field_address))]
 fn field_address(x: &[u64; 16], p: u8, address: u32, i: u8) -> u32
     requires address { address < 2 ^ 24 }
@@ -53,6 +57,7 @@ fn field_address(x: &[u64; 16], p: u8, address: u32, i: u8) -> u32
 }
 
 /// The effective address of an instruction.
+#[inline(always)]
 #[tactic(auto, unfolding(crate::specs::EarlyChange::effective))]
 pub fn effective_address(instr: &Instr, x: &[u64; 16]) -> u32
     requires { HasFields instr.now }

@@ -30,6 +30,7 @@ pub struct Half {
 }
 
 /// The refill address of an index word, where its count became zero.
+#[inline(always)]
 #[tactic(auto, unfolding(crate::specs::EarlyChange::refill_word))]
 fn refill_word(y: u64) -> Option<u32>
     ensures { result ≡ refill_word_of y }
@@ -42,6 +43,7 @@ fn refill_word(y: u64) -> Option<u32>
 }
 
 /// The index-side word of a half-word instruction with the effective address `e`, `x` being index word J.
+#[inline(always)]
 #[tactic(auto, unfolding(crate::specs::EarlyChange::half_side))]
 fn half_side(op: HalfOp, x: u64, e: u32) -> Option<u32>
     requires { e < 2 ^ 24 }
@@ -64,6 +66,7 @@ fn half_side(op: HalfOp, x: u64, e: u32) -> Option<u32>
 }
 
 /// The index-side word of a progressive form, `x` being its index word.
+#[inline(always)]
 #[tactic(auto, unfolding(crate::specs::EarlyChange::progressive_side))]
 fn progressive_side(p: u8, x: u64, address: u32) -> Option<u32>
     requires form { p < 8 }
@@ -82,6 +85,7 @@ fn progressive_side(p: u8, x: u64, address: u32) -> Option<u32>
 }
 
 /// The index-side word of an instruction with the effective address `e`.
+#[inline(always)]
 #[tactic(auto, unfolding(crate::specs::EarlyChange::side))]
 pub fn side(instr: &Instr, x: &[u64; 16], e: u32) -> Option<u32>
     requires shape { HasFields instr.now }
@@ -97,6 +101,7 @@ pub fn side(instr: &Instr, x: &[u64; 16], e: u32) -> Option<u32>
     }
 }
 
+#[inline(always)]
 fn nothing() -> Early
     ensures { result ≡ unchanged }
 {
@@ -107,6 +112,7 @@ fn nothing() -> Early
 }
 
 /// Two numbers are compared.
+#[inline(always)]
 #[tactic(auto, unfolding(crate::specs::EarlyChange::compared))]
 fn compared(a: i32, b: i32) -> Early
     ensures { result ≡ compared_of a b }
@@ -118,6 +124,7 @@ fn compared(a: i32, b: i32) -> Early
 }
 
 /// Index word `number`, which was `kept`, becomes `y`, and then the word of a refill where there is one.
+#[inline(always)]
 #[tactic(auto, unfolding(crate::specs::EarlyChange::changed))]
 fn changed(number: u8, kept: u64, y: u64, refill: Option<u64>) -> Early
     ensures { result ≡ changed_of number kept y refill }
@@ -133,6 +140,7 @@ fn changed(number: u8, kept: u64, y: u64, refill: Option<u64>) -> Early
 }
 
 /// What a half-word instruction makes of index word J; `e` is its effective address and `read` its index-side word.
+#[inline(always)]
 #[tactic(auto, unfolding(crate::specs::EarlyChange::half_change))]
 fn half_change(half: Half, words: &[u64; 16], e: u32, read: Option<u64>) -> Early
     requires address { half.address < 2 ^ 19 }
@@ -174,6 +182,7 @@ fn half_change(half: Half, words: &[u64; 16], e: u32, read: Option<u64>) -> Earl
 }
 
 /// What a progressive form makes of index word `i`, which is `x`; `read` is its index-side word.
+#[inline(always)]
 #[tactic(auto, unfolding(crate::specs::EarlyChange::progressive_change))]
 fn progressive_change(p: u8, i: u8, x: u64, address: u32, read: Option<u64>) -> Early
     requires form { p < 8 }
@@ -188,6 +197,7 @@ fn progressive_change(p: u8, i: u8, x: u64, address: u32, read: Option<u64>) -> 
 }
 
 /// The early change by an instruction with the effective address `e`; `read` is its index-side word.
+#[inline(always)]
 #[tactic(auto, unfolding(crate::specs::EarlyChange::change))]
 pub fn change(instr: &Instr, x: &[u64; 16], e: u32, read: Option<u64>) -> Early
     requires shape { HasFields instr.now }

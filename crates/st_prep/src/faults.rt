@@ -16,6 +16,7 @@ use st_state::{Access, State};
 const AREA: u8 = 8;
 
 /// The instruction that is executed: the target of EX, or else the instruction itself.
+#[inline(always)]
 #[tactic(auto, unfolding(crate::specs::Checks::executed))]
 pub fn executed(fetched: &Fetched) -> &Instr
     requires { IsFetched fetched.now }
@@ -29,6 +30,7 @@ pub fn executed(fetched: &Fetched) -> &Instr
 }
 
 /// The indicator that forbids the access to a word.
+#[inline(always)]
 fn forbidden(state: &State, access: Access, w: u32) -> Option<u8>
     ensures value { result ≡ forbidden_by (word state.now 3) state.now.enabled access w }
     ensures bound { IfSome result (λ i. i < 64) }
@@ -37,6 +39,7 @@ fn forbidden(state: &State, access: Access, w: u32) -> Option<u8>
 }
 
 /// The indicator of the first of `len` words that may not be accessed.
+#[inline(always)]
 fn forbidden_run(state: &State, access: Access, first: u32, len: u8) -> Option<u8>
     requires { first < 2 ^ 18 }
     ensures value { result
@@ -53,6 +56,7 @@ fn forbidden_run(state: &State, access: Access, first: u32, len: u8) -> Option<u
 }
 
 /// The same of two runs of words.
+#[inline(always)]
 #[tactic(auto, unfolding(crate::specs::Checks::forbidden_words))]
 fn forbidden_words(state: &State, access: Access, words: Words) -> Option<u8>
     requires { IsRuns words }
@@ -68,6 +72,7 @@ fn forbidden_words(state: &State, access: Access, words: Words) -> Option<u8>
 }
 
 /// The indicator that forbids the index-side word to be read.
+#[inline(always)]
 #[tactic(auto, unfolding(crate::specs::Checks::forbidden_side))]
 fn forbidden_side(state: &State, word: Option<u32>) -> Option<u8>
     ensures value { result ≡ forbidden_side_of (word_of state.now 3) state.now.enabled word }
@@ -80,6 +85,7 @@ fn forbidden_side(state: &State, word: Option<u32>) -> Option<u8>
 }
 
 /// The indicator that forbids the area of an order with the effective address `e`.
+#[inline(always)]
 #[tactic(auto, unfolding(crate::specs::Checks::forbidden_area))]
 fn forbidden_area(state: &State, instr: &Instr, e: u32) -> Option<u8>
     requires { e < 2 ^ 24 }
@@ -96,6 +102,7 @@ fn forbidden_area(state: &State, instr: &Instr, e: u32) -> Option<u8>
 }
 
 /// What an order does with its area: the printer reads it, the reader writes it.
+#[inline(always)]
 fn area_access(write: bool) -> Access
     ensures { result ≡ area_access_of write }
 {
@@ -103,6 +110,7 @@ fn area_access(write: bool) -> Access
 }
 
 /// The indicator of an operation that cannot be executed.
+#[inline(always)]
 #[tactic(auto, unfolding(crate::specs::Checks::operation_fault))]
 fn operation_fault(instr: &Instr) -> Option<u8>
     ensures value { result ≡ operation_fault_of instr.now }
@@ -118,6 +126,7 @@ fn operation_fault(instr: &Instr) -> Option<u8>
 }
 
 /// The indicator of the first check that an entry fails, `aim.fault` being that of its words.
+#[inline(always)]
 #[tactic(auto, unfolding(crate::specs::Checks::fault))]
 pub fn fault(aim: &Aim, state: &State) -> Option<u8>
     requires { IsAim aim.now }

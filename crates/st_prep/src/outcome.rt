@@ -10,6 +10,7 @@ use st_format::Instr;
 use st_index::count_down;
 
 /// The following instruction: `halves` half-words on, or the counter as it stands after a table instruction.
+#[inline(always)]
 #[tactic(auto, unfolding(crate::specs::Entry::next))]
 pub fn next(place: &Place, halves: u8) -> u32
     requires { place.now.counter < 2 ^ 19 }
@@ -33,6 +34,7 @@ fn after_count(x: u64, e: u32, following: u32) -> u32
     }
 }
 
+#[inline(always)]
 fn after_half(op: HalfOp, x: u64, e: u32, following: u32) -> u32
     ensures { result ≡ after_half_of op x e following }
 {
@@ -42,6 +44,7 @@ fn after_half(op: HalfOp, x: u64, e: u32, following: u32) -> u32
     }
 }
 
+#[inline(always)]
 fn after_branch(op: BranchOp, counter: u32, e: u32, following: u32) -> u32
     requires counter { counter < 2 ^ 19 }
     requires address { e < 2 ^ 24 }
@@ -55,6 +58,7 @@ fn after_branch(op: BranchOp, counter: u32, e: u32, following: u32) -> u32
 }
 
 /// The counter after an instruction, given the counter before it and the following instruction.
+#[inline(always)]
 #[tactic(auto, unfolding(crate::specs::Entry::after))]
 pub fn after(instr: &Instr, x: &[u64; 16], e: u32, counter: u32, following: u32) -> u32
     requires shape { HasFields instr.now }
@@ -71,6 +75,7 @@ pub fn after(instr: &Instr, x: &[u64; 16], e: u32, counter: u32, following: u32)
 }
 
 /// What an index store writes of the index word `x`.
+#[inline(always)]
 fn stored_part(op: HalfOp, x: u64) -> u64
     ensures { result ≡ stored_part_of op x }
 {
@@ -85,6 +90,7 @@ fn stored_part(op: HalfOp, x: u64) -> u64
 }
 
 /// What an instruction stores of an index word or of the counter.
+#[inline(always)]
 #[tactic(auto, unfolding(crate::specs::Entry::value))]
 pub fn value(instr: &Instr, x: &[u64; 16], following: u32) -> u64
     requires { HasFields instr.now }
@@ -97,6 +103,7 @@ pub fn value(instr: &Instr, x: &[u64; 16], following: u32) -> u64
     }
 }
 
+#[inline(always)]
 fn binary_cost(op: VflOp) -> u8
     ensures { result ≡ binary_cost_of op }
 {
@@ -107,6 +114,7 @@ fn binary_cost(op: VflOp) -> u8
     }
 }
 
+#[inline(always)]
 fn decimal_cost(op: VflOp) -> u8
     ensures { result ≡ decimal_cost_of op }
 {
@@ -117,6 +125,7 @@ fn decimal_cost(op: VflOp) -> u8
 }
 
 /// The ticks that an instruction takes once its operands are there.
+#[inline(always)]
 #[tactic(auto, unfolding(crate::specs::Entry::cost))]
 pub fn cost(instr: &Instr) -> u8
     ensures { result ≡ cost_of instr.now }
@@ -136,6 +145,7 @@ pub fn cost(instr: &Instr) -> u8
 }
 
 /// Whether an instruction is one of those that are done alone.
+#[inline(always)]
 #[tactic(auto, unfolding(crate::specs::Entry::acts_alone))]
 pub fn acts_alone(instr: &Instr) -> bool
     ensures { result ≡ acts_alone_of instr.now }

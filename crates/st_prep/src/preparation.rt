@@ -1,26 +1,31 @@
 //! What an entry is aimed at, and the entry prepared.
-ghost use Rattle.std.specs.Prelude.{◌≡◌, ◌<◌, ◌^◌, IfSome, is_some};
+ghost use Rattle.std.specs.Prelude.{◌≡◌, ℕ, ◌<◌, ◌^◌, false, IfSome, is_some, option_map};
 ghost use Rattle.st_bits.specs.Indicators.{indicator as indicator_of};
 ghost use Rattle.st_bits.specs.Storage.{words_of_storage};
 ghost use Rattle.st_state.specs.Machine.{Machine, word};
 ghost use Rattle.st_state.specs.Interrupts.{turned};
 ghost use Rattle.st_prep.specs.EarlyChange.{words_after};
-ghost use Rattle.st_prep.specs.Plan.{seen, is_alone as is_alone_of, aimed as aimed_at, aim as aim_of, is_serial as is_serial_of, needs_by, needs as needs_of, asks, suppressed as suppressed_of, entry as entry_of, prepared_by, prepared as prepared_of, plan as plan_of, opened, side_word as side_word_of, side_of, IsSeen, sight};
+ghost use Rattle.st_prep.specs.Plan.{seen, is_alone as is_alone_of, aimed as aimed_at, aim as aim_of, is_serial as is_serial_of, needs_by, needs as needs_of, asks, suppressed as suppressed_of, entry as entry_of, prepared_by, prepared as prepared_of, plan as plan_of, opened, side_word as side_word_of, side_of, IsSeen, entry_by, sight};
 ghost use Rattle.st_prep.specs.Fetch.{place_of as place_by};
-ghost use Rattle.st_prep.specs.Ranges.{IsPlace, IsFetched, IsAim, IsNeeds, IsChange, IsPrepared};
+ghost use Rattle.st_format.specs.declared.instruction.Format.{Format};
+ghost use Rattle.st_format.specs.Formats.{decoded, instruction_of, spelled_as};
+ghost use Rattle.st_prep.specs.Reading.{Use, plain, outcome, instruction_at, is_execute as is_execute_of, reading, allowed_found};
+ghost use Rattle.st_prep.specs.Ranges.{HasFields, IsPlace, IsFetched, IsAim, IsNeeds, IsChange, IsPrepared};
 
 use crate::addresses::effective_address;
 use crate::early::{change, side};
 use crate::entries::{Aim, Fetched, IndexChange, Needs, Place, Prepared};
 use crate::faults::{executed, fault};
-use crate::fetching::{fetch_all, index_words, is_execute, place_of};
+use crate::fetching::{fetch_all, halves_at, index_words, is_execute, place_of};
 use crate::outcome::{acts_alone, after, cost, next, value};
 use crate::runs::{has_register, is_register, none, reads, writes};
 use st_bits::register::INDICATORS;
-use st_bits::{Ind, indicator};
+use st_bits::{HalfOp, Ind, indicator};
+use st_format::{Decoded, Format, FullOp, decode_as, format_of};
 use st_state::State;
 
 /// Whether an entry is done alone even where it is suppressed.
+#[inline(always)]
 fn is_alone(place: &Place, fetched: &Fetched) -> bool
     ensures { result ≡ is_alone_of place.now fetched.now }
 {
@@ -63,6 +68,7 @@ fn aim(place: &Place, fetched: &Fetched, x: &[u64; 16], state: &State) -> Aim
 }
 
 /// Whether an entry that is not suppressed is done alone.
+#[inline(always)]
 #[tactic(auto, unfolding(crate::specs::Plan::is_serial))]
 fn is_serial(aim: &Aim) -> bool
     ensures { result ≡ is_serial_of aim.now }
@@ -75,6 +81,7 @@ fn is_serial(aim: &Aim) -> bool
 }
 
 /// What an entry needs.
+#[inline(always)]
 fn needs(aim: &Aim) -> Needs
     ensures { result ≡ needs_by aim.now.fault aim.now }
 {
@@ -160,7 +167,11 @@ fn fill(aim: &Aim, x: &[u64; 16], read: Option<u64>, p: &mut Prepared)
     ensures { p.new ≡ prepared_by aim.now.fault p.old.place aim.now x.now read }
 {
     match aim.fault {
-        Some(i) => suppress(aim, i, p),
+        Some(i) => {
+            // A copy, so that `aim` need not stand in memory for it.
+            let aim = *aim;
+            suppress(&aim, i, p)
+        }
         None => enter(aim, x, read, p),
     }
 }
@@ -198,6 +209,42 @@ pub fn prepare_in(
     read_shape(read);
     fill(&aim(&p.place, fetched, x, state), x, read, p);
     change_index(p.index, x);
+}
+
+/// Prepares an entry as far as it goes without its index-side word, in whose place 0 stands: all but `index` and `ind` is
+/// final, and these too where no such word is asked for. The result says what is needed. `x` stays.
+#[tactic(auto, unfolding(crate::specs::Plan::prepared, crate::specs::Plan::needs))]
+pub fn prepare_without_side(
+    p: &mut Prepared,
+    fetched: &Fetched,
+    x: &[u64; 16],
+    state: &State,
+) -> Needs
+    requires place { IsPlace p.old.place }
+    requires fetched { IsFetched fetched.now }
+
+    ensures value { let v = seen p.old.place fetched.now x.now state.now in
+        p.new ≡ prepared_of v (option_map (λ w. 0) (needs_of v).index_read) }
+    ensures needs { result ≡ needs_of (seen p.old.place fetched.now x.now state.now) }
+    ensures place { p.new.place ≡ p.old.place }
+    ensures ranges { IsPrepared p.new }
+    ensures shape { IsNeeds result }
+{
+    let aim = aim(&p.place, fetched, x, state);
+    let needs = needs(&aim);
+    fill(&aim, x, zero_for(needs.index_read), p);
+    needs
+}
+
+/// A word of zeros in the place of an index-side word, where one is asked for.
+fn zero_for(word: Option<u32>) -> Option<u64>
+    ensures value { result ≡ option_map (λ w. 0) word }
+    ensures shape { IfSome result (λ w. w < 2 ^ 64) }
+{
+    match word {
+        Some(_) => Some(0),
+        None => None,
+    }
 }
 
 /// Makes the change of an index word, if there is one.
@@ -273,19 +320,171 @@ pub fn side_word(state: &State, table: Option<u8>, w: Option<u32>) -> Option<u64
     }
 }
 
+/// Fills in the entry of a state that stands at `p.place`, by what is fetched there.
+#[inline(always)]
+#[tactic(auto, unfolding(crate::specs::Plan::prepared, crate::specs::Plan::needs))]
+fn fill_fetched(fetched: &Fetched, x: &[u64; 16], state: &State, p: &mut Prepared)
+    requires place { IsPlace p.old.place }
+    requires fetched { IsFetched fetched.now }
+    ensures { p.new ≡ entry_by state.now p.old.place fetched.now x.now }
+{
+    let aim = aim(&p.place, fetched, x, state);
+    let read = side_word(state, p.place.table, needs(&aim).index_read);
+    fill(&aim, x, read, p);
+}
+
+/// The same of an own instruction that is not EX and whose words may be fetched.
+#[inline(always)]
+fn fill_plain(own: Decoded, x: &[u64; 16], state: &State, p: &mut Prepared)
+    requires place { IsPlace p.old.place }
+    requires fields { HasFields own.instr }
+    ensures { p.new ≡ entry_by state.now p.old.place (plain own) x.now }
+{
+    let fetched = Fetched {
+        instr: own,
+        target: None,
+        fault: None,
+    };
+    fill_fetched(&fetched, x, state, p);
+}
+
+/// The same of half-words whose format is known.
+#[inline(always)]
+fn fill_as(format: Format, first: u32, second: u32, x: &[u64; 16], state: &State, p: &mut Prepared)
+    requires place { IsPlace p.old.place }
+    requires format { spelled_as format first second ≡ instruction_of first second }
+    ensures { p.new ≡ entry_by state.now p.old.place (plain (decoded first second)) x.now }
+{
+    fill_plain(decode_as(format, first, second), x, state, p);
+}
+
+/// The same, of a format that is not frequent.
+#[inline(never)]
+fn fill_seldom(
+    format: Format,
+    first: u32,
+    second: u32,
+    x: &[u64; 16],
+    state: &State,
+    p: &mut Prepared,
+)
+    requires place { IsPlace p.old.place }
+    requires format { spelled_as format first second ≡ instruction_of first second }
+    ensures { p.new ≡ entry_by state.now p.old.place (plain (decoded first second)) x.now }
+{
+    fill_as(format, first, second, x, state, p);
+}
+
+/// The same, of a full word.
+#[inline(always)]
+fn fill_whole(op: FullOp, first: u32, second: u32, x: &[u64; 16], state: &State, p: &mut Prepared)
+    requires place { IsPlace p.old.place }
+    requires format { spelled_as (Format.Whole op) first second ≡ instruction_of first second }
+    ensures { p.new ≡ entry_by state.now p.old.place (plain (decoded first second)) x.now }
+{
+    match op {
+        FullOp::Variable(op) => {
+            fill_as(
+                Format::Whole(FullOp::Variable(op)),
+                first,
+                second,
+                x,
+                state,
+                p,
+            )
+        }
+        FullOp::Connective(kind) => {
+            fill_as(
+                Format::Whole(FullOp::Connective(kind)),
+                first,
+                second,
+                x,
+                state,
+                p,
+            )
+        }
+        FullOp::IndicatorTest => {
+            fill_as(
+                Format::Whole(FullOp::IndicatorTest),
+                first,
+                second,
+                x,
+                state,
+                p,
+            )
+        }
+        _ => fill_seldom(Format::Whole(op), first, second, x, state, p),
+    }
+}
+
+/// The same, of any format. What follows knows the format, so that it is told apart once.
+#[inline(always)]
+fn fill_own(format: Format, first: u32, second: u32, x: &[u64; 16], state: &State, p: &mut Prepared)
+    requires place { IsPlace p.old.place }
+    requires format { spelled_as format first second ≡ instruction_of first second }
+    ensures { p.new ≡ entry_by state.now p.old.place (plain (decoded first second)) x.now }
+{
+    match format {
+        Format::Index(op) => fill_as(Format::Index(op), first, second, x, state, p),
+        Format::Branch(op) => fill_as(Format::Branch(op), first, second, x, state, p),
+        Format::Whole(op) => fill_whole(op, first, second, x, state, p),
+        _ => fill_seldom(format, first, second, x, state, p),
+    }
+}
+
+/// Fills in the entry of a state that stands at `p.place`, which may be EX, or of which a word may not be fetched.
+#[inline(never)]
+fn fill_other(x: &[u64; 16], state: &State, p: &mut Prepared)
+    requires { IsPlace p.old.place }
+    ensures { p.new ≡ entry_by state.now p.old.place (outcome (reading x.now (word state.now 3)
+        state.now.enabled p.old.place) (word state.now)) x.now }
+{
+    fill_fetched(&fetch_all(&p.place, x, state), x, state, p);
+}
+
+/// Whether an instruction of this format is EX.
+#[inline(always)]
+#[tactic(auto, unfolding(crate::specs::Reading::is_execute))]
+fn is_execute_format(format: Format) -> bool
+    ensures { (first second : ℕ) → result ≡ is_execute_of (spelled_as format first second) }
+{
+    match format {
+        Format::Index(op) => matches!(op, HalfOp::Ex),
+        Format::Whole(_) => false,
+        Format::Branch(_) | Format::Floating | Format::NoHalf | Format::NoWhole => false,
+    }
+}
+
+/// Fills in the entry of a state that stands at `p.place`, of which these are the half-words.
+#[inline(always)]
+fn fill_spelled(first: u32, second: u32, x: &[u64; 16], state: &State, p: &mut Prepared)
+    requires place { IsPlace p.old.place }
+    requires found { (k : Use) → outcome (instruction_at false (word state.now 3)
+        state.now.enabled p.old.place.address k) (word state.now)
+        ≡ outcome (k (allowed_found first second)) (word state.now) }
+    ensures { p.new ≡ entry_by state.now p.old.place (outcome (reading x.now (word state.now 3)
+        state.now.enabled p.old.place) (word state.now)) x.now }
+{
+    let format = format_of(first, second);
+    if is_execute_format(format) {
+        fill_other(x, state, p)
+    } else {
+        fill_own(format, first, second, x, state, p)
+    }
+}
+
 /// Fills in the next entry of a state, or its table instruction.
 #[inline(always)]
-#[tactic(auto, unfolding(crate::specs::Plan::plan, crate::specs::Plan::sight, crate::specs::Plan::prepared, crate::specs::Plan::needs, crate::specs::Fetch::fetched))]
 fn fill_next(table: Option<u8>, state: &State, p: &mut Prepared)
     requires { IfSome table (λ i. i < 64) }
     ensures { p.new ≡ plan_of state.now table }
 {
     p.place = place_of(state, table);
     let x = index_words(state);
-    let fetched = fetch_all(&p.place, &x, state);
-    let aim = aim(&p.place, &fetched, &x, state);
-    let read = side_word(state, table, needs(&aim).index_read);
-    fill(&aim, &x, read, p);
+    match halves_at(p.place.address, state) {
+        Some((first, second)) => fill_spelled(first, second, &x, state, p),
+        None => fill_other(&x, state, p),
+    }
 }
 
 /// Prepares the next entry of a state, or the table instruction of an interrupt by the indicator in `table`, in place.

@@ -10,12 +10,14 @@ use st_bits::{HalfOp, VflOp};
 use st_format::{FullOp, Instr, writes_field};
 
 /// No words.
+#[inline(always)]
 pub fn none() -> Words
     ensures { result ≡ no_words }
 {
     one_run(0, 0)
 }
 
+#[inline(always)]
 fn one_run(first: u32, len: u8) -> Words
     ensures { result ≡ one_run_of first len }
 {
@@ -27,6 +29,7 @@ fn one_run(first: u32, len: u8) -> Words
     }
 }
 
+#[inline(always)]
 fn two_runs(first: u32, first2: u32, len: u8) -> Words
     ensures { result ≡ two_runs_of first first2 len }
 {
@@ -39,6 +42,7 @@ fn two_runs(first: u32, first2: u32, len: u8) -> Words
 }
 
 /// The one or two words that the `length` bits from bit `e` on touch.
+#[inline(always)]
 #[tactic(auto, unfolding(crate::specs::Entry::field_words))]
 fn field_words(e: u32, length: u8) -> Words
     requires { e < 2 ^ 24 }
@@ -53,6 +57,7 @@ fn field_words(e: u32, length: u8) -> Words
     one_run(e / 64, len)
 }
 
+#[inline(always)]
 fn operand_words(p: u8, e: u32, length: u8) -> Words
     requires { e < 2 ^ 24 }
     ensures value { result ≡ operand_words_of p e length }
@@ -66,6 +71,7 @@ fn operand_words(p: u8, e: u32, length: u8) -> Words
 }
 
 /// The words that a transmission reads.
+#[inline(always)]
 fn words_read(swap: bool, from: u32, to: u32, count: u8) -> Words
     ensures { result ≡ words_read_of swap from to count }
 {
@@ -77,6 +83,7 @@ fn words_read(swap: bool, from: u32, to: u32, count: u8) -> Words
 }
 
 /// The words that it writes.
+#[inline(always)]
 fn words_written(swap: bool, from: u32, to: u32, count: u8) -> Words
     ensures { result ≡ words_written_of swap from to count }
 {
@@ -88,6 +95,7 @@ fn words_written(swap: bool, from: u32, to: u32, count: u8) -> Words
 }
 
 /// Whether an operation stores an index word or a part of it.
+#[inline(always)]
 fn is_index_store(op: HalfOp) -> bool
     ensures { result ≡ is_store op }
 {
@@ -98,6 +106,7 @@ fn is_index_store(op: HalfOp) -> bool
 }
 
 /// Whether an operation reads its field: all but ST.
+#[inline(always)]
 pub fn reads_field(op: VflOp) -> bool
     ensures { result ≡ reads_it op }
 {
@@ -105,6 +114,7 @@ pub fn reads_field(op: VflOp) -> bool
 }
 
 /// The words that an instruction with the effective address `e` reads, in order.
+#[inline(always)]
 #[tactic(auto, unfolding(crate::specs::Entry::reads))]
 pub fn reads(instr: &Instr, e: u32) -> Words
     requires shape { HasFields instr.now }
@@ -127,6 +137,7 @@ pub fn reads(instr: &Instr, e: u32) -> Words
 }
 
 /// The words that an instruction with the effective address `e` writes, in order.
+#[inline(always)]
 #[tactic(auto, unfolding(crate::specs::Entry::writes))]
 pub fn writes(instr: &Instr, e: u32) -> Words
     requires shape { HasFields instr.now }
@@ -154,6 +165,7 @@ pub fn writes(instr: &Instr, e: u32) -> Words
 }
 
 /// Whether a register, a word below 32, is among the words.
+#[inline(always)]
 #[tactic(auto, unfolding(crate::specs::Entry::has_register))]
 pub fn has_register(words: Words) -> bool
     ensures { result ≡ has_register_of words }
@@ -163,6 +175,7 @@ pub fn has_register(words: Words) -> bool
 }
 
 /// Whether there is a word, and it is a register.
+#[inline(always)]
 pub fn is_register(word: Option<u32>) -> bool
     ensures { result ≡ is_register_of word }
 {

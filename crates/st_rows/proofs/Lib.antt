@@ -1,4 +1,5 @@
 pub mod Awaited
+pub mod Fills
 pub mod Older
 pub mod Served
 pub mod Sooner

@@ -46,7 +46,7 @@ module _ (ds : List ℕ) where
   data_if true w tick b = refl
   data_if false w tick b = refl
 
-  served-side : (past : List Past) (side : Option ℕ) (a : ℕ) (b : Bus) → served ds (side_asked past side a) b ≡ bus_sided ds past b side a
+  pub served-side : (past : List Past) (side : Option ℕ) (a : ℕ) (b : Bus) → served ds (side_asked past side a) b ≡ bus_sided ds past b side a
   unfolding side_asked bus_sided
   served-side past None a b = served-none b
   served-side past (Some w) a b = data_if (is_forwarded past w a) w a b
@@ -57,7 +57,7 @@ module _ (ds : List ℕ) where
   bus_if true s w p = refl
   bus_if false s w p = refl
 
-  served-operands : (past : List Past) (p : ℕ) (s : Reading) (w n : ℕ)
+  pub served-operands : (past : List Past) (p : ℕ) (s : Reading) (w n : ℕ)
       → served ds (operands_asked past p w n) s.bus ≡ (read_words ds past s p w n).bus
   unfolding operands_asked read_words read_word
   served-operands past p s w zero = served-none s.bus
@@ -72,7 +72,7 @@ module _ (ds : List ℕ) where
   inside_if true b w p = served-word (tick_of b.held.words w) w p b
   inside_if false b w p = served-none b
 
-  follow_if : (follows : Bool) (b : Bus) (w p : ℕ)
+  pub follow_if : (follows : Bool) (b : Bus) (w p : ℕ)
       → served ds (if follows then inside_asked b w p ++ inside_asked (request_inside ds b w p) (w + 1) p else []) b
       ≡ (if follows then request_inside ds (request_inside ds b w p) (w + 1) p else b)
   follow_if false b w p = served-none b
@@ -81,7 +81,7 @@ module _ (ds : List ℕ) where
       ∙ ap (served ds (inside_asked (request_inside ds b w p) (w + 1) p)) (inside_if (nat_lt w words_of_storage) b w p)
       ∙ inside_if (nat_lt (w + 1) words_of_storage) (request_inside ds b w p) (w + 1) p
 
-  served-fetches : (f : Front) (e : Entry) → served ds (fetches_asked ds f e) f.bus ≡ (fetched ds f e).bus
+  pub served-fetches : (f : Front) (e : Entry) → served ds (fetches_asked ds f e) f.bus ≡ (fetched ds f e).bus
   unfolding fetches_asked fetched
   served-fetches f e =
       let start : Fetching = record { bus = f.bus; answered = 0; awaited = 0 } in

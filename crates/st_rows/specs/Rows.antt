@@ -1,11 +1,12 @@
 -- The row of an entry, and what is computed of it for the next one, for a machine with the delays ds and with n levels.
 -- A stage takes the bus where the stage before it left it.
-use Rattle.std.specs.Prelude.{ℕ, zero, suc, ◌+◌, ◌-◌, max, Bool, false, ◌||◌, nat_lt, if◌then◌else◌, List, ◌∷◌, get_or, take, replicate, Option, None, Some}
+use Rattle.std.specs.Prelude.{ℕ, zero, suc, ◌+◌, ◌-◌, max, Bool, false, ◌||◌, nat_lt, if◌then◌else◌, List, [], ◌∷◌, get_or, take, replicate, Option, None, Some}
 use Rattle.st_bits.specs.Storage.{words_of_storage}
 use Rattle.st_banks.specs.declared.answers.LastAnswers.{LastAnswers}
 use Rattle.st_rows.specs.BusTimes.{no_reads, after_read, answer_at, requested, answer_of}
 use Rattle.st_rows.specs.Entries.{no_words, latest_done}
 use Rattle.st_rows.specs.declared.bus.Bus.{Bus}
+use Rattle.st_rows.specs.declared.entry.Run.{Run}
 use Rattle.st_rows.specs.declared.entry.Runs.{Runs}
 use Rattle.st_rows.specs.declared.entry.Entry.{Entry}
 use Rattle.st_rows.specs.declared.past.Past.{Past}
@@ -95,6 +96,14 @@ operands_read ds past b reads p =
     (read_words ds past (record { bus = b; answered = p }) p reads.one.first reads.one.len)
     p reads.two.first reads.two.len
 
+-- the tick at which an operand word is there: its answer, or the completion of its latest writer where it is forwarded
+unfoldable pub fill_at : List ℕ → List Past → Bus → ℕ → ℕ → ℕ
+fill_at ds past b w p = if is_forwarded past w p then latest_done past w else answer_at ds b w p
+
+-- the same where there is such a word, and else 0
+abbrev pub fill_if : Bool → List ℕ → List Past → Bus → ℕ → ℕ → ℕ
+fill_if there ds past b w p = if there then fill_at ds past b w p else 0
+
 -- ---- completion
 
 abbrev pub completed : Front → Entry → ℕ → ℕ
@@ -138,6 +147,17 @@ row ds n f e = record {
   r = (operands ds n f e).answered;
   c = tick_c ds n f e;
 }
+
+-- when the first two words of its first run of operands are there, 0 where the run has no such word
+unfoldable pub fills_of : List ℕ → List Past → Bus → Run → ℕ → List ℕ
+fills_of ds past b run p =
+    fill_if (nat_lt 0 run.len) ds past b run.first p
+    ∷ fill_if (nat_lt 1 run.len) ds past
+    (read_word ds past (record { bus = b; answered = p }) run.first p).bus (run.first + 1) p
+    ∷ []
+
+abbrev pub fills : List ℕ → ℕ → Front → Entry → List ℕ
+fills ds n f e = fills_of ds f.past (bus_a ds f e) e.reads.one (tick_p ds n f e)
 
 -- the front behind it
 unfoldable pub after : List ℕ → ℕ → Front → Entry → Front

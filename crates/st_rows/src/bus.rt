@@ -1,13 +1,14 @@
 //! The bus: when reads are accepted and answered, and which instruction words are held.
 ghost use Rattle.std.specs.Prelude.{◌≡◌, ◌+◌, ◌-◌, ◌<◌, ◌≤◌, ◌^◌};
 ghost use Rattle.st_rows.specs.BusTimes.{no_reads, after_read, answer_at, requested, answer_of};
+ghost use Rattle.st_rows.specs.Asked.{after_one};
 ghost use Rattle.st_rows.specs.Ranges.{IsBusWithin};
 
 use st_banks::{Delays, LastAnswers};
 use st_fetch::HeldWords;
 
 /// The way to storage: at most one read is accepted a tick, in the order in which reads are asked for.
-#[derive(Clone, Copy, Debug, PartialEq, Eq)]
+#[derive(Clone, Copy, Debug, Default, PartialEq, Eq)]
 pub struct Bus {
     /// The last answer of each bank.
     pub banks: LastAnswers,
@@ -32,8 +33,8 @@ impl Bus {
     /// Reads the word `w`, which is wanted from the tick `want` on. The result is the tick of the answer.
     #[tactic(auto, unfolding(crate::specs::BusTimes::after_read))]
     pub fn read(&mut self, delays: &Delays, w: u32, want: u64) -> u64
-        requires room { IsBusWithin (2 ^ 63 - 512) self.old }
-        requires early { want ≤ 2 ^ 63 - 512 }
+        requires room { IsBusWithin (2 ^ 64 - 512) self.old }
+        requires early { want ≤ 2 ^ 64 - 512 }
         ensures value { result ≡ answer_at delays.now self.old w want }
         ensures after { self.new ≡ after_read delays.now self.old w want }
     {
@@ -48,8 +49,8 @@ impl Bus {
     /// held from now on. The result is the tick of the answer.
     #[tactic(auto, unfolding(crate::specs::BusTimes::after_read, crate::specs::BusTimes::requested, crate::specs::BusTimes::answer_of))]
     pub fn request(&mut self, delays: &Delays, w: u32, want: u64) -> u64
-        requires room { IsBusWithin (2 ^ 63 - 512) self.old }
-        requires early { want ≤ 2 ^ 63 - 512 }
+        requires room { IsBusWithin (2 ^ 64 - 512) self.old }
+        requires early { want ≤ 2 ^ 64 - 512 }
         ensures value { result ≡ answer_of delays.now self.old w want }
         ensures after { self.new ≡ requested delays.now self.old w want }
     {
@@ -58,6 +59,23 @@ impl Bus {
         }
         let answer = self.read(delays, w, want);
         self.held = self.held.requested(w, answer);
+        answer
+    }
+
+    /// Makes the read of the word `w` that was asked for at its turn and is wanted from the tick `want` on. An instruction word, as
+    /// `fetch` says, is held from now on. The result is the tick of the answer.
+    #[tactic(auto, unfolding(crate::specs::BusTimes::after_read))]
+    pub fn serve(&mut self, delays: &Delays, w: u32, want: u64, fetch: bool) -> u64
+        requires room { IsBusWithin (2 ^ 64 - 512) self.old }
+        requires early { want ≤ 2 ^ 64 - 512 }
+        ensures value { result ≡ answer_at delays.now self.old w want }
+        ensures after { self.new ≡
+            after_one delays.now self.old (record { w = w; want = want; fetch = fetch }) }
+    {
+        let answer = self.read(delays, w, want);
+        if fetch {
+            self.held = self.held.requested(w, answer);
+        }
         answer
     }
 }

@@ -9,7 +9,7 @@ use crate::past::{Past, latest_done};
 use st_banks::Delays;
 
 /// How far the instruction words of an entry are fetched.
-#[derive(Clone, Copy, Debug, PartialEq, Eq)]
+#[derive(Clone, Copy, Debug, Default, PartialEq, Eq)]
 pub struct Fetching {
     /// The bus after the words so far.
     pub bus: Bus,
@@ -34,9 +34,9 @@ impl Fetching {
     /// Fetches the next instruction word, which is wanted from `from` on.
     #[tactic(auto, unfolding(crate::specs::Rows::fetch_word))]
     pub fn word(&mut self, delays: &Delays, past: &[Past; 8], w: u32, from: u64)
-        requires room { IsFetchingWithin (2 ^ 63 - 512) self.old }
-        requires before { ArePastWithin (2 ^ 63 - 512) past.now }
-        requires early { from ≤ 2 ^ 63 - 512 }
+        requires room { IsFetchingWithin (2 ^ 64 - 512) self.old }
+        requires before { ArePastWithin (2 ^ 64 - 512) past.now }
+        requires early { from ≤ 2 ^ 64 - 512 }
         ensures { self.new ≡ fetch_word delays.now past.now self.old w from }
     {
         let want = from.max(self.answered).max(self.awaited);
@@ -48,9 +48,9 @@ impl Fetching {
     /// Fetches the next instruction words.
     #[tactic(auto, unfolding(crate::specs::Rows::fetch_words))]
     pub fn words(&mut self, delays: &Delays, past: &[Past; 8], run: Run, from: u64)
-        requires room { IsFetchingWithin (2 ^ 63 - 2 ^ 16) self.old }
-        requires before { ArePastWithin (2 ^ 63 - 2 ^ 16) past.now }
-        requires early { from ≤ 2 ^ 63 - 2 ^ 16 }
+        requires room { IsFetchingWithin (2 ^ 64 - 2 ^ 16) self.old }
+        requires before { ArePastWithin (2 ^ 64 - 2 ^ 16) past.now }
+        requires early { from ≤ 2 ^ 64 - 2 ^ 16 }
         requires words { IsReadable run }
         requires few { run.len ≤ 16 }
         ensures { self.new ≡ fetch_words delays.now past.now self.old from run.first run.len }

@@ -2,11 +2,11 @@
 ghost use Rattle.std.specs.Prelude.{◌≡◌, ◌+◌, ◌*◌, ◌-◌, ◌<◌, ◌≤◌, ◌^◌, max, All};
 ghost use Rattle.st_rows.specs.BusTimes.{requested};
 ghost use Rattle.st_rows.specs.Rows.{opening, wanted_from, fetched, addressed, bus_sided, side_there, prepared as prepared_of};
-ghost use Rattle.st_rows.specs.Rows.{operands_read, request_inside as request_inside_of, bus_followed, tick_a, bus_a, tick_p, row as row_of, after};
-ghost use Rattle.st_rows.specs.Ranges.{IsEntry, IsTight, IsBusWithin, IsFetchingWithin, ArePastWithin};
+ghost use Rattle.st_rows.specs.Rows.{operands_read, request_inside as request_inside_of, bus_followed, tick_a, bus_a, tick_p, row as row_of, after, fills_of, fills as fills_of_entry};
+ghost use Rattle.st_rows.specs.Ranges.{IsEntry, IsTight, IsBusWithin, IsFetchingWithin, ArePastWithin, IsReadable};
 
 use crate::bus::Bus;
-use crate::entry::Entry;
+use crate::entry::{Entry, Run};
 use crate::fetching::Fetching;
 use crate::past::{Past, latest_done, with_newest};
 use crate::reading::Reading;
@@ -29,7 +29,7 @@ pub struct Row {
 }
 
 /// What the row of the next entry is computed from.
-#[derive(Clone, Copy, Debug, PartialEq, Eq)]
+#[derive(Clone, Copy, Debug, Default, PartialEq, Eq)]
 pub struct Front {
     /// The bus after the reads of the entries so far.
     pub bus: Bus,
@@ -43,13 +43,24 @@ pub struct Front {
     pub past: [Past; 8],
 }
 
-/// An entry that is prepared.
-#[derive(Clone, Copy)]
-struct Prepared {
+/// An entry whose address is formed.
+#[derive(Clone, Copy, Debug, Default, PartialEq, Eq)]
+pub struct Formed {
     /// The bus after its index-side word.
-    bus: Bus,
-    a: u64,
-    p: u64,
+    pub bus: Bus,
+    /// When its address is formed.
+    pub a: u64,
+    /// When it is prepared.
+    pub p: u64,
+}
+
+/// An entry whose operands are there.
+#[derive(Clone, Copy, Debug, Default, PartialEq, Eq)]
+pub struct Filled {
+    /// Its ticks.
+    pub row: Row,
+    /// When the first two words of its first run of operands are there, 0 where the run has no such word.
+    pub fills: [u64; 2],
 }
 
 impl Front {
@@ -84,7 +95,7 @@ impl Front {
     pub fn fetch(&self, delays: &Delays, entry: &Entry) -> Fetching
         requires entry { IsEntry entry.now }
         requires tight { IsTight 255 self.now }
-        requires early { self.now.c ≤ 2 ^ 62 }
+        requires early { self.now.c ≤ 2 ^ 63 + 2 ^ 20 }
         ensures { result ≡ fetched delays.now self.now entry.now }
     {
         delays.shape();
@@ -99,7 +110,7 @@ impl Front {
     #[tactic(auto, unfolding(crate::specs::Rows::addressed))]
     fn address(&self, entry: &Entry, words: Fetching) -> u64
         requires tight { IsTight 255 self.now }
-        requires early { self.now.c ≤ 2 ^ 62 }
+        requires early { self.now.c ≤ 2 ^ 63 + 2 ^ 20 }
         requires room { IsFetchingWithin (self.now.c + 1791) words }
         ensures value { result ≡ addressed self.now entry.now words.answered words.awaited }
         ensures bound { result ≤ self.now.c + 1792 }
@@ -113,11 +124,12 @@ impl Front {
         (there + 1).max(self.bus.free)
     }
 
-    /// The next entry is prepared, whose instruction words are fetched.
-    fn prepare(&self, delays: &Delays, levels: usize, entry: &Entry, words: Fetching) -> Prepared
+    /// The address of the next entry is formed, whose instruction words are fetched, and its index-side word is asked for; `levels`
+    /// are those of the machine, 1 to 8.
+    pub fn form(&self, delays: &Delays, levels: usize, entry: &Entry, words: Fetching) -> Formed
         requires entry { IsEntry entry.now }
         requires tight { IsTight 255 self.now }
-        requires early { self.now.c ≤ 2 ^ 62 }
+        requires early { self.now.c ≤ 2 ^ 63 + 2 ^ 20 }
         requires levels { (1 ≤ levels) × (levels ≤ 8) }
         requires words { words ≡ fetched delays.now self.now entry.now }
         ensures address { result.a ≡ tick_a delays.now self.now entry.now }
@@ -129,14 +141,14 @@ impl Front {
         let mut bus = words.bus;
         let y = side(&mut bus, delays, &self.past, entry.side, a);
         let p = prepared_at(levels, &self.past, a, y);
-        Prepared { bus, a, p }
+        Formed { bus, a, p }
     }
 
     /// Goes on behind the next entry, and gives its row; `levels` are those of the machine, 1 to 8.
     pub fn next(&mut self, delays: &Delays, levels: usize, entry: &Entry) -> Row
         requires entry { IsEntry entry.now }
         requires tight { IsTight 255 self.old }
-        requires early { self.old.c ≤ 2 ^ 62 }
+        requires early { self.old.c ≤ 2 ^ 63 + 2 ^ 20 }
         requires levels { (1 ≤ levels) × (levels ≤ 8) }
         ensures value { result ≡ row_of delays.now levels self.old entry.now }
         ensures after { self.new ≡ after delays.now levels self.old entry.now }
@@ -151,7 +163,7 @@ impl Front {
     pub fn finish(&mut self, delays: &Delays, levels: usize, entry: &Entry, words: Fetching) -> Row
         requires entry { IsEntry entry.now }
         requires tight { IsTight 255 self.old }
-        requires early { self.old.c ≤ 2 ^ 62 }
+        requires early { self.old.c ≤ 2 ^ 63 + 2 ^ 20 }
         requires levels { (1 ≤ levels) × (levels ≤ 8) }
         requires words { words ≡ fetched delays.now self.old entry.now }
         ensures value { result ≡ row_of delays.now levels self.old entry.now }
@@ -159,12 +171,38 @@ impl Front {
         ensures tight { IsTight 255 self.new }
         ensures bound { self.new.c ≤ self.old.c + 16576 }
     {
+        let formed = self.form(delays, levels, entry, words);
+        self.complete(delays, levels, entry, formed).row
+    }
+
+    /// The same where the address of the entry is formed already, as `form` says. The result says besides when the first two operand
+    /// words are there.
+    pub fn complete(
+        &mut self,
+        delays: &Delays,
+        levels: usize,
+        entry: &Entry,
+        formed: Formed,
+    ) -> Filled
+        requires entry { IsEntry entry.now }
+        requires tight { IsTight 255 self.old }
+        requires early { self.old.c ≤ 2 ^ 63 + 2 ^ 20 }
+        requires levels { (1 ≤ levels) × (levels ≤ 8) }
+        requires address { formed.a ≡ tick_a delays.now self.old entry.now }
+        requires bus { formed.bus ≡ bus_a delays.now self.old entry.now }
+        requires tick { formed.p ≡ tick_p delays.now levels self.old entry.now }
+        ensures value { result.row ≡ row_of delays.now levels self.old entry.now }
+        ensures fills { result.fills ≡ fills_of_entry delays.now levels self.old entry.now }
+        ensures after { self.new ≡ after delays.now levels self.old entry.now }
+        ensures tight { IsTight 255 self.new }
+        ensures bound { self.new.c ≤ self.old.c + 16576 }
+    {
         delays.shape();
-        let prepared = self.prepare(delays, levels, entry, words);
-        let operands = read_operands(delays, &self.past, entry, prepared.bus, prepared.p);
+        let fills = fills(delays, &self.past, entry.reads.one, formed.bus, formed.p);
+        let operands = read_operands(delays, &self.past, entry, formed.bus, formed.p);
         let c = self.c.max(operands.answered) + u64::from(entry.cost);
-        self.bus = follow(operands.bus, delays, entry, prepared.p);
-        self.p = prepared.p;
+        self.bus = follow(operands.bus, delays, entry, formed.p);
+        self.p = formed.p;
         self.c = c;
         self.serial = entry.serial;
         self.past = with_newest(
@@ -174,12 +212,13 @@ impl Front {
                 writes: entry.writes,
             },
         );
-        Row {
-            a: prepared.a,
-            p: prepared.p,
+        let row = Row {
+            a: formed.a,
+            p: formed.p,
             r: operands.answered,
             c,
-        }
+        };
+        Filled { row, fills }
     }
 }
 
@@ -187,8 +226,8 @@ impl Front {
 /// is done later. The result is the tick at which it is there, 0 where there is none.
 #[tactic(auto, unfolding(crate::specs::Rows::bus_sided, crate::specs::Rows::side_there))]
 fn side(bus: &mut Bus, delays: &Delays, past: &[Past; 8], word: Option<u32>, a: u64) -> u64
-    requires room { IsBusWithin (2 ^ 63 - 512) bus.old }
-    requires early { a ≤ 2 ^ 63 - 512 }
+    requires room { IsBusWithin (2 ^ 64 - 512) bus.old }
+    requires early { a ≤ 2 ^ 64 - 512 }
     ensures value { result ≡ side_there delays.now past.now bus.old word a }
     ensures after { bus.new ≡ bus_sided delays.now past.now bus.old word a }
 {
@@ -207,9 +246,9 @@ fn side(bus: &mut Bus, delays: &Delays, past: &[Past; 8], word: Option<u32>, a: 
 fn prepared_at(levels: usize, past: &[Past; 8], a: u64, y: u64) -> u64
     requires some { 1 ≤ levels }
     requires most { levels ≤ 8 }
-    requires before { ArePastWithin (2 ^ 63 - 512) past.now }
-    requires address { a ≤ 2 ^ 63 - 512 }
-    requires side { y ≤ 2 ^ 63 - 512 }
+    requires before { ArePastWithin (2 ^ 64 - 512) past.now }
+    requires address { a ≤ 2 ^ 64 - 512 }
+    requires side { y ≤ 2 ^ 64 - 512 }
     ensures { result ≡ prepared_of levels past.now a y }
 {
     a.max(y).max(past[levels - 1].c) + 1
@@ -219,9 +258,9 @@ fn prepared_at(levels: usize, past: &[Past; 8], a: u64, y: u64) -> u64
 #[tactic(auto, unfolding(crate::specs::Rows::operands_read))]
 fn read_operands(delays: &Delays, past: &[Past; 8], entry: &Entry, bus: Bus, p: u64) -> Reading
     requires entry { IsEntry entry.now }
-    requires before { ArePastWithin (2 ^ 63 - 2 ^ 17) past.now }
-    requires room { IsBusWithin (2 ^ 63 - 2 ^ 17) bus }
-    requires early { p ≤ 2 ^ 63 - 2 ^ 17 }
+    requires before { ArePastWithin (2 ^ 64 - 2 ^ 17) past.now }
+    requires room { IsBusWithin (2 ^ 64 - 2 ^ 17) bus }
+    requires early { p ≤ 2 ^ 64 - 2 ^ 17 }
     ensures { result ≡ operands_read delays.now past.now bus entry.now.reads p }
 {
     delays.shape();
@@ -231,12 +270,33 @@ fn read_operands(delays: &Delays, past: &[Past; 8], entry: &Entry, bus: Bus, p: 
     operands
 }
 
+/// When the first two words of a run of operands are there, of an entry that is prepared at `p`; 0 where there is no such word.
+#[tactic(auto, unfolding(crate::specs::Rows::fills_of))]
+fn fills(delays: &Delays, past: &[Past; 8], run: Run, bus: Bus, p: u64) -> [u64; 2]
+    requires words { IsReadable run }
+    requires before { ArePastWithin (2 ^ 64 - 2 ^ 17) past.now }
+    requires room { IsBusWithin (2 ^ 64 - 2 ^ 17) bus }
+    requires early { p ≤ 2 ^ 64 - 2 ^ 17 }
+    ensures { result ≡ fills_of delays.now past.now bus run p }
+{
+    delays.shape();
+    if run.len == 0 {
+        return [0, 0];
+    }
+    let mut operands = Reading { bus, answered: p };
+    let first = operands.word(delays, past, run.first, p);
+    if run.len == 1 {
+        return [first, 0];
+    }
+    [first, operands.word(delays, past, run.first + 1, p)]
+}
+
 /// The bus after the following words of an entry that is prepared at `p`.
 #[tactic(auto, unfolding(crate::specs::Rows::bus_followed))]
 fn follow(bus: Bus, delays: &Delays, entry: &Entry, p: u64) -> Bus
     requires entry { IsEntry entry.now }
-    requires room { IsBusWithin (2 ^ 63 - 1024) bus }
-    requires early { p ≤ 2 ^ 63 - 1024 }
+    requires room { IsBusWithin (2 ^ 64 - 1024) bus }
+    requires early { p ≤ 2 ^ 64 - 1024 }
     ensures { result ≡ bus_followed delays.now bus entry.now p }
 {
     delays.shape();
@@ -251,8 +311,8 @@ fn follow(bus: Bus, delays: &Delays, entry: &Entry, p: u64) -> Bus
 
 /// Asks for the word `w`, if it is a word of storage.
 fn request_inside(bus: &mut Bus, delays: &Delays, w: u32, p: u64)
-    requires room { IsBusWithin (2 ^ 63 - 512) bus.old }
-    requires early { p ≤ 2 ^ 63 - 512 }
+    requires room { IsBusWithin (2 ^ 64 - 512) bus.old }
+    requires early { p ≤ 2 ^ 64 - 512 }
     ensures { bus.new ≡ request_inside_of delays.now bus.old w p }
 {
     if w < WORDS {

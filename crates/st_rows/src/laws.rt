@@ -1,8 +1,8 @@
 //! What holds of the ticks of all entries.
-ghost use Rattle.std.specs.Prelude.{◌≡◌, ℕ, List, [], ◌∷◌, ◌+◌, ◌*◌, ◌<◌, ◌≤◌, ◌||◌, true, length};
+ghost use Rattle.std.specs.Prelude.{◌≡◌, ℕ, List, [], ◌∷◌, ◌+◌, ◌*◌, ◌<◌, ◌≤◌, ◌||◌, true, length, get_or, max};
 ghost use Rattle.st_rows.specs.Ranges.{AreDelays, IsEntry, IsNear, IsTight};
 ghost use Rattle.st_rows.specs.Entries.{latest_done};
-ghost use Rattle.st_rows.specs.Rows.{opening, fetched, done_before, row, after};
+ghost use Rattle.st_rows.specs.Rows.{opening, fetched, done_before, row, after, fills};
 ghost use Rattle.std.specs.List.{AllZip};
 ghost use Rattle.st_banks.specs.declared.answers.LastAnswers.{LastAnswers};
 ghost use Rattle.st_rows.specs.Asked.{Read, asked, served, after_one, made_before, own_reads};
@@ -37,12 +37,30 @@ pub fn rows_are_in_order()
         ((row ds n f e).r < (row ds n f e).c) × (f.c < (row ds n f e).c) }
 {}
 
-/// The ticks of a front stay close together, and no entry takes longer than 64 reads with four ticks more each.
+/// The ticks of a front stay close together, and no entry takes longer than 64 reads with four ticks more each; sixteen ticks are to spare,
+/// in which the next segment starts.
 pub fn completions_are_bounded()
     ensures tight { (most n : ℕ) (ds : List ℕ) (f : Front) (e : Entry) → AreDelays most ds →
         IsEntry e → IsTight most f → IsTight most (after ds n f e) }
     ensures bound { (most n : ℕ) (ds : List ℕ) (f : Front) (e : Entry) → AreDelays most ds →
-        IsEntry e → IsTight most f → (after ds n f e).c ≤ f.c + 64 * (most + 4) }
+        IsEntry e → IsTight most f → (after ds n f e).c + 16 ≤ f.c + 64 * (most + 4) }
+{}
+
+/// The first two operand words are there after preparation, and before the entry is done: when all are read or the last entry is
+/// done. Where there are no others, the latest of them, preparation and that completion decide when its turn comes.
+pub fn operands_are_there_before_completion()
+    ensures first { (most n : ℕ) (ds : List ℕ) (f : Front) (e : Entry) → AreDelays most ds →
+        1 ≤ e.reads.one.len → (row ds n f e).p < get_or (fills ds n f e) 0 0 }
+    ensures second { (most n : ℕ) (ds : List ℕ) (f : Front) (e : Entry) → AreDelays most ds →
+        2 ≤ e.reads.one.len → (row ds n f e).p < get_or (fills ds n f e) 1 0 }
+    ensures ready { (most n i : ℕ) (ds : List ℕ) (f : Front) (e : Entry) → IsTight most f →
+        get_or (fills ds n f e) i 0 ≤ max (row ds n f e).r f.c }
+    ensures done { (most n i : ℕ) (ds : List ℕ) (f : Front) (e : Entry) → IsTight most f →
+        IsEntry e → get_or (fills ds n f e) i 0 < (row ds n f e).c }
+    ensures last { (most n : ℕ) (ds : List ℕ) (f : Front) (e : Entry) → IsTight most f →
+        e.reads.one.len ≤ 2 → e.reads.two.len ≡ 0 →
+        max (row ds n f e).r f.c ≡ max (max (row ds n f e).p f.c)
+        (max (get_or (fills ds n f e) 0 0) (get_or (fills ds n f e) 1 0)) }
 {}
 
 /// Where all reads take the same time, a read that is wanted no later on a bus that is nowhere later is answered no later.

@@ -13,13 +13,14 @@ mod reading;
 pub use bus::Bus;
 pub use entry::{Entry, Run, Runs};
 pub use fetching::Fetching;
-pub use front::{Front, Row};
+pub use front::{Filled, Formed, Front, Row};
 pub use laws::{
     completions_are_bounded, entries_are_no_later, made_reads_are_answered_soon,
     more_levels_are_no_later, older_entries_are_done_before, older_entries_decide_nothing,
-    reads_are_no_later, reads_come_in_order, rows_are_in_order, rows_make_their_reads,
+    operands_are_there_before_completion, reads_are_no_later, reads_come_in_order,
+    rows_are_in_order, rows_make_their_reads,
 };
-pub use past::Past;
+pub use past::{Past, latest_done};
 pub use reading::Reading;
 
 #[cfg(test)]

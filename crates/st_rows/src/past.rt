@@ -14,7 +14,7 @@ pub struct Past {
 }
 
 /// The tick at which the latest of these entries is done that writes the word `w`, 0 where none does.
-pub(crate) fn latest_done(past: &[Past; 8], w: u32) -> u64
+pub fn latest_done(past: &[Past; 8], w: u32) -> u64
     ensures { result ≡ latest_done_of past.now w }
 {
     for entry in past {

@@ -1,6 +1,6 @@
 //! The operand words of an entry, read one after another.
 ghost use Rattle.std.specs.Prelude.{◌≡◌, ◌+◌, ◌*◌, ◌-◌, ◌<◌, ◌≤◌, ◌^◌, All};
-ghost use Rattle.st_rows.specs.Rows.{read_word, read_words};
+ghost use Rattle.st_rows.specs.Rows.{read_word, read_words, fill_at};
 ghost use Rattle.st_rows.specs.Ranges.{IsReadingWithin, ArePastWithin, IsReadable};
 
 use crate::bus::Bus;
@@ -9,7 +9,7 @@ use crate::past::{Past, latest_done};
 use st_banks::Delays;
 
 /// How far the operand words of an entry are read.
-#[derive(Clone, Copy, Debug, PartialEq, Eq)]
+#[derive(Clone, Copy, Debug, Default, PartialEq, Eq)]
 pub struct Reading {
     /// The bus after the words so far.
     pub bus: Bus,
@@ -18,27 +18,31 @@ pub struct Reading {
 }
 
 impl Reading {
-    /// Reads the next operand word of an entry that is prepared at `p`, unless an earlier entry writes it that is done later.
-    #[tactic(auto, unfolding(crate::specs::Rows::read_word))]
-    pub fn word(&mut self, delays: &Delays, past: &[Past; 8], w: u32, p: u64)
-        requires room { IsReadingWithin (2 ^ 63 - 512) self.old }
-        requires before { ArePastWithin (2 ^ 63 - 512) past.now }
-        requires early { p ≤ 2 ^ 63 - 512 }
-        ensures { self.new ≡ read_word delays.now past.now self.old w p }
+    /// Reads the next operand word of an entry that is prepared at `p`, unless an earlier entry writes it that is done later. The
+    /// result is the tick at which the word is there.
+    #[tactic(auto, unfolding(crate::specs::Rows::read_word, crate::specs::Rows::fill_at))]
+    pub fn word(&mut self, delays: &Delays, past: &[Past; 8], w: u32, p: u64) -> u64
+        requires room { IsReadingWithin (2 ^ 64 - 512) self.old }
+        requires before { ArePastWithin (2 ^ 64 - 512) past.now }
+        requires early { p ≤ 2 ^ 64 - 512 }
+        ensures value { result ≡ fill_at delays.now past.now self.old.bus w p }
+        ensures after { self.new ≡ read_word delays.now past.now self.old w p }
     {
-        if latest_done(past, w) > p {
-            return;
+        let done = latest_done(past, w);
+        if done > p {
+            return done;
         }
         let answer = self.bus.read(delays, w, p);
         self.answered = self.answered.max(answer);
+        answer
     }
 
     /// Reads the next operand words.
     #[tactic(auto, unfolding(crate::specs::Rows::read_words))]
     pub fn words(&mut self, delays: &Delays, past: &[Past; 8], run: Run, p: u64)
-        requires room { IsReadingWithin (2 ^ 63 - 2 ^ 16) self.old }
-        requires before { ArePastWithin (2 ^ 63 - 2 ^ 16) past.now }
-        requires early { p ≤ 2 ^ 63 - 2 ^ 16 }
+        requires room { IsReadingWithin (2 ^ 64 - 2 ^ 16) self.old }
+        requires before { ArePastWithin (2 ^ 64 - 2 ^ 16) past.now }
+        requires early { p ≤ 2 ^ 64 - 2 ^ 16 }
         requires words { IsReadable run }
         requires few { run.len ≤ 16 }
         ensures { self.new ≡ read_words delays.now past.now self.old p run.first run.len }

@@ -72,7 +72,7 @@ fn alone(entry: Entry, follows: bool) -> Entry
 fn next(front: &mut Front, delays: &Delays, entry: Entry) -> (u64, u64, u64)
     requires entry { IsEntry entry }
     requires tight { IsTight 255 front.old }
-    requires early { front.old.c ≤ 2 ^ 62 }
+    requires early { front.old.c ≤ 2 ^ 63 + 2 ^ 20 }
     ensures tight { IsTight 255 front.new }
     ensures bound { front.new.c ≤ front.old.c + 16576 }
 {

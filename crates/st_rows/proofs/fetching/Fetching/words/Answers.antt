@@ -9,9 +9,9 @@ overflow_add-w c = omega (arith, words_of_storage_is, c.words.invariant.inside (
 
 pub words-preserved : goal.words-preserved
 words-preserved c =
-    let m = 2 ^ 63 - 512 - 256 * c.words.left in
+    let m = 2 ^ 64 - 512 - 256 * c.words.left in
     let are = AreDelays-list c.args.delays.now c.shape.ensures in
-    let before = past-weaker (2 ^ 63 - 2 ^ 16) m c.args.past.now (omega (arith, c.words.invariant.few)) c.requires.before in
+    let before = past-weaker (2 ^ 64 - 2 ^ 16) m c.args.past.now (omega (arith, c.words.invariant.few)) c.requires.before in
     record {
       value = fetch-turn c.args.delays.now c.args.past.now c.words.w c.args.from c.words.self c.word.new.self c.words.left c.word.ensures (omega arith)
           ∙ c.words.invariant.value;

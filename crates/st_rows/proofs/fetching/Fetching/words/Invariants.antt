@@ -8,7 +8,7 @@ use Rattle.st_rows.proofs.fetching.Fetching.words.Given as goal
 abbrev pub invariant-words : goal.invariant-words
 invariant-words l = record {
   value : fetch_words l.delays l.past l.self l.from l.w l.left ≡ fetch_words l.delays l.past l.initial.self l.from l.fn.run.first l.fn.run.len;
-  room : IsFetchingWithin (2 ^ 63 - 512 - 256 * l.left) l.self;
+  room : IsFetchingWithin (2 ^ 64 - 512 - 256 * l.left) l.self;
   few : l.left ≤ 16;
   inside : 1 ≤ l.left → l.w + l.left ≤ words_of_storage;
 }

@@ -16,7 +16,7 @@ words-requires-2-clause-room c =
     }) in
     let early = wanted-early 255 f c.requires.tight in
     rw c.words.ensures
-    (fetching-weaker (m + 2 * 256) (2 ^ 63 - 2 ^ 16) _ (omega arith)
+    (fetching-weaker (m + 2 * 256) (2 ^ 64 - 2 ^ 16) _ (omega arith)
     (fetch_two-within 255 c.args.delays.now (AreDelays-list c.args.delays.now c.shape.ensures) f.past c.wanted_from-from.result
     c.args.entry.now.own.first c.args.entry.now.own.len m c.new-words.result c.requires.entry.own_few
     (past-weaker f.c m f.past (omega arith) c.requires.tight.done) start (rw c.wanted_from-from.ensures (omega arith))))

@@ -9,13 +9,13 @@ overflow_add-w c = omega (arith, words_of_storage_is, c.words.invariant.inside (
 
 pub words-preserved : goal.words-preserved
 words-preserved c =
-    let m = 2 ^ 63 - 512 - 256 * c.words.left in
+    let m = 2 ^ 64 - 512 - 256 * c.words.left in
     let are = AreDelays-list c.args.delays.now c.shape.ensures in
-    let before = past-weaker (2 ^ 63 - 2 ^ 16) m c.args.past.now (omega (arith, c.words.invariant.few)) c.requires.before in
+    let before = past-weaker (2 ^ 64 - 2 ^ 16) m c.args.past.now (omega (arith, c.words.invariant.few)) c.requires.before in
     record {
-      value = read-turn c.args.delays.now c.args.past.now c.words.w c.args.p c.words.self c.word.new.self c.words.left c.word.ensures (omega arith)
+      value = read-turn c.args.delays.now c.args.past.now c.words.w c.args.p c.words.self c.word.new.self c.words.left c.word.ensures.after (omega arith)
           ∙ c.words.invariant.value;
-      room = reading-weaker (m + 256) _ c.word.new.self (omega arith) (rw c.word.ensures (read_word-within 255 c.args.delays.now are c.args.past.now c.words.self c.words.w c.args.p m c.words.invariant.room (omega arith)));
+      room = reading-weaker (m + 256) _ c.word.new.self (omega arith) (rw c.word.ensures.after (read_word-within 255 c.args.delays.now are c.args.past.now c.words.self c.words.w c.args.p m c.words.invariant.room (omega arith)));
       few = omega (arith, c.words.invariant.few);
       inside = λ some. omega (arith, c.words.invariant.inside (omega arith));
     }

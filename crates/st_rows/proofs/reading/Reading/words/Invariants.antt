@@ -8,7 +8,7 @@ use Rattle.st_rows.proofs.reading.Reading.words.Given as goal
 abbrev pub invariant-words : goal.invariant-words
 invariant-words l = record {
   value : read_words l.delays l.past l.self l.p l.w l.left ≡ read_words l.delays l.past l.initial.self l.p l.fn.run.first l.fn.run.len;
-  room : IsReadingWithin (2 ^ 63 - 512 - 256 * l.left) l.self;
+  room : IsReadingWithin (2 ^ 64 - 512 - 256 * l.left) l.self;
   few : l.left ≤ 16;
   inside : 1 ≤ l.left → l.w + l.left ≤ words_of_storage;
 }

@@ -1,0 +1,228 @@
+//! The port: reads are asked for, and each is made at the tick at which it is accepted.
+ghost use Rattle.std.specs.Prelude.{◌≡◌, ◌+◌, ◌-◌, ◌<◌, ◌≤◌, ◌^◌, ◌==◌, List, [], ◌∷◌, ◌++◌, ℕ, length, All, nat_lt, if◌then◌else◌};
+ghost use Rattle.st_bits.specs.Storage.{words_of_storage};
+ghost use Rattle.st_fetch.specs.Planned.{tick_of};
+ghost use Rattle.st_rows.specs.Asked.{word_asked, data_asked, side_asked, operands_asked, following_asked, side_count, made_before};
+ghost use Rattle.st_rows.specs.BusTimes.{no_reads};
+ghost use Rattle.st_rows.specs.Ranges.{IsBusWithin, IsReadable, IsEntry};
+ghost use Rattle.st_port.specs.Making.{not_made as not_made_of, AreFrom, held_with};
+
+use st_banks::{Delays, LastAnswers};
+use st_fetch::{HeldWords, Want, Wants};
+use st_rows::{Bus, Entry, Past, Run, Runs, latest_done};
+use std::marker::Model;
+
+/// The number of words of storage.
+const WORDS: u32 = 98_304;
+
+/// The purpose of a want of an instruction word.
+const FETCH: u8 = 1;
+
+/// The bus after the reads that were made, and at most 40 reads that are asked for and still to be made, first in first out.
+#[derive(Drop)]
+pub struct Port {
+    bus: Bus,
+    wants: Wants,
+}
+
+impl Model for Port {
+    ghost use Rattle.std.specs.Prelude.{◌-◌, ◌^◌, map};
+    ghost use Rattle.st_rows.specs.Ranges.{IsBusWithin};
+    ghost use Rattle.st_port.specs.Making.{PortView, read_of};
+
+    ghost Value = { PortView };
+
+    ghost view = { λ a. record { bus = a.bus; reads = map read_of a.wants } };
+
+    ghost invariant = { λ a. IsBusWithin (2 ^ 64 - 512) a.bus };
+}
+
+impl Port {
+    /// The port of a segment that starts at the tick `start`, at most 2^64 - 1,024, where the banks have these last answers: nothing is
+    /// asked for yet.
+    pub fn new(banks: LastAnswers, start: u64) -> Port
+        requires early { start ≤ 2 ^ 64 - 1024 }
+        requires near { All (λ t. t ≤ start + 255) banks.ticks }
+        ensures { result ≡ record { bus = no_reads banks start; reads = [] } }
+    {
+        Port {
+            bus: Bus::new(banks, start),
+            wants: Wants::new(),
+        }
+    }
+
+    /// The bus after the reads that were made.
+    pub fn bus(&self) -> &Bus
+        ensures { result.now ≡ self.now.bus }
+    {
+        &self.bus
+    }
+
+    /// Whether no read is still to be made.
+    pub fn is_empty(&self) -> bool
+        ensures { result ≡ (length self.now.reads == 0) }
+    {
+        self.wants.is_empty()
+    }
+
+    /// The number of reads that are still to be made.
+    pub fn len(&self) -> usize
+        ensures value { result ≡ length self.now.reads }
+        ensures bound { result ≤ 40 }
+    {
+        self.wants.len()
+    }
+
+    /// Asks for a read of the word `w` that is wanted from the tick `want` on, behind all others; `fetch` says whether it is one of an
+    /// instruction word, which is held once it is made. At most 39 are still to be made before.
+    pub fn ask(&mut self, w: u32, want: u64, fetch: bool)
+        requires { length self.old.reads < 40 }
+        ensures reads { self.new.reads ≡
+            self.old.reads ++ record { w = w; want = want; fetch = fetch } ∷ [] }
+        ensures bus { self.new.bus ≡ self.old.bus }
+    {
+        self.wants.push(Want {
+            w,
+            tick: want,
+            purpose: purpose_of(fetch),
+        });
+    }
+
+    /// Asks for the instruction word `w`, wanted from the tick `want` on, unless it is one of these held words.
+    pub fn ask_fetch(&mut self, held: HeldWords, w: u32, want: u64)
+        requires { length self.old.reads < 40 }
+        ensures reads { self.new.reads ≡ self.old.reads ++ word_asked (tick_of held.words w) w want }
+        ensures bus { self.new.bus ≡ self.old.bus }
+    {
+        if held.tick_of(w).is_none() {
+            self.ask(w, want, true);
+        }
+    }
+
+    /// Asks for the index-side word of an entry, if there is one, whose address is formed at `a`, unless an earlier entry writes it that
+    /// is done later.
+    #[tactic(auto, unfolding(st_rows::specs::Asked::side_asked))]
+    pub fn ask_side(&mut self, past: &[Past; 8], side: Option<u32>, a: u64)
+        requires { length self.old.reads + side_count side ≤ 40 }
+        ensures reads { self.new.reads ≡ self.old.reads ++ side_asked past.now side a }
+        ensures bus { self.new.bus ≡ self.old.bus }
+    {
+        if let Some(w) = side {
+            self.ask_data(past, w, a);
+        }
+    }
+
+    /// Asks for the operand words of an entry that is prepared at `p`, except those that an earlier entry writes that is done later.
+    pub fn ask_operands(&mut self, past: &[Past; 8], reads: Runs, p: u64)
+        requires one { IsReadable reads.one }
+        requires two { IsReadable reads.two }
+        requires room { length self.old.reads + reads.one.len + reads.two.len ≤ 40 }
+        ensures reads { self.new.reads ≡ self.old.reads
+            ++ (operands_asked past.now p reads.one.first reads.one.len
+            ++ operands_asked past.now p reads.two.first reads.two.len) }
+        ensures bus { self.new.bus ≡ self.old.bus }
+    {
+        self.ask_run(past, reads.one, p);
+        self.ask_run(past, reads.two, p);
+    }
+
+    /// Asks for the two words that follow those of an entry that is prepared at `p`, as far as they are words of storage and not held; `bus`
+    /// is the one after the operands.
+    #[tactic(auto, unfolding(st_rows::specs::Asked::following_asked))]
+    pub fn ask_following(&mut self, bus: &Bus, entry: &Entry, p: u64)
+        requires entry { IsEntry entry.now }
+        requires room { length self.old.reads + 2 ≤ 40 }
+        ensures reads { (ds : List ℕ) →
+            self.new.reads ≡ self.old.reads ++ following_asked ds bus.now entry.now p }
+        ensures bus { self.new.bus ≡ self.old.bus }
+    {
+        if entry.follows {
+            let w = entry.own.first + u32::from(entry.own.len);
+            let held = self.ask_inside(bus.held, w, p);
+            self.ask_inside(held, w + 1, p);
+        }
+    }
+
+    /// Makes the first of the reads, if it is accepted at the tick `now`, at most 2^64 - 1,024; it is accepted then or later. The next one
+    /// is accepted later.
+    pub fn serve(&mut self, delays: &Delays, now: u64)
+        requires early { now ≤ 2 ^ 64 - 1024 }
+        requires turn { AreFrom now self.old.reads self.old.bus }
+        ensures bus { self.new.bus ≡
+            made_before delays.now (now + 1) self.old.reads self.old.bus }
+        ensures reads { self.new.reads ≡
+            not_made_of delays.now (now + 1) self.old.reads self.old.bus }
+        ensures turn { AreFrom (now + 1) self.new.reads self.new.bus }
+    {
+        delays.shape();
+        let Some(want) = self.wants.front() else {
+            return;
+        };
+        let bus = self.bus;
+        if bus.banks.accept_tick(want.w, bus.free, want.tick) > now {
+            return;
+        }
+        let fetch = want.purpose == FETCH;
+        self.wants.pop();
+        self.bus.serve(delays, want.w, want.tick, fetch);
+    }
+
+    /// Asks for a word that is no instruction word, unless an earlier entry writes it that is done later.
+    fn ask_data(&mut self, past: &[Past; 8], w: u32, tick: u64)
+        requires { length self.old.reads < 40 }
+        ensures reads { self.new.reads ≡ self.old.reads ++ data_asked past.now w tick }
+        ensures bus { self.new.bus ≡ self.old.bus }
+        ensures few { length self.new.reads ≤ length self.old.reads + 1 }
+    {
+        if latest_done(past, w) <= tick {
+            self.ask(w, tick, false);
+        }
+    }
+
+    /// Asks for the operand words of a run.
+    #[tactic(auto, unfolding(st_rows::specs::Asked::operands_asked))]
+    fn ask_run(&mut self, past: &[Past; 8], run: Run, p: u64)
+        requires words { IsReadable run }
+        requires room { length self.old.reads + run.len ≤ 40 }
+        ensures reads { self.new.reads ≡
+            self.old.reads ++ operands_asked past.now p run.first run.len }
+        ensures bus { self.new.bus ≡ self.old.bus }
+        ensures few { length self.new.reads ≤ length self.old.reads + run.len }
+    {
+        let mut w = run.first;
+        let mut left = run.len;
+        'words: while left > 0 {
+            self.ask_data(past, w, p);
+            w += 1;
+            left -= 1;
+        }
+    }
+
+    /// Asks for the word `w`, if it is one of storage and not held. The result is held behind it, for the words alone.
+    fn ask_inside(&mut self, held: HeldWords, w: u32, p: u64) -> HeldWords
+        requires { length self.old.reads < 40 }
+        ensures reads { self.new.reads ≡ self.old.reads
+            ++ (if nat_lt w words_of_storage then word_asked (tick_of held.words w) w p else []) }
+        ensures bus { self.new.bus ≡ self.old.bus }
+        ensures few { length self.new.reads ≤ length self.old.reads + 1 }
+        ensures held { result.words ≡
+            (if nat_lt w words_of_storage then held_with (tick_of held.words w) held.words w
+            else held.words) }
+    {
+        if w >= WORDS {
+            return held;
+        }
+        if held.tick_of(w).is_some() {
+            return held;
+        }
+        self.ask(w, p, true);
+        held.requested(w, 0)
+    }
+}
+
+/// The purpose of a want, given whether it is one of an instruction word.
+fn purpose_of(fetch: bool) -> u8
+    ensures { (result == 1) ≡ fetch }
+{
+    if fetch { FETCH } else { 0 }
+}

@@ -1,0 +1,120 @@
+-- When the first operand words are there: after preparation, and before the entry is done.
+use Rattle.std.specs.Prelude.{if◌then◌else◌, nat_lt, Bool}
+use Rattle.std.proofs.Common.{◌≡◌, ℕ, zero, suc, ◌+◌, ◌<◌, ◌≤◌, max, true, false, List, get_or, refl, ap, ◌∙◌, arith}
+use Rattle.std.proofs.lemmas.Bool.{ltb-true, lt-ltb}
+use Rattle.st_rows.specs.BusTimes.{accept_at, after_read, answer_at}
+use Rattle.st_rows.specs.Entries.{latest_done}
+use Rattle.st_rows.specs.Ranges.{AreDelays, ArePastWithin, IsTight}
+use Rattle.st_rows.specs.Rows.{is_forwarded, read_word, read_words, operands_read, fill_at, fill_if, fills_of, fills, tick_p, bus_a, operands}
+use Rattle.st_rows.specs.declared.bus.Bus.{Bus}
+use Rattle.st_rows.specs.declared.entry.Run.{Run}
+use Rattle.st_rows.specs.declared.entry.Entry.{Entry}
+use Rattle.st_rows.specs.declared.past.Past.{Past}
+use Rattle.st_rows.specs.declared.reading.Reading.{Reading}
+use Rattle.st_rows.specs.declared.front.Front.{Front}
+use Rattle.st_rows.proofs.Awaited.{ready-later}
+use Rattle.st_rows.proofs.Within.{delay-bounds, latest-within}
+
+-- ---- later than preparation
+
+module _ (most : ℕ) (ds : List ℕ) (are : AreDelays most ds) (past : List Past) where
+  fill-late_if : (late : Bool) (b : Bus) (w p : ℕ) → (late ≡ true → p < latest_done past w)
+      → p < (if late then latest_done past w else answer_at ds b w p)
+  fill-late_if true b w p is = is refl
+  fill-late_if false b w p is = omega (arith, delay-bounds most ds (accept_at b w p) are)
+
+  fill-late : (b : Bus) (w p : ℕ) → p < fill_at ds past b w p
+  unfolding fill_at
+  fill-late b w p = fill-late_if (is_forwarded past w p) b w p (λ late. ltb-true p (latest_done past w) late)
+
+  pub first-late : (b : Bus) (run : Run) (p : ℕ) → 1 ≤ run.len → p < get_or (fills_of ds past b run p) 0 0
+  unfolding fills_of
+  first-late b run p some = rw (lt-ltb 0 run.len some) (fill-late b run.first p)
+
+  pub second-late : (b : Bus) (run : Run) (p : ℕ) → 2 ≤ run.len → p < get_or (fills_of ds past b run p) 1 0
+  unfolding fills_of
+  second-late b run p some = rw (lt-ltb 1 run.len some) (fill-late _ (run.first + 1) p)
+
+-- ---- not after the operands and the last completion
+
+module _ (ds : List ℕ) (past : List Past) (p c : ℕ) (before : ArePastWithin c past) where
+  fill-early_if : (late : Bool) (s : Reading) (w : ℕ)
+      → (if late then latest_done past w else answer_at ds s.bus w p)
+      ≤ max (if late then s else record { bus = after_read ds s.bus w p; answered = max s.answered (answer_at ds s.bus w p) }).answered c
+  fill-early_if true s w = omega (arith, latest-within c past w before)
+  fill-early_if false s w = omega arith
+
+  fill-early : (s : Reading) (w : ℕ) → fill_at ds past s.bus w p ≤ max (read_word ds past s w p).answered c
+  unfolding fill_at read_word
+  fill-early s w = fill-early_if (is_forwarded past w p) s w
+
+  first-early : (s : Reading) (w n : ℕ) → fill_if (nat_lt 0 n) ds past s.bus w p ≤ max (read_words ds past s p w n).answered c
+  unfolding read_words
+  first-early s w zero = omega arith
+  first-early s w (suc n) = rw (lt-ltb 0 (suc n) (omega arith)) (omega (arith, fill-early s w, ready-later ds past p (read_word ds past s w p) (w + 1) n))
+
+  second-early : (s : Reading) (w n : ℕ)
+      → fill_if (nat_lt 1 n) ds past (read_word ds past s w p).bus (w + 1) p ≤ max (read_words ds past s p w n).answered c
+  unfolding read_words
+  second-early s w zero = omega arith
+  second-early s w (suc zero) = omega arith
+  second-early s w (suc (suc n)) =
+      let t = read_word ds past s w p in
+      rw (lt-ltb 1 (suc (suc n)) (omega arith)) (omega (arith, fill-early t (w + 1), ready-later ds past p (read_word ds past t (w + 1) p) (w + 1 + 1) n))
+
+  pub fills-early : (b : Bus) (run : Run) (i : ℕ)
+      → get_or (fills_of ds past b run p) i 0 ≤ max (read_words ds past (record { bus = b; answered = p }) p run.first run.len).answered c
+  unfolding fills_of
+  fills-early b run zero = first-early (record { bus = b; answered = p }) run.first run.len
+  fills-early b run (suc zero) = second-early (record { bus = b; answered = p }) run.first run.len
+  fills-early b run (suc (suc i)) = omega arith
+
+-- ---- the latest of two decides, where there are no more
+
+module _ (ds : List ℕ) (past : List Past) (p c : ℕ) (before : ArePastWithin c past) where
+  fill-step_if : (late : Bool) (s : Reading) (w : ℕ)
+      → max (if late then s else record { bus = after_read ds s.bus w p; answered = max s.answered (answer_at ds s.bus w p) }).answered c
+      ≡ max (max s.answered c) (if late then latest_done past w else answer_at ds s.bus w p)
+  fill-step_if true s w = omega (arith, latest-within c past w before)
+  fill-step_if false s w = omega arith
+
+  fill-step : (s : Reading) (w : ℕ) → max (read_word ds past s w p).answered c ≡ max (max s.answered c) (fill_at ds past s.bus w p)
+  unfolding fill_at read_word
+  fill-step s w = fill-step_if (is_forwarded past w p) s w
+
+  few-decide : (s : Reading) (w n : ℕ) → n ≤ 2
+      → max (read_words ds past s p w n).answered c
+      ≡ max (max s.answered c) (max (fill_if (nat_lt 0 n) ds past s.bus w p) (fill_if (nat_lt 1 n) ds past (read_word ds past s w p).bus (w + 1) p))
+  unfolding read_words
+  few-decide s w zero few = omega arith
+  few-decide s w (suc zero) few = omega (arith, fill-step s w)
+  few-decide s w (suc (suc zero)) few = omega (arith, fill-step s w, fill-step (read_word ds past s w p) (w + 1))
+  few-decide s w (suc (suc (suc n))) few = let none : ⊥ = omega arith in absurd none
+
+  pub two-decide : (b : Bus) (run : Run) → run.len ≤ 2
+      → max (read_words ds past (record { bus = b; answered = p }) p run.first run.len).answered c
+      ≡ max (max p c) (max (get_or (fills_of ds past b run p) 0 0) (get_or (fills_of ds past b run p) 1 0))
+  unfolding fills_of
+  two-decide b run few = few-decide (record { bus = b; answered = p }) run.first run.len few
+
+no-more : (ds : List ℕ) (past : List Past) (s : Reading) (p w n : ℕ) → n ≡ 0 → read_words ds past s p w n ≡ s
+unfolding read_words
+no-more ds past s p w n none = rw none refl
+
+pub fills-decide : (most n : ℕ) (ds : List ℕ) (f : Front) (e : Entry) → IsTight most f → e.reads.one.len ≤ 2 → e.reads.two.len ≡ 0
+    → max (operands ds n f e).answered f.c ≡ max (max (tick_p ds n f e) f.c) (max (get_or (fills ds n f e) 0 0) (get_or (fills ds n f e) 1 0))
+unfolding operands operands_read
+fills-decide most n ds f e tight few none =
+    ap (λ (s : Reading). max s.answered f.c) (no-more ds f.past _ (tick_p ds n f e) e.reads.two.first e.reads.two.len none)
+    ∙ two-decide ds f.past (tick_p ds n f e) f.c tight.done (bus_a ds f e) e.reads.one few
+
+pub fills-ready : (most n i : ℕ) (ds : List ℕ) (f : Front) (e : Entry) → IsTight most f → get_or (fills ds n f e) i 0 ≤ max (operands ds n f e).answered f.c
+unfolding operands operands_read
+fills-ready most n i ds f e tight =
+    let p = tick_p ds n f e in
+    let one = read_words ds f.past (record { bus = bus_a ds f e; answered = p }) p e.reads.one.first e.reads.one.len in
+    omega (
+      arith,
+      fills-early ds f.past p f.c tight.done (bus_a ds f e) e.reads.one i,
+      ready-later ds f.past p one e.reads.two.first e.reads.two.len,
+    )

@@ -1,0 +1,47 @@
+use Rattle.std.proofs.Common.{◌+◌, ◌-◌, ◌*◌, ◌^◌, ap, ◌∙◌, refl, arith}
+use Rattle.st_rows.specs.Ranges.{IsBusWithin}
+use Rattle.st_rows.specs.Rows.{addressed, tick_a, bus_a, tick_y, tick_p}
+use Rattle.st_rows.specs.declared.fetching.Fetching.{Fetching}
+use Rattle.st_rows.proofs.Within.{AreDelays-list, past-weaker, bus-weaker, fetching-weaker}
+use Rattle.st_rows.proofs.Stages.{fetched-within, side-within}
+use Rattle.st_rows.proofs.front.Front.form.Goals as goal
+
+pub address-a-requires-clause-room : goal.address-a-requires-clause-room
+address-a-requires-clause-room c =
+    let are = AreDelays-list c.args.delays.now c.shape.ensures in
+    rw c.requires.words
+    (fetching-weaker (c.args.self.now.c + 7 * 255 + 6) (c.args.self.now.c + 1791) _ (omega arith)
+    (fetched-within 255 c.args.delays.now are c.args.self.now c.args.entry.now c.requires.entry c.requires.tight))
+
+pub side-y-requires-clause-room : goal.side-y-requires-clause-room
+side-y-requires-clause-room c =
+    let are = AreDelays-list c.args.delays.now c.shape.ensures in
+    rw c.requires.words
+    (bus-weaker (c.args.self.now.c + 7 * 255 + 6) (2 ^ 64 - 512) _ (omega arith)
+    (fetched-within 255 c.args.delays.now are c.args.self.now c.args.entry.now c.requires.entry c.requires.tight).bus)
+
+pub prepared_at-p-requires-clause-side : goal.prepared_at-p-requires-clause-side
+prepared_at-p-requires-clause-side c =
+    let f = c.args.self.now in
+    let m = f.c + 1792 in
+    let are = AreDelays-list c.args.delays.now c.shape.ensures in
+    let room : IsBusWithin m c.args.words.bus = rw c.requires.words
+    (bus-weaker (f.c + 7 * 255 + 6) m _ (omega arith)
+    (fetched-within 255 c.args.delays.now are f c.args.entry.now c.requires.entry c.requires.tight).bus) in
+    let late = side-within 255 c.args.delays.now are f.past c.args.words.bus c.args.entry.now.side c.address-a.result m
+    (past-weaker f.c m f.past (omega arith) c.requires.tight.done) room c.address-a.ensures.bound in
+    rw c.side-y.ensures.value (omega arith)
+
+pub returns-clause-address : goal.returns-clause-address
+unfolding tick_a
+returns-clause-address c =
+    c.address-a.ensures.value
+    ∙ ap (λ (s : Fetching). addressed c.args.self.now c.args.entry.now s.answered s.awaited) c.requires.words
+
+pub returns-clause-bus : goal.returns-clause-bus
+unfolding tick_a bus_a
+returns-clause-bus c = rw (c.side-y.ensures.after, c.address-a.ensures.value, c.requires.words) refl
+
+pub returns-clause-tick : goal.returns-clause-tick
+unfolding tick_a tick_y tick_p
+returns-clause-tick c = rw (c.prepared_at-p.ensures, c.side-y.ensures.value, c.address-a.ensures.value, c.requires.words) refl

@@ -1,0 +1,10 @@
+pub mod GuessLemmas
+pub mod StepLemmas
+pub mod IndexLemmas
+pub mod RestLemmas
+pub mod SeenLemmas
+pub mod KnownEarly
+pub mod SameReading
+pub mod PassedOver
+pub mod InstructionRuns
+pub mod EntryRanges

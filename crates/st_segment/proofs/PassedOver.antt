@@ -1,0 +1,162 @@
+-- Signals, and orders that bring no card, are passed over by the entries ahead.
+use Rattle.std.proofs.Common.{◌≡◌, ◌≢◌, ℕ, zero, suc, ◌+◌, false, List, get_or, length, Option, None, Some, refl, sym, subst, ◌∙◌, ap, get_or-set_other}
+use Rattle.std.specs.List.{AllZip}
+use Rattle.std.proofs.lemmas.List.{length-set}
+use Rattle.st_bits.specs.Registers.{fixed}
+use Rattle.st_state.specs.Machine.{Machine, IsMachine, word, with_word, stored}
+use Rattle.st_prep.specs.BesideOrders.{AreAlikeBesideOrders}
+use Rattle.st_prep.specs.declared.entries.IndexChange.{IndexChange}
+use Rattle.st_prep.specs.declared.entries.Prepared.{Prepared}
+use Rattle.st_prep.specs.Fetch.{index_words, place_of}
+use Rattle.st_prep.specs.Plan.{sight, plan}
+use Rattle.st_prep.proofs.BesideLemmas.{plan-beside_ahead}
+use Rattle.st_prep.proofs.PlanLemmas.{plan-prepared}
+use Rattle.st_exec.specs.Completion.{with_change, early, guessed, guess}
+use Rattle.st_exec.proofs.AlikeStates.{same-set}
+use Rattle.st_exec.proofs.BesideEntries.{guessed-beside}
+use Rattle.st_exec.proofs.UnwrittenLemmas.{guessed-machine}
+use Rattle.st_rows.specs.Rows.{row, after}
+use Rattle.st_rows.specs.declared.front.Front.{Front}
+use Rattle.st_segment.specs.Entries.{instruction_words, own_count, entry}
+use Rattle.st_segment.specs.Guesses.{guesses, table_behind, after_early_change, split_words}
+use Rattle.st_segment.specs.Ahead.{next_ahead, ahead}
+use Rattle.st_segment.specs.Alone.{RunAhead, IsSameAhead}
+use Rattle.st_segment.proofs.KnownEarly.{entry_seen, entry-seen}
+use Rattle.st_segment.proofs.SameReading.{same-index, same-sight, same-instruction}
+
+-- ---- the next entry
+
+pub entry-same : (t : Option ℕ) (s u : Machine) → AreAlikeBesideOrders s u → entry t u ≡ entry t s
+entry-same t s u h =
+    let words = same-instruction s u t h in
+    let v = sight u (place_of u t) in
+    entry-seen t u
+    ∙ ap (λ ws. entry_seen t ws (own_count t u) v) words.0
+    ∙ ap (λ n. entry_seen t (instruction_words t s) n v) words.1
+    ∙ ap (entry_seen t (instruction_words t s) (own_count t s)) (same-sight s u t h)
+    ∙ sym (entry-seen t s)
+
+pub plan-same : (s u : Machine) → AreAlikeBesideOrders s u → (plan s None).serial ≡ false → plan u None ≡ plan s None
+plan-same s u h free = plan-beside_ahead s u None h free
+
+-- ---- early changes
+
+with-words : (s u : Machine) (vs ws : List ℕ) → AreAlikeBesideOrders s u → length ws ≡ length vs
+    → ((w : ℕ) → w ≢ 11 → get_or ws w 0 ≡ get_or vs w 0)
+    → AreAlikeBesideOrders (record s { words = vs }) (record u { words = ws })
+with-words s u vs ws h size e = record {
+  size = size;
+  words = e;
+  ic = h.ic;
+  enabled = h.enabled;
+  waiting = h.waiting;
+  done = h.done;
+}
+
+stored-same : (s u : Machine) (w x : ℕ) → AreAlikeBesideOrders s u → AreAlikeBesideOrders (stored s w x) (stored u w x)
+stored-same s u w x h =
+    with-words s u _ _ h (length-set u.words w (fixed w x) ∙ h.size ∙ sym (length-set s.words w (fixed w x)))
+    (λ i other. same-set s.words u.words w (fixed w x) i h.size (h.words i other))
+
+-- whatever the indicators become
+indicators-same : (s u : Machine) (x y : ℕ) → AreAlikeBesideOrders s u
+    → AreAlikeBesideOrders (with_word s 11 x) (with_word u 11 y)
+indicators-same s u x y h =
+    with-words s u _ _ h (length-set u.words 11 y ∙ h.size ∙ sym (length-set s.words 11 x))
+    (λ i other. get_or-set_other u.words 11 i y 0 other ∙ h.words i other ∙ sym (get_or-set_other s.words 11 i x 0 other))
+
+change-same : (c : Option IndexChange) (s u : Machine) → AreAlikeBesideOrders s u
+    → AreAlikeBesideOrders (with_change c s) (with_change c u)
+change-same None s u h = h
+change-same (Some c) s u h = stored-same s u (16 + c.number) c.word h
+
+early-same : (p : Prepared) (s u : Machine) → AreAlikeBesideOrders s u → AreAlikeBesideOrders (early p s) (early p u)
+unfolding early
+early-same p s u h = indicators-same _ _ _ _ (change-same p.index s u h)
+
+-- ---- guesses
+
+guess-machine : (s : Machine) → IsMachine s → IsMachine (guess None s)
+guess-machine s m = guessed-machine (plan s None) s (plan-prepared s None m tt) m
+
+guess-same : (s u : Machine) → IsMachine s → AreAlikeBesideOrders s u → (plan s None).serial ≡ false
+    → AreAlikeBesideOrders (guess None s) (guess None u)
+guess-same s u m h free =
+    subst (λ (p : Prepared). AreAlikeBesideOrders (guess None s) (guessed p u)) (sym (plan-same s u h free))
+    (guessed-beside (plan s None) s u (plan-prepared s None m tt) m h free)
+
+guesses-same : (k : ℕ) (s u : Machine) → IsMachine s → AreAlikeBesideOrders s u → RunAhead k None s
+    → AreAlikeBesideOrders (guesses k None s) (guesses k None u)
+unfolding guesses RunAhead
+guesses-same zero s u m h run = h
+guesses-same (suc k) s u m h run =
+    guesses-same k (guess None s) (guess None u) (guess-machine s m) (guess-same s u m h run.0) run.1
+
+run-same : (k : ℕ) (s u : Machine) → IsMachine s → AreAlikeBesideOrders s u → RunAhead k None s → RunAhead k None u
+unfolding RunAhead
+run-same zero s u m h run = tt
+run-same (suc k) s u m h run = (
+  ap (λ (p : Prepared). p.serial) (plan-same s u h run.0) ∙ run.0,
+  run-same k (guess None s) (guess None u) (guess-machine s m) (guess-same s u m h run.0) run.1,
+)
+
+-- the last of them apart
+run-last : (k : ℕ) (s : Machine) → RunAhead (suc k) None s
+    → RunAhead k None s × ((plan (guesses k None s) None).serial ≡ false)
+unfolding guesses RunAhead
+run-last zero s run = (tt, run.0)
+run-last (suc k) s run = let rest = run-last k (guess None s) run.1 in ((run.0, rest.0), rest.1)
+
+-- ---- index words
+
+none-behind : (k : ℕ) → table_behind k None ≡ None
+none-behind zero = refl
+none-behind (suc k) = refl
+
+split-last : (k : ℕ) (s : Machine)
+    → split_words (suc k) None s ≡ index_words (early (plan (guesses k None s) None) (guesses k None s))
+unfolding split_words
+split-last k s = ap (λ t. index_words (after_early_change t (guesses k None s))) (none-behind k)
+
+split-same : (k : ℕ) (s u : Machine) → IsMachine s → AreAlikeBesideOrders s u → RunAhead k None s
+    → split_words k None u ≡ split_words k None s
+unfolding split_words
+split-same zero s u m h run = same-index s u h
+split-same (suc k) s u m h run =
+    let last = run-last k s run in
+    let v = guesses k None s in
+    let w = guesses k None u in
+    let same : AreAlikeBesideOrders v w = guesses-same k s u m h last.0 in
+    let planned : plan w None ≡ plan v None = plan-same v w same last.1 in
+    split-last k u
+    ∙ ap (λ (p : Prepared). index_words (early p w)) planned
+    ∙ same-index (early (plan v None) v) (early (plan v None) w) (early-same (plan v None) v w same)
+    ∙ sym (split-last k s)
+
+pub passed-over : (k : ℕ) (s u : Machine) → IsMachine s → AreAlikeBesideOrders s u → RunAhead k None s
+    → RunAhead k None u × AreAlikeBesideOrders (guesses k None s) (guesses k None u)
+    × (split_words k None u ≡ split_words k None s)
+passed-over k s u m h run = (run-same k s u m h run, guesses-same k s u m h run, split-same k s u m h run)
+
+-- ---- rows
+
+next-same : (ds : List ℕ) (n : ℕ) (s u : Machine) (f : Front) → AreAlikeBesideOrders s u
+    → IsSameAhead (next_ahead ds n None s f) (next_ahead ds n None u f)
+next-same ds n s u f h =
+    let same = entry-same None s u h in
+    record { state = h; table = refl; front = refl; entry = same; row = ap (row ds n f) same }
+
+pub rows-same : (ds : List ℕ) (n k : ℕ) (s u : Machine) (f : Front) → IsMachine s → AreAlikeBesideOrders s u
+    → RunAhead k None s → AllZip IsSameAhead (ahead ds n (suc k) None s f) (ahead ds n (suc k) None u f)
+unfolding ahead RunAhead
+rows-same ds n zero s u f m h run = (next-same ds n s u f h, tt)
+rows-same ds n (suc k) s u f m h run = (
+  next-same ds n s u f h,
+  subst
+      (λ e.
+      AllZip IsSameAhead (ahead ds n (suc k) None (guess None s) (after ds n f (entry None s)))
+      (ahead ds n (suc k) None (guess None u) (after ds n f e)))
+      (sym (entry-same None s u h))
+      (rows-same ds n k (guess None s) (guess None u) (after ds n f (entry None s)) (guess-machine s m)
+      (guess-same s u m h run.0) run.1),
+)

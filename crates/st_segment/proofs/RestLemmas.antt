@@ -1,0 +1,73 @@
+-- What guessed steps leave as it was.
+use Rattle.std.proofs.Common.{◌≡◌, ℕ, zero, suc, ◌+◌, ◌<◌, ◌≤◌, ◌⊎◌, inl, inr, false, ◌&&◌, Option, None, refl, ◌∙◌, ap}
+use Rattle.std.specs.Prelude.{IfSome, nat_lt, nat_le}
+use Rattle.std.proofs.lemmas.Bool.{leb-false, ltb-false, and_cases, or_parts}
+use Rattle.st_state.specs.Machine.{Machine, IsMachine, word}
+use Rattle.st_prep.specs.declared.entries.Words.{Words}
+use Rattle.st_prep.specs.Plan.{plan}
+use Rattle.st_prep.proofs.PlanLemmas.{plan-prepared}
+use Rattle.st_exec.specs.Ahead.{IsNotAmong}
+use Rattle.st_exec.specs.Completion.{guess}
+use Rattle.st_exec.proofs.UnwrittenLemmas.{guessed-unwritten, guessed-following}
+use Rattle.st_rows.specs.Entries.{is_in, is_among}
+use Rattle.st_segment.specs.Entries.{words_to_write, entry}
+use Rattle.st_segment.specs.Guesses.{guesses, table_behind}
+use Rattle.st_segment.specs.Alone.{RunAhead, is_written}
+use Rattle.st_segment.proofs.GuessLemmas.{guess-machine, guesses-next}
+use Rattle.st_segment.proofs.IndexLemmas.{guess-past}
+
+-- ---- low registers and the mark
+
+pub low-kept : (k : ℕ) (t : Option ℕ) (s : Machine) (w : ℕ) → IsMachine s → IfSome t (λ i. i < 64) → RunAhead k t s
+    → w < 7 → word (guesses k t s) w ≡ word s w
+unfolding guesses RunAhead
+low-kept zero t s w m some free low = refl
+low-kept (suc k) t s w m some free low =
+    low-kept k None (guess t s) w (guess-machine t s m some) tt free.1 low
+    ∙ (guess-past t s m some free.0).low w low
+
+pub enabled-kept : (k : ℕ) (t : Option ℕ) (s : Machine) → IsMachine s → IfSome t (λ i. i < 64) → RunAhead k t s
+    → (guesses k t s).enabled ≡ s.enabled
+unfolding guesses RunAhead
+enabled-kept zero t s m some free = refl
+enabled-kept (suc k) t s m some free =
+    enabled-kept k None (guess t s) (guess-machine t s m some) tt free.1 ∙ (guess-past t s m some free.0).enabled
+
+-- ---- words that are not written
+
+-- a word that is not in a run lies before it or after it
+beside-run : (w first n : ℕ) → (nat_le first w && nat_lt w (first + n)) ≡ false → (w < first) ⊎ (first + n ≤ w)
+beside-run w first n h =
+    elim (and_cases (nat_le first w) (nat_lt w (first + n)) h) [
+      | inl before ↦ inl (leb-false first w before)
+      | inr after ↦ inr (ltb-false w (first + n) after)
+    ]
+
+not-among : (w : ℕ) (ws : Words) → is_among w (words_to_write ws) ≡ false → IsNotAmong w ws
+unfolding is_among is_in
+not-among w ws h =
+    let both = or_parts _ _ h in
+    record { first = beside-run w ws.first ws.len both.0; second = beside-run w ws.first2 ws.len2 both.1 }
+
+unwritten-entry : (t : Option ℕ) (s : Machine) (w : ℕ) → IsMachine s → IfSome t (λ i. i < 64) → 32 ≤ w
+    → is_among w (entry t s).writes ≡ false → word (guess t s) w ≡ word s w
+unfolding entry
+unwritten-entry t s w m some above h =
+    guessed-unwritten (plan s t) s w (plan-prepared s t m some) m above (not-among w (plan s t).writes h)
+
+pub storage-kept : (k : ℕ) (t : Option ℕ) (s : Machine) (w : ℕ) → IsMachine s → IfSome t (λ i. i < 64) → 32 ≤ w
+    → is_written k t s w ≡ false → word (guesses k t s) w ≡ word s w
+unfolding guesses is_written
+storage-kept zero t s w m some above h = refl
+storage-kept (suc k) t s w m some above h =
+    let both = or_parts (is_among w (entry t s).writes) (is_written k None (guess t s) w) h in
+    storage-kept k None (guess t s) w (guess-machine t s m some) tt above both.1
+    ∙ unwritten-entry t s w m some above both.0
+
+-- ---- the counter
+
+pub counter-behind : (k : ℕ) (t : Option ℕ) (s : Machine) → (plan (guesses k t s) (table_behind k t)).serial ≡ false
+    → (guesses (suc k) t s).ic ≡ (plan (guesses k t s) (table_behind k t)).following
+counter-behind k t s free =
+    let u = guesses k t s in
+    ap (λ (v : Machine). v.ic) (guesses-next k t s) ∙ guessed-following (plan u (table_behind k t)) u free

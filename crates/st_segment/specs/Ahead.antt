@@ -1,0 +1,58 @@
+-- The entries ahead of a state, with their rows: those that are prepared before a tick, and the reads that are made for them.
+use Rattle.std.specs.Prelude.{ℕ, zero, suc, nat_lt, if◌then◌else◌, List, [], ◌∷◌, ◌++◌, Option, None}
+use Rattle.st_state.specs.Machine.{Machine}
+use Rattle.st_prep.specs.Plan.{plan}
+use Rattle.st_prep.specs.declared.entries.Prepared.{Prepared}
+use Rattle.st_exec.specs.Completion.{guess}
+use Rattle.st_rows.specs.Rows.{row, after}
+use Rattle.st_rows.specs.Asked.{Read, asked}
+use Rattle.st_rows.specs.declared.entry.Entry.{Entry}
+use Rattle.st_rows.specs.declared.front.Front.{Front}
+use Rattle.st_rows.specs.declared.front.Row.{Row}
+use Rattle.st_segment.specs.Entries.{entry}
+
+-- an entry ahead: the state before its step, the indicator where it is a table instruction, the front that its row is
+-- computed from, what it is for the timetable, and its row
+pub record Ahead : Type 0 where
+  pub state : Machine
+  pub table : Option ℕ
+  pub front : Front
+  pub entry : Entry
+  pub row : Row
+
+abbrev pub next_ahead : List ℕ → ℕ → Option ℕ → Machine → Front → Ahead
+next_ahead ds n table s f = record {
+  state = s;
+  table = table;
+  front = f;
+  entry = entry table s;
+  row = row ds n f (entry table s);
+}
+
+-- the next k entries by guessed steps, on a machine with the delays ds and with n levels
+unfoldable pub ahead : List ℕ → ℕ → ℕ → Option ℕ → Machine → Front → List Ahead
+ahead ds n zero table s f = []
+ahead ds n (suc k) table s f =
+    next_ahead ds n table s f ∷ ahead ds n k None (guess table s) (after ds n f (entry table s))
+
+-- the front behind k of them
+unfoldable pub front_behind : List ℕ → ℕ → ℕ → Option ℕ → Machine → Front → Front
+front_behind ds n zero table s f = f
+front_behind ds n (suc k) table s f =
+    front_behind ds n k None (guess table s) (after ds n f (entry table s))
+
+-- how an entry ahead is prepared
+abbrev pub plan_of : Ahead → Prepared
+plan_of a = plan a.state a.table
+
+-- those at the front of the list that are prepared before the tick t
+unfoldable pub prepared_before : ℕ → List Ahead → List Ahead
+prepared_before t [] = []
+prepared_before t (a ∷ rest) = if nat_lt a.row.p t then a ∷ prepared_before t rest else []
+
+-- the reads of those, and of the first one that is not: its instruction words, and its index-side word, may be accepted
+-- before that tick
+unfoldable pub reads_before : List ℕ → ℕ → ℕ → List Ahead → List Read
+reads_before ds n t [] = []
+reads_before ds n t (a ∷ rest) =
+    asked ds n a.front a.entry ++ (if nat_lt a.row.p t then reads_before ds n t rest else [])
