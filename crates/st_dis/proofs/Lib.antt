@@ -6,3 +6,4 @@ pub mod WordRead
 pub mod PlacesRead
 pub mod ControlsRead
 pub mod Printable
+pub mod Cutting

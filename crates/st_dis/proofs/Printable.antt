@@ -19,7 +19,7 @@ use Rattle.st_format.specs.Formats.{instruction_of, is_valid}
 use Rattle.st_format.specs.declared.instruction.Instr.{Instr}
 use Rattle.st_format.specs.declared.instruction.Instr.TheVariants.{Half, Branch, Floating, Vfl, Connect, Move, BitBranch, IndBranch, StoreCounter, Transfer, Invalid}
 use Rattle.st_card.specs.Pieces.{parted, lacks}
-use Rattle.st_card.specs.Cards.{is_printable}
+use Rattle.st_card.specs.Cards.{is_printable, is_column_1, first_column}
 use Rattle.st_object.proofs.ReadBack.{parted_line}
 use Rattle.st_report.specs.Line.{bit_address, half_address, flag, place}
 use Rattle.st_object.specs.Object.{Program}
@@ -35,7 +35,7 @@ abbrev pub IsPlain : List ℕ → Type 0
 IsPlain text = is_printable text ≡ true
 
 -- whether a byte is one of them
-abbrev is_plain : ℕ → Bool
+abbrev pub is_plain : ℕ → Bool
 is_plain c = nat_le 32 c && nat_le c 126
 
 join : (a b : List ℕ) → IsPlain a → IsPlain b → IsPlain (a ++ b)
@@ -353,91 +353,111 @@ statements_plain word =
 
 -- ---- cards
 
-card_plain : (text : List ℕ) → IsPlain text → IsPlain (statement_card text)
-card_plain text p = p
+-- a card that is printable, and whose column 1 is blank or has the mark of a control card
+pub record IsWritten (card : List ℕ) : Type 0 where
+  pub plain : IsPlain card
+  pub column : is_column_1 (first_column card) ≡ true
 
-cards_plain : (texts : List (List ℕ)) → All IsPlain texts → All IsPlain (map statement_card texts)
-cards_plain [] p = All-nil IsPlain
+card_plain : (text : List ℕ) → IsPlain text → IsWritten (statement_card text)
+card_plain text p = record { plain = p; column = refl }
+
+control_plain : (text : List ℕ) → IsPlain text → IsWritten (47 ∷ text)
+control_plain text p = record { plain = p; column = refl }
+
+only : (card : List ℕ) → IsWritten card → All IsWritten (card ∷ [])
+only card p = All-cons IsWritten card [] p (All-nil IsWritten)
+
+cards_plain : (texts : List (List ℕ)) → All IsPlain texts → All IsWritten (map statement_card texts)
+cards_plain [] p = All-nil IsWritten
 cards_plain (t ∷ ts) p =
-    All-cons IsPlain (statement_card t) (map statement_card ts) (card_plain t (All-head IsPlain t ts p)) (cards_plain ts (All-tail IsPlain t ts p))
+    All-cons IsWritten (statement_card t) (map statement_card ts) (card_plain t (All-head IsPlain t ts p)) (cards_plain ts (All-tail IsPlain t ts p))
 
-where_asked : (b : Bool) (cards : List (List ℕ)) → All IsPlain cards → All IsPlain (if b then cards else [])
+where_asked : (b : Bool) (cards : List (List ℕ)) → All IsWritten cards → All IsWritten (if b then cards else [])
 where_asked true cards p = p
-where_asked false cards p = All-nil IsPlain
+where_asked false cards p = All-nil IsWritten
 
-where_not : (b : Bool) (cards : List (List ℕ)) → All IsPlain cards → All IsPlain (if b then [] else cards)
-where_not true cards p = All-nil IsPlain
+where_not : (b : Bool) (cards : List (List ℕ)) → All IsWritten cards → All IsWritten (if b then [] else cards)
+where_not true cards p = All-nil IsWritten
 where_not false cards p = p
 
-location_plain : (w before : ℕ) → All IsPlain (location_cards w before)
+location_plain : (w before : ℕ) → All IsWritten (location_cards w before)
 location_plain w before =
     let card = statement_card (location_text w) in
-    where_asked (before == 0) (card ∷ []) (one card (card_plain (location_text w) (joined (codes "SLC,") (decimal w) (codes ".0") refl (number w) refl)))
+    where_asked (before == 0) (card ∷ []) (only card (card_plain (location_text w) (joined (codes "SLC,") (decimal w) (codes ".0") refl (number w) refl)))
 
-placed_plain : (w before word : ℕ) → All IsPlain (placed w before word)
+placed_plain : (w before word : ℕ) → All IsWritten (placed w before word)
 unfolding placed
 placed_plain w before word =
     where_not (word == 0) (location_cards w before ++ map statement_card (statements_of word))
-    (All-append IsPlain (location_cards w before) (map statement_card (statements_of word)) (location_plain w before) (cards_plain (statements_of word) (statements_plain word)))
+    (All-append IsWritten (location_cards w before) (map statement_card (statements_of word)) (location_plain w before) (cards_plain (statements_of word) (statements_plain word)))
 
-word_cards_plain : (w before : ℕ) (xs : List ℕ) → All IsPlain (word_cards w before xs)
-word_cards_plain w before [] = All-nil IsPlain
+word_cards_plain : (w before : ℕ) (xs : List ℕ) → All IsWritten (word_cards w before xs)
+word_cards_plain w before [] = All-nil IsWritten
 word_cards_plain w before (x ∷ xs) =
-    All-append IsPlain (placed w before x) (word_cards (w + 1) x xs) (placed_plain w before x) (word_cards_plain (w + 1) x xs)
+    All-append IsWritten (placed w before x) (word_cards (w + 1) x xs) (placed_plain w before x) (word_cards_plain (w + 1) x xs)
 
 module _ {X : Type 0} where
   -- cards that are made of things one by one
-  mapped : (f : X → List ℕ) → ((x : X) → IsPlain (f x)) → (xs : List X) → All IsPlain (map f xs)
-  mapped f each [] = All-nil IsPlain
-  mapped f each (x ∷ xs) = All-cons IsPlain (f x) (map f xs) (each x) (mapped f each xs)
+  mapped : (f : X → List ℕ) → ((x : X) → IsWritten (f x)) → (xs : List X) → All IsWritten (map f xs)
+  mapped f each [] = All-nil IsWritten
+  mapped f each (x ∷ xs) = All-cons IsWritten (f x) (map f xs) (each x) (mapped f each xs)
 
 two_numbers : (word : List ℕ) (a b : ℕ) → IsPlain word → IsPlain (word ++ decimal a ++ codes " " ++ decimal b)
 two_numbers word a b p =
     join (word ++ decimal a ++ codes " ") (decimal b) (joined word (decimal a) (codes " ") p (number a) refl) (number b)
 
-orders_plain : (a : Asked) → All IsPlain (order_cards a)
+orders_plain : (a : Asked) → All IsWritten (order_cards a)
 orders_plain a =
     let c1 : List (List ℕ) = (codes "/BUDGET " ++ decimal a.budget) ∷ [] in
     let c2 : List (List ℕ) = map (λ d. codes "/DELAYS " ++ decimal d) a.delays in
     let c3 : List (List ℕ) = map (λ s. codes "/SIGNAL " ++ decimal s.count ++ codes " " ++ decimal s.indicator) a.signals in
     let c4 : List (List ℕ) = map (λ p. codes "/DUMP " ++ decimal p.0 ++ codes " " ++ decimal p.1) a.dumps in
-    All-append IsPlain (c1 ++ c2 ++ c3) c4
-    (All-append IsPlain (c1 ++ c2) c3
-    (All-append IsPlain c1 c2 (one (codes "/BUDGET " ++ decimal a.budget) (join (codes "/BUDGET ") (decimal a.budget) refl (number a.budget)))
-    (mapped (λ d. codes "/DELAYS " ++ decimal d) (λ d. join (codes "/DELAYS ") (decimal d) refl (number d)) a.delays))
-    (mapped (λ s. codes "/SIGNAL " ++ decimal s.count ++ codes " " ++ decimal s.indicator) (λ s. two_numbers (codes "/SIGNAL ") s.count s.indicator refl) a.signals))
-    (mapped (λ p. codes "/DUMP " ++ decimal p.0 ++ codes " " ++ decimal p.1) (λ p. two_numbers (codes "/DUMP ") p.0 p.1 refl) a.dumps)
+    All-append IsWritten (c1 ++ c2 ++ c3) c4
+    (All-append IsWritten (c1 ++ c2) c3
+    (All-append IsWritten c1 c2 (only (codes "/BUDGET " ++ decimal a.budget) (control_plain (codes "BUDGET " ++ decimal a.budget) (join (codes "BUDGET ") (decimal a.budget) refl (number a.budget))))
+    (mapped (λ d. codes "/DELAYS " ++ decimal d) (λ d. control_plain (codes "DELAYS " ++ decimal d) (join (codes "DELAYS ") (decimal d) refl (number d))) a.delays))
+    (mapped (λ s. codes "/SIGNAL " ++ decimal s.count ++ codes " " ++ decimal s.indicator) (λ s. control_plain (codes "SIGNAL " ++ decimal s.count ++ codes " " ++ decimal s.indicator) (two_numbers (codes "SIGNAL ") s.count s.indicator refl)) a.signals))
+    (mapped (λ p. codes "/DUMP " ++ decimal p.0 ++ codes " " ++ decimal p.1) (λ p. control_plain (codes "DUMP " ++ decimal p.0 ++ codes " " ++ decimal p.1) (two_numbers (codes "DUMP ") p.0 p.1 refl)) a.dumps)
 
-back_plain : (k : ℕ) → All IsPlain (back_cards k)
+back_plain : (k : ℕ) → All IsWritten (back_cards k)
 back_plain k =
-    where_not (k == 0) ((codes "/BACK " ++ decimal k) ∷ []) (one (codes "/BACK " ++ decimal k) (join (codes "/BACK ") (decimal k) refl (number k)))
+    where_not (k == 0) ((codes "/BACK " ++ decimal k) ∷ []) (only (codes "/BACK " ++ decimal k) (control_plain (codes "BACK " ++ decimal k) (join (codes "BACK ") (decimal k) refl (number k))))
 
-shows_plain : (a : Asked) → All IsPlain (show_cards a)
+shows_plain : (a : Asked) → All IsWritten (show_cards a)
 shows_plain a =
     let c5 = marked a.trace (codes "/TRACE") in
     let c6 = marked a.time (codes "/TIME") in
     let c7 = marked a.chart (codes "/CHART") in
     let c8 : List (List ℕ) = map (λ t. codes "/SNAP " ++ decimal t) a.snaps in
-    All-append IsPlain (c5 ++ c6 ++ c7 ++ c8) (back_cards a.back)
-    (All-append IsPlain (c5 ++ c6 ++ c7) c8
-    (All-append IsPlain (c5 ++ c6) c7
-    (All-append IsPlain c5 c6 (where_asked a.trace (codes "/TRACE" ∷ []) (one (codes "/TRACE") refl)) (where_asked a.time (codes "/TIME" ∷ []) (one (codes "/TIME") refl)))
-    (where_asked a.chart (codes "/CHART" ∷ []) (one (codes "/CHART") refl)))
-    (mapped (λ t. codes "/SNAP " ++ decimal t) (λ t. join (codes "/SNAP ") (decimal t) refl (number t)) a.snaps))
+    All-append IsWritten (c5 ++ c6 ++ c7 ++ c8) (back_cards a.back)
+    (All-append IsWritten (c5 ++ c6 ++ c7) c8
+    (All-append IsWritten (c5 ++ c6) c7
+    (All-append IsWritten c5 c6 (where_asked a.trace (codes "/TRACE" ∷ []) (only (codes "/TRACE") (control_plain (codes "TRACE") refl))) (where_asked a.time (codes "/TIME" ∷ []) (only (codes "/TIME") (control_plain (codes "TIME") refl))))
+    (where_asked a.chart (codes "/CHART" ∷ []) (only (codes "/CHART") (control_plain (codes "CHART") refl))))
+    (mapped (λ t. codes "/SNAP " ++ decimal t) (λ t. control_plain (codes "SNAP " ++ decimal t) (join (codes "SNAP ") (decimal t) refl (number t))) a.snaps))
     (back_plain a.back)
 
 -- the cards of a deck
-pub deck_plain : (p : Program) → All IsPlain (deck_cards p)
-deck_plain p =
+pub deck_written : (p : Program) → All IsWritten (deck_cards p)
+deck_written p =
     let words = word_cards 0 0 p.words in
     let end : List (List ℕ) = statement_card (end_text p.start) ∷ [] in
     let a = p.controls in
-    All-append IsPlain (words ++ end ++ order_cards a) (show_cards a)
-    (All-append IsPlain (words ++ end) (order_cards a)
-    (All-append IsPlain words end (word_cards_plain 0 0 p.words)
-    (one (statement_card (end_text p.start)) (card_plain (end_text p.start) (join (codes "END,") (half_address p.start) refl (half_address_plain p.start)))))
+    All-append IsWritten (words ++ end ++ order_cards a) (show_cards a)
+    (All-append IsWritten (words ++ end) (order_cards a)
+    (All-append IsWritten words end (word_cards_plain 0 0 p.words)
+    (only (statement_card (end_text p.start)) (card_plain (end_text p.start) (join (codes "END,") (half_address p.start) refl (half_address_plain p.start)))))
     (orders_plain a))
     (shows_plain a)
+
+-- each of them is printable
+plain_ones : (cards : List (List ℕ)) → All IsWritten cards → All IsPlain cards
+plain_ones [] p = All-nil IsPlain
+plain_ones (card ∷ cards) p =
+    All-cons IsPlain card cards (All-head IsWritten card cards p).plain (plain_ones cards (All-tail IsWritten card cards p))
+
+pub deck_plain : (p : Program) → All IsPlain (deck_cards p)
+deck_plain p = plain_ones (deck_cards p) (deck_written p)
 
 -- ---- lines
 
@@ -448,14 +468,14 @@ lacking (c ∷ cs) p =
     let other : not (c == 10) ≡ true = grind (arith, nat_tests, parts.0) in
     and_from (not (c == 10)) (lacks 10 cs) other (lacking cs parts.1)
 
-pieces : (cards : List (List ℕ)) → All IsPlain cards → parted 10 (deck_of cards) ≡ cards ++ [] ∷ []
+pieces : (cards : List (List ℕ)) → All IsWritten cards → parted 10 (deck_of cards) ≡ cards ++ [] ∷ []
 pieces [] p = refl
 pieces (card ∷ cards) p =
     ap (λ (s : List ℕ). parted 10 s) (append_assoc card (10 ∷ []) (deck_of cards))
-    ∙ (parted_line card (deck_of cards) (lacking card (All-head IsPlain card cards p))
-    ∙ ap (λ (more : List (List ℕ)). card ∷ more) (pieces cards (All-tail IsPlain card cards p)))
+    ∙ (parted_line card (deck_of cards) (lacking card (All-head IsWritten card cards p).plain)
+    ∙ ap (λ (more : List (List ℕ)). card ∷ more) (pieces cards (All-tail IsWritten card cards p)))
 
 -- the pieces of a deck between its line ends are its cards
 pub deck_pieces : (p : Program) → parted 10 (deck_text p) ≡ deck_cards p ++ [] ∷ []
 unfolding deck_text
-deck_pieces p = pieces (deck_cards p) (deck_plain p)
+deck_pieces p = pieces (deck_cards p) (deck_written p)

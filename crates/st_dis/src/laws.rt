@@ -1,15 +1,15 @@
 //! What holds of the cards of a deck, and not of one call.
 
-ghost use Rattle.std.specs.Prelude.{◌≡◌, ◌≤◌, ◌<◌, ◌*◌, ◌^◌, ◌++◌, ℕ, [], ◌∷◌, All, true, false, Some, Ok};
+ghost use Rattle.std.specs.Prelude.{◌≡◌, ◌≤◌, ◌<◌, ◌*◌, ◌^◌, ◌++◌, ℕ, [], ◌∷◌, All, map, true, false, None, Some, Ok};
 ghost use Rattle.st_text.specs.Bytes.{line_end};
-ghost use Rattle.st_card.specs.Cards.{is_printable};
+ghost use Rattle.st_card.specs.Cards.{is_printable, text_in, cards_of};
 ghost use Rattle.st_card.specs.Pieces.{parted};
 ghost use Rattle.st_card.specs.Controls.{Asked, nothing};
 ghost use Rattle.st_card.specs.Limits.{IsWithinLimits};
 ghost use Rattle.st_strap.specs.Reading.{number_expr};
 ghost use Rattle.st_strap.specs.Saying.{statement_of};
 ghost use Rattle.st_strap.specs.declared.statement.Statement.TheVariants.{SetLocation, End};
-ghost use Rattle.st_object.specs.Object.{Program};
+ghost use Rattle.st_object.specs.Object.{Program, IsProgram, AreWords};
 ghost use Rattle.st_dis.specs.Deck.{
   location_text,
   end_text,
@@ -17,6 +17,7 @@ ghost use Rattle.st_dis.specs.Deck.{
   show_cards,
   deck_cards,
   deck_text,
+  card_count,
 };
 ghost use Rattle.st_dis.specs.Spelling.{statements_of};
 ghost use Rattle.st_dis.specs.Read.{bits_of_length, laid_together, CardsLead};
@@ -47,4 +48,12 @@ pub fn controls_come_back()
 pub fn cards_are_lines()
     ensures printable { (p : Program) → All (λ card. is_printable card ≡ true) (deck_cards p) }
     ensures lines { (p : Program) → parted line_end (deck_text p) ≡ deck_cards p ++ [] ∷ [] }
+{}
+
+/// An assembler cuts a deck that it can take into its cards: each has its text, and none has a fault by itself.
+pub fn decks_are_cut_into_their_cards()
+    ensures texts { (p : Program) → IsProgram p → AreWords p.words → card_count p ≤ 20000 →
+        map (text_in (deck_text p)) (cards_of (deck_text p)) ≡ deck_cards p }
+    ensures good { (p : Program) → IsProgram p → AreWords p.words → card_count p ≤ 20000 →
+        All (λ card. card.fault ≡ None) (cards_of (deck_text p)) }
 {}
