@@ -1,5 +1,5 @@
 -- A deck is cut into its cards, each with its text and without a fault of its own.
-use Rattle.std.proofs.Common.{◌≡◌, ◌≤◌, ◌+◌, ◌-◌, ◌==◌, ◌++◌, ℕ, zero, suc, Bool, true, false, not, nat_lt, min, List, [], ◌∷◌, length, map, take, drop, Option, Some, None, if◌then◌else◌, refl, sym, ◌∙◌, ap, subst, append_assoc, length-append, arith}
+use Rattle.std.proofs.Common.{◌≡◌, ◌≤◌, ◌+◌, ◌-◌, ◌==◌, ◌++◌, ℕ, zero, suc, Bool, true, false, not, nat_lt, min, List, [], ◌∷◌, length, map, take, drop, None, if◌then◌else◌, refl, sym, ◌∙◌, ap, subst, append_assoc, length-append, arith}
 use Rattle.std.proofs.Math.Seq.{drop-append_seam}
 use Rattle.std.proofs.lemmas.List.{take_at, take_all, length-map}
 use Rattle.std.proofs.lemmas.List.Elements.{All-nil, All-cons, All-head, All-tail}
@@ -9,7 +9,6 @@ use Rattle.std.specs.List.{All, list_all}
 use Rattle.std.specs.Prelude.{slice_index}
 use Rattle.std.specs.Str.Lines.{strip_carriage_return}
 use Rattle.st_report.specs.Line.{lf}
-use Rattle.st_card.specs.Pieces.{parted}
 use Rattle.st_card.specs.Cards.{first_fault, fault_of, card_at, cards_from, cards_of, text_in, is_printable, is_column_1, first_column}
 use Rattle.st_card.specs.declared.cards.Card.{Card}
 use Rattle.st_card.specs.declared.faults.Fault.{Fault}

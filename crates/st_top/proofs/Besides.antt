@@ -1,5 +1,5 @@
 -- A machine beside a run moves as the run does, and steps back give the states before.
-use Rattle.std.proofs.Common.{◌≡◌, ◌≢◌, ◌≤◌, ◌<◌, ℕ, zero, suc, ◌+◌, ◌-◌, List, [], ◌∷◌, ◌++◌, Bool, true, false, nat_le, length, drop, refl, sym, ◌∙◌, ap, subst, arith, get_or-set_other, length-append, append_assoc, if◌then◌else◌}
+use Rattle.std.proofs.Common.{◌≡◌, ◌≢◌, ◌≤◌, ◌<◌, ℕ, zero, suc, ◌+◌, ◌-◌, List, [], ◌∷◌, ◌++◌, Bool, true, false, nat_le, length, drop, refl, sym, ◌∙◌, ap, subst, arith, get_or-set_other, length-append, if◌then◌else◌}
 use Rattle.std.proofs.lemmas.Bool.Decides.{nat_tests}
 use Rattle.std.proofs.lemmas.List.{length-set, length-drop, drop-append-le}
 use Rattle.std.specs.Prelude.{Option, None, Some, MatchOption, IfSome, is_none, slice_get}
@@ -9,7 +9,6 @@ use Rattle.st_state.specs.Interrupts.{signalled}
 use Rattle.st_state.specs.Orders.{next_device}
 use Rattle.st_state.specs.declared.devices.Order.{Order}
 use Rattle.st_state.specs.declared.devices.Device.{Device}
-use Rattle.st_state.specs.declared.devices.Device.TheVariants.{Reader, Printer}
 use Rattle.st_exch.specs.Reader.{reader_cards, texts_in, behind_statements}
 use Rattle.st_exec.specs.Step.{rests, IsStep}
 use Rattle.st_exec.specs.declared.step.Step.{Step}
@@ -20,7 +19,7 @@ use Rattle.st_back.specs.declared.kept.Kept.{Kept}
 use Rattle.st_back.specs.Between.{AreAlikeAbove}
 use Rattle.st_back.specs.Steps.{Steps, none_of, newest, IsForth, IsStepKept, IsPut, has_room, states_before}
 use Rattle.st_back.specs.Undone.{noted}
-use Rattle.st_back.proofs.ManyLemmas.{between-states, forth-states, put-states}
+use Rattle.st_back.proofs.ManyLemmas.{between-states, forth-states}
 use Rattle.st_top.specs.Beside.{Beside, IsFresh, HasRoom, IsReady, IsMoved, IsStepped, IsBeside, Follows}
 
 -- ---- the words from 32 up
