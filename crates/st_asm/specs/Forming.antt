@@ -30,9 +30,9 @@ found_in d = record { ended = d.ended; asked = d.controls; lines = d.lines.items
 abbrev pub unread : Found
 unread = record { ended = false; asked = nothing; lines = [] }
 
--- whether all that is asked for is built: `/TIME`, `/SNAP`, `/CHART` and `/BACK` are not yet
+-- whether all that is asked for is built: `/TIME`, `/SNAP` and `/CHART` are not yet
 unfoldable pub is_built : Asked → Bool
-is_built asked = not asked.time && not asked.chart && length asked.snaps == 0 && asked.back == 0
+is_built asked = not asked.time && not asked.chart && length asked.snaps == 0
 
 -- the faults of a statement card that count also behind the end: all that it has by itself but a bad column 1
 abbrev pub before_end : Option Fault → Option Fault

@@ -142,12 +142,12 @@ fn add_control(deck: &mut Deck, card: u32, text: &[u8]) -> Result<(), Stop>
     }
 }
 
-/// Whether all that is asked for is built: times, charts, snapshots and steps back are not.
+/// Whether all that is asked for is built: times, charts and snapshots are not.
 #[tactic(auto, unfolding(crate::specs::Forming::is_built))]
 pub fn is_built(controls: &Controls) -> bool
     ensures { result ≡ spec.is_built controls.now }
 {
-    !controls.time && !controls.chart && controls.snaps.is_empty() && controls.back == 0
+    !controls.time && !controls.chart && controls.snaps.is_empty()
 }
 
 // A statement card more, with the fault that it has by itself.

@@ -5,3 +5,5 @@ pub mod Lengths
 pub mod WordRead
 pub mod PlacesRead
 pub mod ControlsRead
+pub mod Printable
+pub mod Cutting

@@ -1,12 +1,24 @@
 //! What holds of the cards of a deck, and not of one call.
 
-ghost use Rattle.std.specs.Prelude.{◌≡◌, ◌≤◌, ◌<◌, ◌*◌, ◌^◌, ◌++◌, ℕ, [], false, Some, Ok};
+ghost use Rattle.std.specs.Prelude.{◌≡◌, ◌≤◌, ◌<◌, ◌*◌, ◌^◌, ◌++◌, ℕ, [], ◌∷◌, All, map, true, false, None, Some, Ok};
+ghost use Rattle.st_text.specs.Bytes.{line_end};
+ghost use Rattle.st_card.specs.Cards.{is_printable, text_in, cards_of};
+ghost use Rattle.st_card.specs.Pieces.{parted};
 ghost use Rattle.st_card.specs.Controls.{Asked, nothing};
 ghost use Rattle.st_card.specs.Limits.{IsWithinLimits};
 ghost use Rattle.st_strap.specs.Reading.{number_expr};
 ghost use Rattle.st_strap.specs.Saying.{statement_of};
 ghost use Rattle.st_strap.specs.declared.statement.Statement.TheVariants.{SetLocation, End};
-ghost use Rattle.st_dis.specs.Deck.{location_text, end_text, order_cards, show_cards};
+ghost use Rattle.st_object.specs.Object.{Program, IsProgram, AreWords};
+ghost use Rattle.st_dis.specs.Deck.{
+  location_text,
+  end_text,
+  order_cards,
+  show_cards,
+  deck_cards,
+  deck_text,
+  card_count,
+};
 ghost use Rattle.st_dis.specs.Spelling.{statements_of};
 ghost use Rattle.st_dis.specs.Read.{bits_of_length, laid_together, CardsLead};
 
@@ -29,4 +41,19 @@ pub fn places_come_back()
 pub fn controls_come_back()
     ensures { (asked : Asked) → IsWithinLimits asked → 1 ≤ asked.budget → asked.list ≡ false →
         CardsLead nothing (order_cards asked ++ show_cards asked) asked }
+{}
+
+/// The cards of a deck have nothing but blanks and visible characters of ASCII, and they are the pieces of its text
+/// between its line ends.
+pub fn cards_are_lines()
+    ensures printable { (p : Program) → All (λ card. is_printable card ≡ true) (deck_cards p) }
+    ensures lines { (p : Program) → parted line_end (deck_text p) ≡ deck_cards p ++ [] ∷ [] }
+{}
+
+/// An assembler cuts a deck that it can take into its cards: each has its text, and none has a fault by itself.
+pub fn decks_are_cut_into_their_cards()
+    ensures texts { (p : Program) → IsProgram p → AreWords p.words → card_count p ≤ 20000 →
+        map (text_in (deck_text p)) (cards_of (deck_text p)) ≡ deck_cards p }
+    ensures good { (p : Program) → IsProgram p → AreWords p.words → card_count p ≤ 20000 →
+        All (λ card. card.fault ≡ None) (cards_of (deck_text p)) }
 {}

@@ -11,4 +11,7 @@ mod texts;
 mod writing;
 
 pub use disassembling::{DisError, disassemble};
-pub use laws::{controls_come_back, places_come_back, statements_lay_their_word};
+pub use laws::{
+    cards_are_lines, controls_come_back, decks_are_cut_into_their_cards, places_come_back,
+    statements_lay_their_word,
+};

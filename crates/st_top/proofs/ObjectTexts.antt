@@ -1,4 +1,4 @@
--- An object text line by line.
+-- An object text and a deck line by line.
 use Rattle.std.proofs.Common.{◌≡◌, ◌+◌, ◌==◌, ℕ, List, [], ◌∷◌, ◌++◌, length, map, take, true, false, if◌then◌else◌, refl, sym, ◌∙◌, ap, subst, append_assoc}
 use Rattle.std.proofs.lemmas.List.{take_at, length_push}
 use Rattle.std.specs.Prelude.{Ok}
@@ -14,7 +14,9 @@ use Rattle.st_object.specs.Object.{Program, IsProgram, object_lines as lines_of,
 use Rattle.st_object.proofs.ProgramLines.{made_again}
 use Rattle.st_object.proofs.AcceptedTexts.{accepted}
 use Rattle.st_object.proofs.ReadBack.{parted-text_of}
-use Rattle.st_top.specs.ObjectText.{object_lines, ended_lines}
+use Rattle.st_dis.specs.Deck.{deck_cards, deck_text}
+use Rattle.st_dis.proofs.Printable.{deck_pieces}
+use Rattle.st_top.specs.ObjectText.{object_lines, deck_lines, ended_lines}
 
 -- a line with a line end comes first, and then those of what stands behind it
 ended-onto : (line : List ℕ) (c : ℕ) (pieces : List (List ℕ)) → ended_lines (line ∷ onto_first c pieces) ≡ (line ++ lf) ∷ ended_lines (onto_first c pieces)
@@ -63,3 +65,18 @@ object_text-lines p written e is read =
     let makes = made_again p is (accepted written p read).words in
     ap (λ (s : List ℕ). ended_lines (parted 10 s)) e
     ∙ (ap ended_lines (parted-text_of (lines_of p) blank makes.last makes.steps) ∙ ended-map spelled (lines_of p))
+
+ended-pieces : (pieces : List (List ℕ)) → ended_lines (pieces ++ [] ∷ []) ≡ map (λ piece. piece ++ lf) pieces
+ended-pieces [] = refl
+ended-pieces (piece ∷ []) = refl
+ended-pieces (piece ∷ next ∷ more) = ap (λ ls. (piece ++ lf) ∷ ls) (ended-pieces (next ∷ more))
+
+-- the lines of a deck are its cards
+pub deck_text-lines : (p : Program) → ended_lines (parted 10 (deck_text p)) ≡ deck_lines p
+unfolding deck_lines
+deck_text-lines p = ap ended_lines (deck_pieces p) ∙ ended-pieces (deck_cards p)
+
+-- and one after another they are the deck
+pub text-deck_lines : (p : Program) → text (deck_lines p) ≡ deck_text p
+unfolding deck_lines deck_text
+text-deck_lines p = text-map (λ card. card ++ lf) (deck_cards p)

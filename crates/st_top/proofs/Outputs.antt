@@ -9,11 +9,11 @@ use Rattle.st_lines.proofs.Writing.{wrote_at_moment}
 use Rattle.st_asm.specs.Assembly.{Assembly}
 use Rattle.st_state.specs.Machine.{Machine, opening}
 use Rattle.st_exch.specs.Reader.{reader_cards}
-use Rattle.st_exec.specs.Run.{Signal, Scene, run}
+use Rattle.st_exec.specs.Run.{Signal, Scene}
 use Rattle.st_top.specs.Signals.{signals_of}
 use Rattle.st_top.specs.Listing.{listing}
 use Rattle.st_object.specs.Object.{Program}
-use Rattle.st_top.specs.Output.{Output, lines_alone, output_of_run, ran_by, start_of, run_of, loaded_by, loaded_run}
+use Rattle.st_top.specs.Output.{Output, lines_alone, output_of_run, ran_by, start_of, loaded_by, loaded_start}
 use Rattle.st_top.specs.Answers.{WroteAll, Writes}
 use Rattle.st_top.specs.Running.{WritesEvents}
 use Rattle.st_top.specs.declared.answer.Answer.{Answer}
@@ -42,9 +42,8 @@ start_is job a m signals cards p q r =
     ap with_machine p ∙ (ap with_signals q ∙ ap with_cards r)
 
 -- its output is that of the job
-pub output_is : (job : List ℕ) (a : Assembly) (c : Scene) → c ≡ start_of job a → output_of_run (listing job a) a.asked (run a.asked.budget c) ≡ ran_by job (Ok a)
-unfolding run_of
-output_is job a c e = ap (λ k. output_of_run (listing job a) a.asked (run a.asked.budget k)) e
+pub output_is : (job : List ℕ) (a : Assembly) (c : Scene) → c ≡ start_of job a → output_of_run (listing job a) a.asked c ≡ ran_by job (Ok a)
+output_is job a c e = ap (output_of_run (listing job a) a.asked) e
 
 pub writes_output : (s t : OutputState) (output other : Output) (answer : Answer) → output ≡ other → Writes answer.status s t output answer → Writes answer.status s t other answer
 writes_output s t output other answer e h = subst (λ o. Writes answer.status s t o answer) e h
@@ -56,10 +55,12 @@ wrote_alone s t ls answer w good done ticks =
     subst (λ st. Writes st s t (lines_alone Done ls) answer) (sym good) all
 
 -- so it is with a program that is loaded
-pub loaded_is : (p : Program) (c : Scene) (m : Machine) (signals : List Signal) (cards : List (List ℕ)) → c ≡ record { machine = m; signals = signals; cards = cards } → m ≡ opening p.words p.start → signals ≡ signals_of p.controls.signals → cards ≡ [] → output_of_run [] p.controls (run p.controls.budget c) ≡ loaded_by (Ok p)
-unfolding loaded_run
-loaded_is p c m signals cards e q r s =
+pub loaded_scene : (p : Program) (c : Scene) (m : Machine) (signals : List Signal) (cards : List (List ℕ)) → c ≡ record { machine = m; signals = signals; cards = cards } → m ≡ opening p.words p.start → signals ≡ signals_of p.controls.signals → cards ≡ [] → c ≡ loaded_start p
+loaded_scene p c m signals cards e q r s =
     let with_machine : Machine → Scene = λ k. record { machine = k; signals = signals; cards = cards } in
     let with_signals : List Signal → Scene = λ k. record { machine = opening p.words p.start; signals = k; cards = cards } in
     let with_cards : List (List ℕ) → Scene = λ k. record { machine = opening p.words p.start; signals = signals_of p.controls.signals; cards = k } in
-    ap (λ k. output_of_run [] p.controls (run p.controls.budget k)) (e ∙ (ap with_machine q ∙ (ap with_signals r ∙ ap with_cards s)))
+    e ∙ (ap with_machine q ∙ (ap with_signals r ∙ ap with_cards s))
+
+pub loaded_is : (p : Program) (c : Scene) → c ≡ loaded_start p → output_of_run [] p.controls c ≡ loaded_by (Ok p)
+loaded_is p c e = ap (output_of_run [] p.controls) e

@@ -4,6 +4,9 @@ use Rattle.st_asm.specs.declared.stop.AsmError.{AsmError}
 use Rattle.st_asm.specs.declared.stop.AsmError.TheVariants.{Refused as AsmRefused, NoMemory as AsmNoMemory}
 use Rattle.st_object.specs.declared.reading.ObjectError.{ObjectError}
 use Rattle.st_object.specs.declared.reading.ObjectError.TheVariants.{Refused as ObjectRefused, NoMemory as ObjectNoMemory}
+use Rattle.st_dis.specs.declared.disassembling.DisError.{DisError}
+use Rattle.st_dis.specs.declared.disassembling.DisError.TheVariants.{TooManyCards as DeckTooLong, NoMemory as DisNoMemory}
+use Rattle.st_card.specs.declared.faults.Fault.TheVariants.{TooManyCards}
 use Rattle.st_io.specs.Count.{HasRisen}
 use Rattle.st_io.specs.Input.{InputState, CameWhole, CameWithin, CamePast}
 use Rattle.st_io.specs.Output.{OutputState}
@@ -31,6 +34,11 @@ of_assembly AsmNoMemory = NoMemory
 abbrev pub of_object : ObjectError → LayerError
 of_object (ObjectRefused card fault) = Refused card fault
 of_object ObjectNoMemory = NoMemory
+
+-- the disassembler's error: the first card that is too many is refused
+abbrev pub of_disassembly : DisError → LayerError
+of_disassembly (DeckTooLong cards) = Refused 20001 TooManyCards
+of_disassembly DisNoMemory = NoMemory
 
 -- what an error says of the output that is wanted: it is that of the refused card, or memory ran out
 abbrev pub Halts : Output → LayerError → Type 0

@@ -2,6 +2,8 @@ pub mod Command
 pub mod CommandLine
 pub mod Signals
 pub mod Report
+pub mod StepsBack
+pub mod Beside
 pub mod Listing
 pub mod ObjectText
 pub mod Loading

@@ -1,8 +1,9 @@
--- The object text of a job, line by line.
+-- The object text of a job and the deck of a program, line by line.
 use Rattle.std.specs.Prelude.{ℕ, false, List, [], ◌∷◌, ◌++◌, map}
 use Rattle.st_asm.specs.Assembly.{Assembly}
 use Rattle.st_object.specs.Lines.{spelled}
 use Rattle.st_object.specs.Object.{Program, object_lines as lines_of}
+use Rattle.st_dis.specs.Deck.{deck_cards}
 use Rattle.st_report.specs.Line.{lf}
 
 -- what an object text keeps of a job that is assembled: all but whether it is listed
@@ -18,3 +19,7 @@ abbrev pub ended_lines : List (List ℕ) → List (List ℕ)
 ended_lines [] = []
 ended_lines (rest ∷ []) = []
 ended_lines (line ∷ next ∷ more) = (line ++ lf) ∷ ended_lines (next ∷ more)
+
+-- the cards of the deck of a program, each with its line end
+unfoldable pub deck_lines : Program → List (List ℕ)
+deck_lines p = map (λ card. card ++ lf) (deck_cards p)

@@ -1,25 +1,26 @@
 -- What the program writes for a command and a job.
-use Rattle.std.specs.Prelude.{ℕ, List, [], ◌∷◌, ◌++◌, Result, Ok, Err}
+use Rattle.std.specs.Prelude.{ℕ, List, [], ◌∷◌, ◌++◌, nat_le, if◌then◌else◌, Result, Ok, Err}
 use Rattle.st_card.specs.Controls.{Asked}
 use Rattle.st_card.specs.Faults.{name_of}
 use Rattle.st_asm.specs.Pass.{Refusal}
 use Rattle.st_asm.specs.Assembly.{Assembly, assembly}
 use Rattle.st_state.specs.Machine.{opening}
 use Rattle.st_exch.specs.Reader.{reader_cards}
-use Rattle.st_exec.specs.Run.{Scene, Ran, run}
+use Rattle.st_exec.specs.Run.{Scene, run}
 use Rattle.st_lines.specs.Event.{Event, at_moment}
 use Rattle.st_report.specs.Line.{fault_line}
 use Rattle.st_top.specs.Signals.{signals_of}
 use Rattle.st_top.specs.Listing.{listing}
-use Rattle.st_top.specs.Report.{report}
-use Rattle.st_top.specs.ObjectText.{program_in, object_lines}
+use Rattle.st_top.specs.StepsBack.{run_report}
+use Rattle.st_top.specs.ObjectText.{program_in, object_lines, deck_lines}
 use Rattle.st_top.specs.Loading.{loaded}
-use Rattle.st_object.specs.Object.{Program}
-use Rattle.st_card.specs.declared.faults.Fault.TheVariants.{BadObjectCard}
+use Rattle.st_object.specs.Object.{Program, read_text}
+use Rattle.st_dis.specs.Deck.{card_count}
+use Rattle.st_card.specs.declared.faults.Fault.TheVariants.{TooManyCards, BadObjectCard}
 use Rattle.st_top.specs.declared.answer.Status.{Status}
 use Rattle.st_top.specs.declared.answer.Status.TheVariants.{Done, Refused}
 use Rattle.st_top.specs.declared.command.Command.{Command}
-use Rattle.st_top.specs.declared.command.Command.TheVariants.{Run, Assemble, Load}
+use Rattle.st_top.specs.declared.command.Command.TheVariants.{Run, Assemble, Load, Disassemble}
 
 -- the status, the lines, the number of instructions done and the tick of the last completion
 pub record Output : Type 0 where
@@ -44,22 +45,18 @@ start_of job a = record {
   cards = reader_cards job;
 }
 
--- the whole run of a job that is assembled
-unfoldable pub run_of : List ℕ → Assembly → Ran
-run_of job a = run a.asked.budget (start_of job a)
-
--- the output of a job that runs: the listing, and then the report of its run
-abbrev pub output_of_run : List (List ℕ) → Asked → Ran → Output
-output_of_run listed asked r = record {
+-- the output of a run from its start: the listing, and then the report
+abbrev pub output_of_run : List (List ℕ) → Asked → Scene → Output
+output_of_run listed asked start = record {
   status = Done;
-  events = at_moment 0 0 listed ++ report asked r.happened;
-  done = r.last.done;
+  events = at_moment 0 0 listed ++ run_report asked start;
+  done = (run asked.budget start).last.done;
   ticks = 0;
 }
 
 -- the output of `run`, by what a job gives
 abbrev pub ran_by : List ℕ → Result Assembly Refusal → Output
-ran_by job (Ok a) = output_of_run (listing job a) a.asked (run_of job a)
+ran_by job (Ok a) = output_of_run (listing job a) a.asked (start_of job a)
 ran_by job (Err r) = refused r
 
 -- the output of `assemble`, by what a job gives: its object text, line by line
@@ -67,21 +64,29 @@ abbrev pub assembled_by : Result Assembly Refusal → Output
 assembled_by (Ok a) = lines_alone Done (object_lines (program_in a))
 assembled_by (Err r) = refused r
 
--- the whole run of a program that is loaded; the reader is empty
-unfoldable pub loaded_run : Program → Ran
-loaded_run p = run p.controls.budget (record {
-  machine = opening p.words p.start;
-  signals = signals_of p.controls.signals;
-  cards = [];
-})
+-- the start of the run of a program that is loaded; the reader is empty
+abbrev pub loaded_start : Program → Scene
+loaded_start p = record { machine = opening p.words p.start; signals = signals_of p.controls.signals; cards = [] }
 
 -- the output of `load`, by what an object text gives: the program, or the number of the line that is refused
 abbrev pub loaded_by : Result Program ℕ → Output
-loaded_by (Ok p) = output_of_run [] p.controls (loaded_run p)
+loaded_by (Ok p) = output_of_run [] p.controls (loaded_start p)
 loaded_by (Err n) = refused (record { card = n; fault = BadObjectCard })
+
+-- the deck of a program, line by line, or the refusal of the first card that is too many
+abbrev pub deck_by : Program → Output
+deck_by p =
+    if nat_le (card_count p) 20000 then lines_alone Done (deck_lines p)
+    else refused (record { card = 20001; fault = TooManyCards })
+
+-- the output of `disassemble`, by what an object text holds: its deck, or the number of its bad line
+abbrev pub disassembled_by : Result Program ℕ → Output
+disassembled_by (Ok p) = deck_by p
+disassembled_by (Err n) = refused (record { card = n; fault = BadObjectCard })
 
 -- the output of a command on a job
 unfoldable pub output_of : Command → List ℕ → Output
 output_of Run job = ran_by job (assembly job)
 output_of Assemble job = assembled_by (assembly job)
 output_of Load text = loaded_by (loaded text)
+output_of Disassemble text = disassembled_by (read_text text)

@@ -4,9 +4,9 @@ ghost use Rattle.std.specs.Prelude.{◌≡◌};
 /// How a call of `stretch` ended. The number is the program's exit status.
 #[derive(Clone, Copy, Debug, PartialEq, Eq)]
 pub enum Status {
-    /// The whole output was written: the report of a run, or an object text.
+    /// The whole output was written: the report of a run, an object text or a deck.
     Done = 0,
-    /// The job was refused, and the line that says so was written.
+    /// The job was refused, or its deck has too many cards, and the line that says so was written.
     Refused = 1,
     /// The words mean no command. Nothing was read or written.
     Usage = 2,

@@ -20,6 +20,8 @@ pub enum Command {
     Assemble,
     /// Read an object text, run it and write its report.
     Load,
+    /// Read an object text and write the deck that assembles to it.
+    Disassemble,
 }
 
 /// The most words of a command line.
@@ -68,6 +70,7 @@ fn command_named_by(word: &str) -> Option<Command>
         "run" => Some(Command::Run),
         "assemble" => Some(Command::Assemble),
         "load" => Some(Command::Load),
+        "disassemble" => Some(Command::Disassemble),
         _ => None,
     }
 }

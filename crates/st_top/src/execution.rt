@@ -1,25 +1,50 @@
 //! A job that runs: the listing, where it is asked for, and then the report of the run.
-ghost use Rattle.std.specs.Prelude.{◌≡◌, ◌≤◌, ◌<◌, ◌^◌, None, Ok, All, OnOk, OnErr, [], ◌++◌, length};
+ghost use Rattle.std.specs.Prelude.{
+  ◌≡◌,
+  ◌≤◌,
+  ◌<◌,
+  ◌^◌,
+  ℕ,
+  None,
+  Ok,
+  All,
+  IfOk,
+  OnOk,
+  OnErr,
+  [],
+  ◌++◌,
+  length,
+  slice_index,
+};
 ghost use Rattle.std.specs.List.{AllPass};
+ghost use Rattle.st_bits.specs.Storage.{words_of_storage};
 ghost use Rattle.st_bits.specs.declared.limits.TheConstants.{MOST_INSTRUCTIONS};
+ghost use Rattle.st_bits.specs.declared.register.TheConstants.{FIRST_STORAGE_WORD};
 ghost use Rattle.st_asm.specs.Assembly.{shown};
 ghost use Rattle.st_asm.specs.Sound.{IsSound, IsSymbol};
 ghost use Rattle.st_card.specs.Cards.{cards_of};
-ghost use Rattle.st_card.specs.Limits.{is_part};
+ghost use Rattle.st_card.specs.Limits.{IsWithinLimits, is_part};
+ghost use Rattle.st_exch.specs.Reader.{reader_cards};
+ghost use Rattle.st_state.specs.Machine.{opening};
 ghost use Rattle.st_exec.specs.Run.{run as run_from};
 ghost use Rattle.st_lines.specs.Event.{at_moment};
 ghost use Rattle.st_object.specs.Object.{IsProgram};
 ghost use Rattle.st_top.specs.Listing.{HasCards, listing};
-ghost use Rattle.st_top.specs.Report.{report};
+ghost use Rattle.st_top.specs.StepsBack.{run_report};
+ghost use Rattle.st_top.specs.Beside.{Follows};
+ghost use Rattle.st_top.specs.Signals.{signals_of};
 ghost use Rattle.st_top.specs.Running.{WritesEvents};
 ghost use Rattle.st_top.specs.Output.{ran_by, loaded_by, output_of_run};
 ghost use Rattle.st_top.specs.Answers.{Writes};
 
 use crate::answer::{Answer, Status};
 use crate::listing::write_listing;
-use crate::running::run;
+use crate::past::Past;
+use crate::running::write_report;
 use crate::scene::Scene;
 use st_asm::Assembled;
+use st_back::Back;
+use st_bits::NoMemory;
 use st_card::{Card, Controls, Signal, split};
 use st_exch::Hopper;
 use st_io::{Failed, Sink};
@@ -34,19 +59,21 @@ fn write_output<K: Sink>(
     cards: &[Card],
     program: &Assembled,
     scene: &mut Scene,
+    past: &mut Option<Past>,
 ) -> Result<(), Failed>
     requires cards { HasCards job.now program.now.listing.items cards.now }
     requires symbols { All IsSymbol program.now.symbols.items }
     requires fresh { scene.old.machine.done ≡ 0 }
     requires limit { program.now.controls.budget ≤ MOST_INSTRUCTIONS }
     requires parts { AllPass is_part program.now.controls.dumps }
+    requires beside { Follows program.now.controls.back past.old scene.old [] }
     ensures { WritesEvents (K.output out.old) (K.output out.new)
         (at_moment 0 0 (listing job.now (shown program.now))
-        ++ report program.now.controls (run_from program.now.controls.budget scene.old).happened)
+        ++ run_report program.now.controls scene.old)
         (run_from program.now.controls.budget scene.old).last scene.new.machine result }
 {
     write_listing(out, job, cards, program)?;
-    run(out, scene, &program.controls)
+    write_report(out, scene, past, &program.controls)
 }
 
 /// The answer of a run, or of one whose report stopped when so many instructions were done.
@@ -81,6 +108,35 @@ fn signals(controls: &Controls) -> &[Signal]
     controls.signals.as_slice()
 }
 
+/// The machine beside a run, where steps back are asked for. It reads the cards of the same job.
+fn beside<'a>(
+    alloc: Global,
+    job: &[u8],
+    image: &[u64],
+    start: u32,
+    controls: &'a Controls,
+) -> Result<Option<Past<'a>>, NoMemory>
+    requires short { length job.now < 2 ^ 32 }
+    requires whole { length image.now ≡ words_of_storage }
+    requires registers { (w : ℕ) → w < FIRST_STORAGE_WORD → slice_index image.now w ≡ 0 }
+    requires counter { start < 2 ^ 19 }
+    requires limits { IsWithinLimits controls.now }
+    ensures { IfOk result (λ past. Follows controls.now.back past (record {
+      machine = opening image.now start;
+      signals = signals_of controls.now.signals;
+      cards = reader_cards job.now;
+    }) []) }
+{
+    let depth = controls.back;
+    if depth == 0 {
+        return Ok(None);
+    }
+    let machine = State::new(alloc, image, start)?;
+    let cards = Hopper::new(alloc, job)?;
+    let steps = Back::new(alloc, depth)?;
+    Ok(Some((Scene::new(machine, signals(controls), cards), steps)))
+}
+
 /// Writes the listing of a job, where it is asked for, runs it with its report, and answers.
 fn answer_run<K: Sink>(
     out: &mut K,
@@ -88,18 +144,20 @@ fn answer_run<K: Sink>(
     cards: &[Card],
     program: &Assembled,
     scene: &mut Scene,
+    past: &mut Option<Past>,
 ) -> Answer
     requires cards { HasCards job.now program.now.listing.items cards.now }
     requires symbols { All IsSymbol program.now.symbols.items }
     requires fresh { scene.old.machine.done ≡ 0 }
     requires limit { program.now.controls.budget ≤ MOST_INSTRUCTIONS }
     requires parts { AllPass is_part program.now.controls.dumps }
+    requires beside { Follows program.now.controls.back past.old scene.old [] }
     ensures writes { Writes result.status (K.output out.old) (K.output out.new)
-        (output_of_run (listing job.now (shown program.now)) program.now.controls
-        (run_from program.now.controls.budget scene.old)) result }
+        (output_of_run (listing job.now (shown program.now)) program.now.controls scene.old)
+        result }
     ensures ticks { result.ticks ≡ 0 }
 {
-    let written = write_output(out, job, cards, program, scene);
+    let written = write_output(out, job, cards, program, scene, past);
     answer_of(written, done_in(scene))
 }
 
@@ -121,20 +179,30 @@ pub fn execute<K: Sink>(alloc: Global, job: &[u8], program: &Assembled, out: &mu
     let Ok(machine) = State::new(alloc, program.image.as_slice(), program.start) else {
         return Answer::without_run(Status::NoMemory);
     };
+    let words = program.image.as_slice();
+    let Ok(mut past) = beside(alloc, job, words, program.start, &program.controls) else {
+        return Answer::without_run(Status::NoMemory);
+    };
     let mut scene = Scene::new(machine, signals(&program.controls), waiting);
-    answer_run(out, job, cards.as_slice(), program, &mut scene)
+    answer_run(out, job, cards.as_slice(), program, &mut scene, &mut past)
 }
 
 /// Runs a program that was loaded with its report, and answers.
-fn answer_loaded<K: Sink>(out: &mut K, scene: &mut Scene, controls: &Controls) -> Answer
+fn answer_loaded<K: Sink>(
+    out: &mut K,
+    scene: &mut Scene,
+    past: &mut Option<Past>,
+    controls: &Controls,
+) -> Answer
     requires fresh { scene.old.machine.done ≡ 0 }
     requires limit { controls.now.budget ≤ MOST_INSTRUCTIONS }
     requires parts { AllPass is_part controls.now.dumps }
+    requires beside { Follows controls.now.back past.old scene.old [] }
     ensures writes { Writes result.status (K.output out.old) (K.output out.new)
-        (output_of_run [] controls.now (run_from controls.now.budget scene.old)) result }
+        (output_of_run [] controls.now scene.old) result }
     ensures ticks { result.ticks ≡ 0 }
 {
-    let written = run(out, scene, controls);
+    let written = write_report(out, scene, past, controls);
     answer_of(written, done_in(scene))
 }
 
@@ -148,6 +216,10 @@ pub fn execute_loaded<K: Sink>(alloc: Global, program: &Image, out: &mut K) -> A
     let Ok(machine) = State::new(alloc, program.words.as_slice(), program.start) else {
         return Answer::without_run(Status::NoMemory);
     };
+    let words = program.words.as_slice();
+    let Ok(mut past) = beside(alloc, b"", words, program.start, &program.controls) else {
+        return Answer::without_run(Status::NoMemory);
+    };
     let mut scene = Scene::new(machine, signals(&program.controls), Hopper::empty());
-    answer_loaded(out, &mut scene, &program.controls)
+    answer_loaded(out, &mut scene, &mut past, &program.controls)
 }

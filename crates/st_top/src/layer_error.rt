@@ -1,9 +1,10 @@
 //! Why a command stops before its first line: the errors of the layers below as one type.
 ghost use Rattle.std.specs.Prelude.{◌≡◌};
-ghost use Rattle.st_top.specs.Layers.{of_reading, of_assembly, of_object};
+ghost use Rattle.st_top.specs.Layers.{of_reading, of_assembly, of_object, of_disassembly};
 
 use st_asm::AsmError;
 use st_card::Fault;
+use st_dis::DisError;
 use st_io::ReadError;
 use st_object::ObjectError;
 use thiserror::Error;
@@ -11,7 +12,7 @@ use thiserror::Error;
 /// Why a command stops before it writes anything.
 #[derive(Debug, Drop, Error)]
 pub enum LayerError {
-    /// A card of the job, or a line of the object text, is refused. Both are counted from 1.
+    /// A card of the job, a line of the object text or a card of its deck is refused. All are counted from 1.
     #[error("card {card} is refused")]
     Refused { card: u32, fault: Fault },
     /// The job has more than 2,000,000 bytes.
@@ -55,6 +56,23 @@ impl From<ObjectError> for LayerError {
         match error {
             ObjectError::Refused { card, fault } => LayerError::Refused { card, fault },
             ObjectError::NoMemory => LayerError::NoMemory,
+        }
+    }
+}
+
+/// The first card that is too many for an assembler.
+const FIRST_CARD_TOO_MANY: u32 = 20_001;
+
+impl From<DisError> for LayerError {
+    ghost from_gives = { λ e made. made ≡ of_disassembly e };
+
+    fn from(error: DisError) -> LayerError {
+        match error {
+            DisError::TooManyCards { .. } => LayerError::Refused {
+                card: FIRST_CARD_TOO_MANY,
+                fault: Fault::TooManyCards,
+            },
+            DisError::NoMemory => LayerError::NoMemory,
         }
     }
 }

@@ -11,6 +11,7 @@ mod layer_error;
 mod listing;
 mod loading;
 mod objects;
+mod past;
 mod program;
 mod refusal;
 mod running;
@@ -18,7 +19,7 @@ mod scene;
 
 pub use answer::{Answer, Status};
 pub use command::Command;
-pub use objects::lines_are_the_object_text;
+pub use objects::{lines_are_the_deck, lines_are_the_object_text};
 pub use program::stretch;
 
 #[cfg(test)]

@@ -1,17 +1,21 @@
-//! The object text of a job, written line by line.
-ghost use Rattle.std.specs.Prelude.{◌≡◌, ◌+◌, ◌≤◌, length, take};
+//! The object text of a job and the deck of a program, written line by line.
+ghost use Rattle.std.specs.Prelude.{◌≡◌, ◌+◌, ◌≤◌, Ok, length, take};
 ghost use Rattle.st_asm.specs.Assembly.{shown};
 ghost use Rattle.st_card.specs.Pieces.{parted};
 ghost use Rattle.st_lines.specs.Lines.{WritesLines, text};
+ghost use Rattle.st_dis.specs.Deck.{deck_text};
 ghost use Rattle.st_object.specs.Object.{Program, IsProgram, object_text};
 ghost use Rattle.st_top.specs.Answers.{Writes};
-ghost use Rattle.st_top.specs.ObjectText.{program_in, object_lines, ended_lines};
-ghost use Rattle.st_top.specs.Output.{lines_alone};
+ghost use Rattle.st_top.specs.ObjectText.{program_in, object_lines, deck_lines, ended_lines};
+ghost use Rattle.st_top.specs.Layers.{Ends};
+ghost use Rattle.st_top.specs.Output.{lines_alone, disassembled_by};
 ghost use Rattle.st_top.specs.declared.answer.Status.TheVariants.{Done};
 
 use crate::answer::{Answer, Status};
+use crate::layer_error::LayerError;
 use st_asm::Assembled;
 use st_card::cut;
+use st_dis::disassemble;
 use st_io::{Failed, Sink};
 use st_lines::write_line;
 use st_object::{Image, write_object};
@@ -85,7 +89,30 @@ pub fn answer_object<K: Sink>(alloc: Global, program: &Image, out: &mut K) -> An
     }
 }
 
+/// Writes the deck of a program line by line, and answers. Its memory is taken before.
+pub fn answer_deck<K: Sink>(
+    alloc: Global,
+    program: &Image,
+    out: &mut K,
+) -> Result<Answer, LayerError>
+    requires { IsProgram program.now }
+    ensures { Ends (K.output out.old) (K.output out.new) (disassembled_by (Ok program.now)) result }
+{
+    let deck = disassemble(
+        alloc,
+        program.words.as_slice(),
+        program.start,
+        &program.controls,
+    )?;
+    Ok(answer_text(out, deck.as_slice()))
+}
+
 /// The lines of the object text of a program, one after another, are that text.
 pub fn lines_are_the_object_text()
     ensures { (p : Program) → text (object_lines p) ≡ object_text p }
+{}
+
+/// The lines of the deck of a program, one after another, are that deck.
+pub fn lines_are_the_deck()
+    ensures { (p : Program) → text (deck_lines p) ≡ deck_text p }
 {}

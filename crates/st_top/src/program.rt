@@ -4,7 +4,7 @@ ghost use Rattle.std.specs.List.{list_all};
 ghost use Rattle.std.specs.String.{string_bytes};
 ghost use Rattle.st_top.specs.Command.{command_of};
 ghost use Rattle.st_top.specs.CommandLine.{is_plain};
-ghost use Rattle.st_top.specs.declared.command.Command.TheVariants.{Run, Assemble, Load};
+ghost use Rattle.st_top.specs.declared.command.Command.TheVariants.{Run, Assemble, Load, Disassemble};
 ghost use Rattle.st_top.specs.Output.{output_of};
 ghost use Rattle.st_top.specs.Answers.{Did, IsAnswer};
 ghost use Rattle.st_top.specs.Layers.{Ends, Tries};
@@ -14,10 +14,11 @@ use crate::command::{Command, read_words};
 use crate::execution::{execute, execute_loaded};
 use crate::layer_error::LayerError;
 use crate::loading::load;
-use crate::objects::{answer_object, image_of};
+use crate::objects::{answer_deck, answer_object, image_of};
 use crate::refusal::refuse;
 use st_asm::assemble;
 use st_io::{Sink, Source, read_all};
+use st_object::read_object;
 use std::alloc::Global;
 
 /// The longest job, in bytes.
@@ -53,6 +54,16 @@ fn load_job<K: Sink>(alloc: Global, text: &[u8], out: &mut K) -> Result<Answer, 
     Ok(execute_loaded(alloc, &program, out))
 }
 
+/// Reads an object text and writes its deck.
+#[tactic(auto, unfolding(crate::specs::Output::output_of))]
+fn disassemble_text<K: Sink>(alloc: Global, text: &[u8], out: &mut K) -> Result<Answer, LayerError>
+    requires { length text.now ≤ 2000000 }
+    ensures { Ends (K.output out.old) (K.output out.new) (output_of Disassemble text.now) result }
+{
+    let program = read_object(alloc, text)?;
+    answer_deck(alloc, &program, out)
+}
+
 /// Does what a command asks for on a job that was read, as far as no layer refuses it.
 fn try_job<K: Sink>(
     alloc: Global,
@@ -67,6 +78,7 @@ fn try_job<K: Sink>(
         Command::Run => run_job(alloc, job, out),
         Command::Assemble => assemble_job(alloc, job, out),
         Command::Load => load_job(alloc, job, out),
+        Command::Disassemble => disassemble_text(alloc, job, out),
     }
 }
 
@@ -101,8 +113,8 @@ fn answer<S: Source, K: Sink>(alloc: Global, command: Command, job: &mut S, out:
 
 /// Does what the words of the command line, after the program's name, ask for, on a job of at most 2,000,000
 /// bytes. `run` assembles it, runs it and writes its report; `assemble` assembles it and writes its object text;
-/// `load` takes it as an object text, runs that and writes its report. Each line is written by itself, and all memory
-/// is taken before the first one.
+/// `load` takes it as an object text, runs that and writes its report; `disassemble` takes it as an object text and
+/// writes its deck. Each line is written by itself, and all memory is taken before the first one.
 pub fn stretch<S: Source, K: Sink>(
     alloc: Global,
     words: &[String],

@@ -1,21 +1,24 @@
 //! A whole run, and its report.
-ghost use Rattle.std.specs.Prelude.{◌≡◌, ◌≤◌, ◌<◌, ◌^◌, false, [], ◌∷◌, None};
+ghost use Rattle.std.specs.Prelude.{◌≡◌, ◌≤◌, ◌<◌, ◌^◌, ℕ, false, [], ◌∷◌, None, IfSome};
 ghost use Rattle.std.specs.List.{AllPass};
 ghost use Rattle.st_bits.specs.declared.limits.TheConstants.{MOST_INSTRUCTIONS};
 ghost use Rattle.st_card.specs.Limits.{is_part};
 ghost use Rattle.st_lines.specs.Lines.{WritesLines};
-ghost use Rattle.st_exec.specs.Run.{Interrupts, Ends, run as run_of};
+ghost use Rattle.st_exec.specs.Run.{Scene as SceneOf, Interrupts, Ends, run as run_of};
 ghost use Rattle.st_exec.specs.Step.{interrupt as interrupt_of, rests, address as address_of};
-ghost use Rattle.st_report.specs.Line.{int_line, end_line, done_line};
+ghost use Rattle.st_report.specs.Line.{int_line, end_line, done_line, back_line};
 ghost use Rattle.st_top.specs.Report.{block, lines_at, lines_by, trace_lines};
-ghost use Rattle.st_top.specs.Running.{WritesReached, RunWrites, stepping};
+ghost use Rattle.st_top.specs.StepsBack.{states, back_lines, run_report};
+ghost use Rattle.st_top.specs.Beside.{IsReady, Follows, StandsAtEnd, EndsBeside};
+ghost use Rattle.st_top.specs.Running.{WritesReached, WritesEvents, RunWrites, stepping};
 
 use crate::block::{put, write_block};
+use crate::past::{Past, rewind, settle_beside, step_beside};
 use crate::scene::{Scene, settle};
 use st_card::Controls;
 use st_exec::{interrupt, is_at_rest, next_address, one};
 use st_io::{Failed, Sink};
-use st_report::{line_done, line_end, line_int, line_trc};
+use st_report::{line_back, line_done, line_end, line_int, line_trc};
 use st_state::State;
 
 /// Writes the state block, with the dumps that are asked for.
@@ -192,18 +195,27 @@ fn budget(controls: &Controls) -> u64
     controls.budget
 }
 
-/// Runs a machine to its end, and writes the report. At a failed write the state is the one in which its line is
-/// written.
-pub fn run<K: Sink>(out: &mut K, scene: &mut Scene, controls: &Controls) -> Result<(), Failed>
+/// Runs a machine to its end, with the machine beside it, and writes what happens. At a failed write the state is the
+/// one in which its line is written.
+fn run<K: Sink>(
+    out: &mut K,
+    scene: &mut Scene,
+    past: &mut Option<Past>,
+    controls: &Controls,
+) -> Result<(), Failed>
     requires fresh { scene.old.machine.done ≡ 0 }
     requires limit { controls.now.budget ≤ MOST_INSTRUCTIONS }
     requires parts { AllPass is_part controls.now.dumps }
-    ensures { RunWrites (K.output out.old) (K.output out.new) controls.now
+    requires beside { Follows controls.now.back past.old scene.old [] }
+    ensures writes { RunWrites (K.output out.old) (K.output out.new) controls.now
         (run_of controls.now.budget scene.old) scene.new.machine result }
+    ensures beside { EndsBeside controls.now.back controls.now.budget scene.old scene.new
+        past.new result }
 {
     let mut left = budget(controls);
     'running: loop {
         settle(out, scene)?;
+        settle_beside(past);
         if is_resting(scene) {
             return end(out, scene, true, controls);
         }
@@ -211,6 +223,69 @@ pub fn run<K: Sink>(out: &mut K, scene: &mut Scene, controls: &Controls) -> Resu
             return end(out, scene, false, controls);
         }
         step(out, scene, controls)?;
+        step_beside(past);
         left -= 1;
     }
+}
+
+/// Writes the line that says how many steps a state lies before the end.
+fn write_steps<K: Sink>(out: &mut K, steps: u8) -> Result<(), Failed>
+    ensures { WritesLines (K.output out.old) (K.output out.new) (back_line steps ∷ []) result }
+{
+    put(out, &line_back(steps))
+}
+
+/// Writes the line and the block of the state so many steps before the end.
+fn write_before<K: Sink>(
+    out: &mut K,
+    steps: u8,
+    state: &State,
+    controls: &Controls,
+) -> Result<(), Failed>
+    requires { AllPass is_part controls.now.dumps }
+    ensures { WritesLines (K.output out.old) (K.output out.new)
+        (back_line steps ∷ block controls.now.dumps state.now) result }
+{
+    write_steps(out, steps)?;
+    write_state(out, state, controls)
+}
+
+/// Writes the state before the end to which the machine beside a run steps back, where there is one.
+#[tactic(auto, using(st_lines::proofs::Progress::wrote_nothing))]
+fn write_back<K: Sink>(
+    out: &mut K,
+    past: &mut Option<Past>,
+    controls: &Controls,
+) -> Result<(), Failed>
+    requires parts { AllPass is_part controls.now.dumps }
+    requires ready { IfSome past.old IsReady }
+    ensures { (budget : ℕ) (start c : SceneOf)
+        → StandsAtEnd controls.now.back budget start c past.old
+        → WritesLines (K.output out.old) (K.output out.new)
+        (back_lines controls.now (states budget start) c.machine) result }
+{
+    let Some(past) = past.as_mut() else {
+        return Ok(());
+    };
+    let steps = rewind(&mut past.0, &mut past.1);
+    let scene = &past.0;
+    write_before(out, steps, &scene.machine, controls)
+}
+
+/// Runs a machine to its end, and writes the report: what happens, and then the state before the end that is asked for.
+pub fn write_report<K: Sink>(
+    out: &mut K,
+    scene: &mut Scene,
+    past: &mut Option<Past>,
+    controls: &Controls,
+) -> Result<(), Failed>
+    requires fresh { scene.old.machine.done ≡ 0 }
+    requires limit { controls.now.budget ≤ MOST_INSTRUCTIONS }
+    requires parts { AllPass is_part controls.now.dumps }
+    requires beside { Follows controls.now.back past.old scene.old [] }
+    ensures { WritesEvents (K.output out.old) (K.output out.new) (run_report controls.now scene.old)
+        (run_of controls.now.budget scene.old).last scene.new.machine result }
+{
+    run(out, scene, past, controls)?;
+    write_back(out, past, controls)
 }

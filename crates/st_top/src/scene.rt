@@ -103,14 +103,14 @@ fn signals_at_rest<'a>(machine: &mut State, signals: &'a [Signal]) -> &'a [Signa
 }
 
 /// The signals that are due come.
-fn take_due_signals(scene: &mut Scene)
+pub fn take_due_signals(scene: &mut Scene)
     ensures { scene.new ≡ run.with_due_signals scene.old.machine scene.old.signals scene.old.cards }
 {
     scene.signals = due_signals(&mut scene.machine, scene.signals);
 }
 
 /// Signals come as long as the machine is at rest.
-fn take_signals_at_rest(scene: &mut Scene)
+pub fn take_signals_at_rest(scene: &mut Scene)
     ensures { scene.new ≡ run.with_signals_at_rest scene.old.machine scene.old.signals
         scene.old.cards }
 {
@@ -118,21 +118,21 @@ fn take_signals_at_rest(scene: &mut Scene)
 }
 
 /// Whether the reader's order is due.
-fn reader_is_due(machine: &State) -> bool
+pub fn reader_is_due(machine: &State) -> bool
     ensures { result ≡ is_due_of machine.now.done machine.now.reader }
 {
     is_due(machine.reader, machine.done)
 }
 
 /// Whether the printer's order is due.
-fn printer_is_due(machine: &State) -> bool
+pub fn printer_is_due(machine: &State) -> bool
     ensures { result ≡ is_due_of machine.now.done machine.now.printer }
 {
     is_due(machine.printer, machine.done)
 }
 
 /// Whether the printer has no order.
-fn printer_is_free(machine: &State) -> bool
+pub fn printer_is_free(machine: &State) -> bool
     ensures { result ≡ is_none machine.now.printer }
 {
     machine.printer.is_none()

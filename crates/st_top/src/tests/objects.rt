@@ -26,8 +26,8 @@ const REFUSED: [Case; 4] = [
         report: "CARD 5 BAD OBJECT CARD\n",
     },
     Case {
-        shows: "stepping back, which is not built, before a bad line",
-        job: "OBJECT\nSTART 32.0\nBUDGET 1\nDELAY 1\nBACK 5\nFIN\nFIN\n",
+        shows: "a snapshot, which is not built, before a bad line",
+        job: "OBJECT\nSTART 32.0\nBUDGET 1\nDELAY 1\nSNAP 5\nFIN\nFIN\n",
         report: "CARD 5 BAD OBJECT CARD\n",
     },
     Case {

@@ -90,7 +90,7 @@ pub const REFUSED: [Case; 9] = [
 ];
 
 /// Refused as long as what they ask for is not built.
-pub const UNBUILT: [Case; 6] = [
+pub const UNBUILT: [Case; 5] = [
     Case {
         shows: "ticks",
         job: "         LVI,$X1,100.0
@@ -117,16 +117,6 @@ pub const UNBUILT: [Case; 6] = [
          BEW
          END,32.0
 /SNAP 26
-",
-        report: "CARD 4 NOT YET BUILT
-",
-    },
-    Case {
-        shows: "stepping back",
-        job: "         LVI,$X1,100.0
-         BEW
-         END,32.0
-/BACK 1
 ",
         report: "CARD 4 NOT YET BUILT
 ",

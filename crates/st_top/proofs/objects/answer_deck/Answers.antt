@@ -1,0 +1,25 @@
+use Rattle.std.proofs.Common.{◌≡◌, ◌≤◌, ℕ, List, ◌∙◌, ap, subst}
+use Rattle.st_card.specs.Pieces.{parted}
+use Rattle.st_object.specs.Object.{Program}
+use Rattle.st_dis.specs.Deck.{card_count, deck_text}
+use Rattle.st_top.specs.ObjectText.{deck_lines, ended_lines}
+use Rattle.st_top.specs.Output.{lines_alone}
+use Rattle.st_top.specs.declared.answer.Status.TheVariants.{Done}
+use Rattle.st_top.proofs.Decks.{deck_few}
+use Rattle.st_top.proofs.ObjectTexts.{deck_text-lines}
+use Rattle.st_top.proofs.Outputs.{writes_output}
+use Rattle.st_top.proofs.objects.answer_deck.Goals as goal
+
+-- the deck, line by line
+pub returns : goal.returns
+returns g c =
+    let p = c.args.program.now in
+    let with_words : List ℕ → Program = λ words. record { words = words; start = c.program.inside.start; controls = c.program.inside.controls } in
+    let same : with_words c.as_slice.result.now ≡ p = ap with_words c.as_slice.ensures.value ∙ c.program.view_is in
+    let written : c.as_slice-2.result.now ≡ deck_text p = c.as_slice-2.ensures.value ∙ (c.in_ok-deck.ensures.deck ∙ ap deck_text same) in
+    let lines : ended_lines (parted 10 c.as_slice-2.result.now) ≡ deck_lines p =
+    ap (λ (s : List ℕ). ended_lines (parted 10 s)) written ∙ deck_text-lines p in
+    let few : card_count p ≤ 20000 = subst (λ (q : Program). card_count q ≤ 20000) same c.in_ok-deck.ensures.few in (
+      writes_output _ _ _ _ _ (ap (lines_alone Done) lines ∙ deck_few p few) c.answer_text.ensures.writes,
+      c.answer_text.ensures.ticks,
+    )

@@ -1,0 +1,68 @@
+-- A machine beside a run, of which the last steps are kept.
+use Rattle.std.specs.Prelude.{◌≡◌, ◌≤◌, ℕ, List, [], ◌∷◌, ◌++◌, length, Option, None, Some, MatchOption, Result, OnOk}
+use Rattle.circular_buffer.specs.Buffer.{keep_last}
+use Rattle.st_state.specs.Machine.{Machine}
+use Rattle.st_state.specs.declared.devices.Order.{Order}
+use Rattle.st_exec.specs.Run.{Scene, stepped}
+use Rattle.st_back.specs.declared.kept.Kept.{Kept}
+use Rattle.st_back.specs.Steps.{Steps, newest, states_before}
+use Rattle.st_io.specs.declared.Failed.{Failed}
+use Rattle.st_top.specs.StepsBack.{states}
+
+-- where it stands, and the steps that can be undone
+abbrev pub Beside : Type 0
+Beside = Scene × Steps
+
+-- no word was put since the newest step
+abbrev pub IsFresh : List Kept → Type 0
+IsFresh kept = MatchOption (newest kept) ⊥ (λ k. k.puts ≡ 0)
+
+-- a card that comes can be put: as long as the reader has an order, no word was put since the newest step
+abbrev pub HasRoom : Option Order → List Kept → Type 0
+HasRoom None kept = Unit {0}
+HasRoom (Some order) kept = IsFresh kept
+
+-- what it always keeps
+pub record IsReady (b : Beside) : Type 0 where
+  pub some : 1 ≤ b.1.depth
+  pub few : b.1.depth ≤ 64
+  pub room : HasRoom b.0.machine.reader b.1.kept
+
+-- it moves to a scene without a step, and steps back give the same states
+pub record IsMoved (old new : Beside) (c : Scene) : Type 0 where
+  pub ready : IsReady new
+  pub scene : new.0 ≡ c
+  pub depth : new.1.depth ≡ old.1.depth
+  pub states : states_before new.1.kept new.0.machine ≡ states_before old.1.kept old.0.machine
+
+-- it makes a step, and steps back give the state before it as well, but no more states than it is deep
+pub record IsStepped (old new : Beside) : Type 0 where
+  pub ready : IsReady new
+  pub scene : new.0 ≡ stepped old.0
+  pub depth : new.1.depth ≡ old.1.depth
+  pub states : states_before new.1.kept new.0.machine
+      ≡ keep_last old.1.depth (states_before old.1.kept old.0.machine ++ old.0.machine ∷ [])
+
+-- it stands at a scene, and steps back give the states before, as many of the last ones as it is deep
+pub record IsBeside (depth : ℕ) (b : Beside) (c : Scene) (before : List Machine) : Type 0 where
+  pub some : 1 ≤ depth
+  pub ready : IsReady b
+  pub deep : b.1.depth ≡ depth
+  pub scene : b.0 ≡ c
+  pub states : states_before b.1.kept c.machine ≡ keep_last depth before
+
+-- there is one exactly where steps back are asked for
+abbrev pub Follows : ℕ → Option Beside → Scene → List Machine → Type 0
+Follows back None c before = back ≡ 0
+Follows back (Some b) c before = IsBeside back b c before
+
+-- it stands at the end of a run
+pub record StandsAtEnd (back budget : ℕ) (start c : Scene) (b : Option Beside) : Type 0 where
+  pub before : List Machine
+  pub all : states budget start ≡ before ++ c.machine ∷ []
+  pub counted : length before ≡ c.machine.done
+  pub follows : Follows back b c before
+
+-- at Ok it does
+abbrev pub EndsBeside : ℕ → ℕ → Scene → Scene → Option Beside → Result (Unit {0}) Failed → Type 0
+EndsBeside back budget start c b result = OnOk result (StandsAtEnd back budget start c b)

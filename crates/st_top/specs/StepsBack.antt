@@ -1,0 +1,31 @@
+-- The states of a run, and the one that is shown so many steps before its end.
+use Rattle.std.specs.Prelude.{ℕ, zero, suc, ◌-◌, ◌==◌, min, if◌then◌else◌, List, [], ◌∷◌, ◌++◌, slice_index_or}
+use Rattle.st_card.specs.Controls.{Asked}
+use Rattle.st_state.specs.Machine.{Machine}
+use Rattle.st_exec.specs.Step.{rests}
+use Rattle.st_exec.specs.Run.{Scene, settled, stepped, run}
+use Rattle.st_lines.specs.Event.{Event, at_moment}
+use Rattle.st_report.specs.Line.{back_line}
+use Rattle.st_top.specs.Report.{block, report}
+
+-- the states of a run from a scene on, each after what comes before its step, up to the one in which the run ends
+unfoldable pub states : ℕ → Scene → List Machine
+states zero c = (settled c).scene.machine ∷ []
+states (suc left) c =
+    let s = (settled c).scene in
+    if rests s.machine then s.machine ∷ [] else s.machine ∷ states left (stepped s)
+
+-- the line and the block of the state so many steps before the last one, but no more than were made
+abbrev pub block_before : List (ℕ × ℕ) → ℕ → List Machine → Machine → List (List ℕ)
+block_before dumps j states last = back_line j ∷ block dumps (slice_index_or states (last.done - j) last)
+
+-- its lines, where steps back are asked for
+abbrev pub back_lines : Asked → List Machine → Machine → List (List ℕ)
+back_lines asked states last =
+    if asked.back == 0 then [] else block_before asked.dumps (min asked.back last.done) states last
+
+-- the report of a run: what happens, and at the moment of its end the state so many steps before it
+unfoldable pub run_report : Asked → Scene → List Event
+run_report asked start =
+    let r = run asked.budget start in
+    report asked r.happened ++ at_moment r.last.done 0 (back_lines asked (states asked.budget start) r.last)

@@ -1,0 +1,254 @@
+//! A second machine beside a run: it makes the same steps, and the last of them can be undone.
+ghost use Rattle.std.specs.Prelude.{
+  ◌≡◌,
+  ◌+◌,
+  ◌<◌,
+  ◌≤◌,
+  ◌^◌,
+  ℕ,
+  List,
+  [],
+  ◌∷◌,
+  ◌++◌,
+  false,
+  take,
+  length,
+  IsSome,
+  IfSome,
+  is_none,
+};
+ghost use Rattle.st_bits.specs.Storage.{words_of_storage};
+ghost use Rattle.st_state.specs.Machine.{Machine};
+ghost use Rattle.st_exec.specs.Run as run;
+ghost use Rattle.st_exec.specs.Step.{rests};
+ghost use Rattle.st_back.specs.Steps.{states_before};
+ghost use Rattle.st_top.specs.Beside.{IsFresh, IsReady, IsMoved, IsStepped, Follows};
+
+use crate::scene::{
+    Scene, printer_is_due, printer_is_free, reader_is_due, take_due_signals, take_signals_at_rest,
+};
+use st_back::Back;
+use st_bits::indicators::{END_EXCEPTION, END_OF_OPERATION};
+use st_exec::{is_at_rest, print_out};
+use st_state::{Device, State};
+
+/// A machine beside a run, and its last steps, which can be undone.
+pub type Past<'a> = (Scene<'a>, Back);
+
+/// Puts the words of a card into the eight words from the word address `w` on, each noted with the newest step.
+fn put_card(steps: &mut Back, machine: &mut State, w: u32, card: &[u64; 8])
+    requires above { 32 ≤ w }
+    requires inside { w + 8 ≤ words_of_storage }
+    requires fresh { IsFresh steps.old.kept }
+    ensures state { machine.new ≡ run.all_stored machine.old w card.now }
+    ensures depth { steps.new.depth ≡ steps.old.depth }
+    ensures states { states_before steps.new.kept machine.new
+        ≡ states_before steps.old.kept machine.old }
+{
+    for k in 0..8 {
+        steps.put(machine, w + k, card[k as usize]);
+    }
+}
+
+/// The order of the reader takes effect, as `st_exec::read_in` says, and the words of the card are noted.
+fn read_noted(steps: &mut Back, machine: &mut State, card: Option<[u64; 8]>)
+    requires order { IsSome machine.old.reader }
+    requires fresh { IsFresh steps.old.kept }
+    ensures state { IfSome machine.old.reader
+        (λ order. machine.new ≡ run.read_in machine.old order.word card) }
+    ensures depth { steps.new.depth ≡ steps.old.depth }
+    ensures states { states_before steps.new.kept machine.new
+        ≡ states_before steps.old.kept machine.old }
+{
+    machine.shape();
+    let Some(order) = machine.reader else { return };
+    machine.reader = None;
+    let Some(card) = card else {
+        machine.signal(END_EXCEPTION);
+        return;
+    };
+    put_card(steps, machine, order.word, &card);
+    machine.shape();
+    machine.signal(END_OF_OPERATION);
+}
+
+/// The signals that are due come.
+fn move_by_due_signals(scene: &mut Scene, steps: &Back)
+    requires { IsReady (scene.old, steps.now) }
+    ensures { IsMoved (scene.old, steps.now) (scene.new, steps.now)
+        (run.with_due_signals scene.old.machine scene.old.signals scene.old.cards) }
+{
+    scene.machine.shape();
+    take_due_signals(scene);
+}
+
+/// Signals come as long as the machine is at rest.
+fn move_by_signals_at_rest(scene: &mut Scene, steps: &Back)
+    requires { IsReady (scene.old, steps.now) }
+    ensures { IsMoved (scene.old, steps.now) (scene.new, steps.now)
+        (run.with_signals_at_rest scene.old.machine scene.old.signals scene.old.cards) }
+{
+    scene.machine.shape();
+    take_signals_at_rest(scene);
+}
+
+/// Whether the reader has no order.
+fn reader_is_free(machine: &State) -> bool
+    ensures { result ≡ is_none machine.now.reader }
+{
+    machine.reader.is_none()
+}
+
+/// The reader's order takes effect, if it has one.
+fn serve_reader(scene: &mut Scene, steps: &mut Back)
+    requires { IsReady (scene.old, steps.old) }
+    ensures { IsMoved (scene.old, steps.old) (scene.new, steps.new)
+        (run.with_reader scene.old.machine.reader scene.old).scene }
+{
+    if reader_is_free(&scene.machine) {
+        return;
+    }
+    let card = scene.cards.next();
+    read_noted(steps, &mut scene.machine, card);
+}
+
+/// The printer's order takes effect, if it has one. Nothing is printed.
+fn serve_printer(scene: &mut Scene, steps: &Back)
+    requires { IsReady (scene.old, steps.now) }
+    ensures { IsMoved (scene.old, steps.now) (scene.new, steps.now)
+        (run.with_printer scene.old.machine.printer scene.old).scene }
+{
+    if printer_is_free(&scene.machine) {
+        return;
+    }
+    scene.machine.shape();
+    print_out(&mut scene.machine);
+}
+
+/// The reader's order takes effect, if it is due.
+fn serve_due_reader(scene: &mut Scene, steps: &mut Back)
+    requires { IsReady (scene.old, steps.old) }
+    ensures { IsMoved (scene.old, steps.old) (scene.new, steps.new)
+        (run.with_reader (run.if_due scene.old.machine.done scene.old.machine.reader)
+        scene.old).scene }
+{
+    if reader_is_due(&scene.machine) {
+        serve_reader(scene, steps);
+    }
+}
+
+/// The printer's order takes effect, if it is due.
+fn serve_due_printer(scene: &mut Scene, steps: &Back)
+    requires { IsReady (scene.old, steps.now) }
+    ensures { IsMoved (scene.old, steps.now) (scene.new, steps.now)
+        (run.with_printer (run.if_due scene.old.machine.done scene.old.machine.printer)
+        scene.old).scene }
+{
+    if printer_is_due(&scene.machine) {
+        serve_printer(scene, steps);
+    }
+}
+
+/// The orders that are due take effect, the reader's first.
+fn serve_due(scene: &mut Scene, steps: &mut Back)
+    requires { IsReady (scene.old, steps.old) }
+    ensures { IsMoved (scene.old, steps.old) (scene.new, steps.new)
+        (run.with_due_orders scene.old).scene }
+{
+    serve_due_reader(scene, steps);
+    serve_due_printer(scene, steps);
+}
+
+/// The order that is due earliest takes effect, if the machine is at rest.
+fn serve_at_rest(scene: &mut Scene, steps: &mut Back)
+    requires { IsReady (scene.old, steps.old) }
+    ensures { IsMoved (scene.old, steps.old) (scene.new, steps.new)
+        (run.with_order_at_rest scene.old).scene }
+{
+    if !is_at_rest(&scene.machine) {
+        return;
+    }
+    match scene.machine.next_device() {
+        None => {}
+        Some(Device::Reader) => serve_reader(scene, steps),
+        Some(Device::Printer) => serve_printer(scene, steps),
+    }
+}
+
+/// What ends a wait comes: orders, then signals.
+fn end_wait(scene: &mut Scene, steps: &mut Back)
+    requires { IsReady (scene.old, steps.old) }
+    ensures { IsMoved (scene.old, steps.old) (scene.new, steps.new)
+        (run.with_wait scene.old).scene }
+{
+    serve_at_rest(scene, steps);
+    serve_at_rest(scene, steps);
+    move_by_signals_at_rest(scene, steps);
+}
+
+/// What comes between two steps, as `scene::settle` has it. Nothing is printed.
+fn settle(scene: &mut Scene, steps: &mut Back)
+    requires { IsReady (scene.old, steps.old) }
+    ensures { IsMoved (scene.old, steps.old) (scene.new, steps.new) (run.settled scene.old).scene }
+{
+    move_by_due_signals(scene, steps);
+    serve_due(scene, steps);
+    end_wait(scene, steps);
+}
+
+/// Makes the next step of a machine that is not at rest.
+fn step(scene: &mut Scene, steps: &mut Back)
+    requires few { scene.old.machine.done < 2 ^ 63 }
+    requires ready { IsReady (scene.old, steps.old) }
+    ensures { rests scene.old.machine ≡ false
+        → IsStepped (scene.old, steps.old) (scene.new, steps.new) }
+{
+    steps.forth(&mut scene.machine);
+}
+
+/// Undoes all steps that are kept.
+fn undo_all(steps: &mut Back, machine: &mut State)
+    ensures { machine.new ∷ [] ≡ take 1
+        (states_before steps.old.kept machine.old ++ machine.old ∷ []) }
+{
+    let count = steps.len();
+    for _ in 0..count {
+        steps.back(machine);
+    }
+}
+
+/// Undoes all steps that are kept, and tells how many they were.
+pub fn rewind(scene: &mut Scene, steps: &mut Back) -> u8
+    requires { IsReady (scene.old, steps.old) }
+    ensures count { result ≡ length steps.old.kept }
+    ensures state { scene.new.machine ∷ [] ≡ take 1
+        (states_before steps.old.kept scene.old.machine ++ scene.old.machine ∷ []) }
+{
+    let count = steps.len() as u8;
+    undo_all(steps, &mut scene.machine);
+    count
+}
+
+/// What comes between two steps of a run comes to the machine beside it, where there is one.
+pub fn settle_beside(past: &mut Option<Past>)
+    requires { IfSome past.old IsReady }
+    ensures { (back : ℕ) (c : run.Scene) (before : List Machine) → Follows back past.old c before
+        → Follows back past.new (run.settled c).scene before }
+{
+    if let Some(past) = past.as_mut() {
+        settle(&mut past.0, &mut past.1);
+    }
+}
+
+/// The machine beside a run, where there is one, makes the next step.
+pub fn step_beside(past: &mut Option<Past>)
+    requires few { IfSome past.old (λ b. b.0.machine.done < 2 ^ 63) }
+    requires ready { IfSome past.old IsReady }
+    ensures { (back : ℕ) (c : run.Scene) (before : List Machine) → rests c.machine ≡ false
+        → Follows back past.old c before
+        → Follows back past.new (run.stepped c) (before ++ c.machine ∷ []) }
+{
+    if let Some(past) = past.as_mut() {
+        step(&mut past.0, &mut past.1);
+    }
+}
