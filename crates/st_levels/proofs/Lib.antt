@@ -1,0 +1,14 @@
+pub mod Windows
+pub mod LevelLemmas
+pub mod WriterLemmas
+pub mod AloneLemmas
+pub mod SlotLemmas
+pub mod PushLemmas
+pub mod DoneLemmas
+pub mod OperandSlots
+pub mod UndoLemmas
+pub mod Edits
+pub mod FillLemmas
+pub mod PassLemmas
+pub mod OrderLemmas
+pub mod NoLevels

@@ -1,0 +1,88 @@
+-- One more level.
+use Rattle.std.proofs.Common.{◌≡◌, ℕ, suc, ◌-◌, ◌<◌, true, List, [], ◌∷◌, ◌++◌, length, Option, refl, sym, subst, ◌∙◌, ap, ap₂, arith, length-append}
+use Rattle.std.specs.Prelude.{IfSome}
+use Rattle.st_state.specs.Machine.{Machine, IsMachine}
+use Rattle.st_prep.specs.EarlyChange.{words_after}
+use Rattle.st_prep.specs.Plan.{plan}
+use Rattle.st_prep.specs.Ranges.{IsPrepared}
+use Rattle.st_prep.specs.declared.entries.Prepared.{Prepared}
+use Rattle.st_rows.specs.Ranges.{AreDelays}
+use Rattle.st_rows.specs.Rows.{row, after, fills}
+use Rattle.st_rows.specs.declared.front.Front.{Front}
+use Rattle.st_rows.specs.declared.front.Filled.{Filled}
+use Rattle.st_ring.specs.declared.level.Level.{Level}
+use Rattle.st_segment.specs.Entries.{entry}
+use Rattle.st_segment.specs.Guesses.{guesses, table_behind, split_words}
+use Rattle.st_segment.specs.Alone.{RunAhead}
+use Rattle.st_segment.proofs.IndexLemmas.{split-change, index-split}
+use Rattle.st_levels.specs.Levels.{LevelsView, IsLevel, AreLevels, AreAhead}
+use Rattle.st_levels.specs.Slots.{slot_of, register_in}
+use Rattle.st_levels.specs.declared.plans.Plan.{Plan}
+use Rattle.st_levels.proofs.LevelLemmas.{levels-append}
+use Rattle.st_levels.proofs.SlotLemmas.{fill-late, register-slot}
+
+-- what is pushed
+abbrev pub pushed_level : Prepared → Filled → Machine → Level
+pushed_level p filled m = record {
+  prepared = p;
+  p = filled.row.p;
+  r = filled.row.p;
+  have = register_in p m 0 ∷ register_in p m 1 ∷ [];
+}
+
+abbrev pub pushed_plan : Front → Filled → Plan
+pushed_plan g filled = record { front = g; r = filled.row.r; c = filled.row.c; fills = filled.fills }
+
+module _ (ds : List ℕ) (n tick most : ℕ) (k : Option ℕ) (u m : Machine) (last : Front) (p : Prepared) (g : Front) (filled : Filled)
+    (are : AreDelays most ds) (ranges : IsPrepared p) (front : g ≡ last) (form : p ≡ plan u k)
+    (numbers : filled.row ≡ row ds n last (entry k u)) (ticks : filled.fills ≡ fills ds n last (entry k u)) (now : tick ≡ filled.row.p)
+    (alone : (entry k u).serial ≡ true → m ≡ u) where
+  entry-alone : (plan u k).serial ≡ true → m ≡ u
+  unfolding entry
+  entry-alone e = alone e
+
+  slot-there : (i : ℕ) → i < 2 → register_in p m i ≡ slot_of (fills ds n last (entry k u)) (plan u k) u tick i
+  slot-there i few =
+      let P : Prepared → Type 0 = λ q. IsPrepared q in
+      let own : IsPrepared (plan u k) = subst P form ranges in
+      let here : tick ≡ (row ds n last (entry k u)).p = now ∙ ap (λ r. r.p) numbers in
+      ap (λ (q : Prepared). register_in q m i) form
+      ∙ register-slot (fills ds n last (entry k u)) (plan u k) m u tick i own entry-alone
+      (λ inside above. rw here (fill-late ds n k u last most i are inside few above))
+
+  pub pushed-level : IsLevel ds n tick k u last (pushed_level p filled m) (pushed_plan g filled)
+  pushed-level = record {
+    prepared = form;
+    p = ap (λ r. r.p) numbers;
+    have = ap₂ (λ x y. x ∷ y ∷ []) (slot-there 0 (omega arith)) (slot-there 1 (omega arith));
+    front = front;
+    r = ap (λ r. r.r) numbers;
+    c = ap (λ r. r.c) numbers;
+    fills = ticks;
+  }
+
+-- the index words behind one more
+pub split-after : (k : ℕ) (t : Option ℕ) (s : Machine) (p : Prepared) (x : List ℕ) → IsMachine s → IfSome t (λ i. i < 64)
+    → RunAhead k t s → p ≡ plan (guesses k t s) (table_behind k t) → x ≡ split_words k t s
+    → words_after x p.index ≡ split_words (suc k) t s
+split-after k t s p x m some free form before =
+    ap₂ (λ (y : List ℕ) (q : Prepared). words_after y q.index) (before ∙ sym (index-split k t s m some free)) form
+    ∙ sym (split-change k t s m some)
+
+pub push-ahead : (ds : List ℕ) (n tick : ℕ) (t : Option ℕ) (s : Machine) (f last : Front) (v new : LevelsView) (level : Level) (q : Plan)
+    (p : Prepared) → let k = length v.ring in let u = guesses k t s in let i = table_behind k t in
+    IsMachine s → IfSome t (λ i. i < 64) → AreAhead ds n tick t s f last v → RunAhead k t s → p ≡ plan u i
+    → IsLevel ds n tick i u last level q
+    → new.ring ≡ v.ring ++ level ∷ [] → new.plans ≡ v.plans ++ q ∷ [] → new.x ≡ words_after v.x p.index
+    → AreAhead ds n tick t s f (after ds n last (entry i u)) new
+push-ahead ds n tick t s f last v new level q p m some h free form is ring plans x =
+    let k = length v.ring in
+    let more : length new.ring ≡ suc k = ap length ring ∙ (length-append v.ring (level ∷ []) ∙ omega arith) in
+    let g = after ds n last (entry (table_behind k t) (guesses k t s)) in
+    let appended = levels-append ds n tick t (table_behind k t) s (guesses k t s) f last v.ring v.plans level q refl refl h.levels is in
+    record {
+      levels = subst (λ (rows : List Plan). AreLevels ds n tick t s f g new.ring rows) (sym plans)
+          (subst (λ (r : List Level). AreLevels ds n tick t s f g r (v.plans ++ q ∷ [])) (sym ring) appended);
+      index = x ∙ split-after k t s p v.x m some free form h.index ∙ ap (λ i. split_words i t s) (sym more);
+      run_ahead = let same : k ≡ length new.ring - 1 = omega (arith, more) in subst (λ i. RunAhead i t s) same free;
+    }

@@ -1,0 +1,67 @@
+use Rattle.std.proofs.Common.{◌≡◌, suc, ◌-◌, None, Some, List, ◌∷◌, length, drop, All, sym, subst, ap, ap₂, ◌∙◌, arith}
+use Rattle.std.specs.Prelude.{slice_get, if◌then◌else◌}
+use Rattle.std.proofs.lemmas.List.Elements.{All-tail}
+use Rattle.st_state.specs.Machine.{Machine}
+use Rattle.st_prep.specs.declared.entries.Prepared.{Prepared}
+use Rattle.st_prep.specs.Fetch.{index_words}
+use Rattle.st_prep.specs.Plan.{plan}
+use Rattle.st_prep.specs.Ranges.{IsPrepared}
+use Rattle.st_exec.specs.Completion.{executed, guess, is_missed}
+use Rattle.st_exec.proofs.UnwrittenLemmas.{guessed-alone}
+use Rattle.st_rows.specs.Rows.{after}
+use Rattle.st_ring.specs.declared.level.Level.{Level}
+use Rattle.st_segment.specs.Entries.{entry}
+use Rattle.st_segment.specs.Guesses.{split_words}
+use Rattle.st_segment.specs.Alone.{RunAhead}
+use Rattle.st_levels.specs.Levels.{LevelsView, AreLevels, AreAhead}
+use Rattle.st_levels.specs.declared.plans.Plan.{Plan}
+use Rattle.st_levels.proofs.DoneLemmas.{levels-behind, first-is}
+use Rattle.st_levels.proofs.levels.Levels.complete.Goals as goal
+
+pub invariant_of-self : goal.invariant_of-self
+invariant_of-self g c =
+    let P : Level → Type 0 = λ level. IsPrepared level.prepared in
+    let i = c.self.invariant in
+    record {
+      beside = omega (arith, c.retire-level.ensures.len, c.drop_first.ensures.len, i.beside);
+      few = omega (arith, c.retire-level.ensures.len, i.few);
+      some = i.some;
+      most = i.most;
+      prepared = All-tail P c.retire-level.result c.retire-level.new.self
+          (subst (λ (r : List Level). All P r) c.retire-level.ensures.level i.prepared);
+    }
+
+pub returns : goal.returns
+returns g c = λ ds n tick t s f last m some h same.
+    let v = c.args.self.now in
+    let level = c.retire-level.result in
+    let rest = c.retire-level.new.self in
+    let q = c.get.result.now in
+    let y = c.index_behind-self-inside.result in
+    let ring : v.ring ≡ level ∷ rest = sym (ap (λ (w : LevelsView). w.ring) c.self.view_is) ∙ c.retire-level.ensures.level in
+    let levels = subst (λ (r : List Level). AreLevels ds n tick t s f last r v.plans) ring h.levels in
+    let first : slice_get v.plans 0 ≡ Some q = sym (ap (λ (w : LevelsView). slice_get w.plans 0) c.self.view_is) ∙ c.get.ensures in
+    let is = first-is ds n tick t s f last level rest v.plans q levels first in
+    let form : level.prepared ≡ plan s t = is.prepared in
+    let done : c.execute_level.new.state ≡ executed t s = c.execute_level.ensures t (form ∙ ap (λ (u : Machine). plan u t) same)
+    ∙ ap (λ (u : Machine). executed t u) (sym same) in
+    let count : length v.ring ≡ suc (length rest) = ap length ring in
+    let before : v.x ≡ split_words (suc (length rest)) t s = h.index ∙ ap (λ k. split_words k t s) count in
+    let fewer : length v.ring - 1 ≡ length rest = omega (arith, count) in
+    let free = subst (λ k. RunAhead k t s) fewer h.run_ahead in
+    let plans : c.drop_first.new.self ≡ drop 1 v.plans = c.drop_first.ensures.rows ∙ ap (λ (w : LevelsView). drop 1 w.plans) c.self.view_is in
+    let serial = ap (λ (p : Prepared). p.serial) form in
+    let ahead = levels-behind ds n tick t s f last level rest v.plans v.x y m some levels before free
+    (λ e. c.index_behind-self-inside.ensures.stays (serial ∙ e) ∙ ap (λ (w : LevelsView). w.x) c.self.view_is)
+    (λ e. c.index_behind-self-inside.ensures.alone (serial ∙ e) ∙ ap index_words (done ∙ sym (guessed-alone (plan s t) s e))) in
+    let P : List Plan → Type 0 = λ rows. AreAhead ds n tick None (guess t s) (after ds n f (entry t s)) last (record { ring = rest; plans = rows; x = y }) in (
+      done,
+      record {
+        address = ap (λ (p : Prepared). p.place.address) form;
+        p = is.p;
+        r = is.r;
+        missed = c.missed-missed.ensures
+            ∙ ap₂ (λ (p : Prepared) (u : Machine). if is_missed p u then Some p.following else None) form (sym same);
+      },
+      subst P (sym plans) ahead,
+    )

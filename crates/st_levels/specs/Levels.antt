@@ -1,0 +1,86 @@
+-- The levels of a machine: entries that are prepared and not done, with their planned rows.
+use Rattle.std.specs.Prelude.{ℕ, ◌≡◌, ◌+◌, ◌-◌, ◌≤◌, ◌<◌, Bool, false, ◌==◌, if◌then◌else◌, List, [], ◌∷◌, length, slice_get, slice_index_or, All, Option, None, Some, IfSome}
+use Rattle.st_state.specs.Machine.{Machine, word}
+use Rattle.st_prep.specs.Plan.{plan}
+use Rattle.st_prep.specs.FewWords.{is_transmission}
+use Rattle.st_prep.specs.Ranges.{IsPrepared}
+use Rattle.st_exec.specs.Completion.{guess, is_missed}
+use Rattle.st_rows.specs.Rows.{row, after, fills}
+use Rattle.st_rows.specs.declared.front.Front.{Front}
+use Rattle.st_ring.specs.declared.level.Level.{Level}
+use Rattle.st_segment.specs.Entries.{entry}
+use Rattle.st_segment.specs.Guesses.{split_words}
+use Rattle.st_segment.specs.Alone.{RunAhead}
+use Rattle.st_levels.specs.Slots.{have_of}
+use Rattle.st_levels.specs.declared.plans.Plan.{Plan}
+use Rattle.st_levels.specs.declared.levels.Completed.{Completed}
+
+-- what is seen of them: the ring, the planned rows beside it, and the index words that run ahead
+pub record LevelsView : Type 0 where
+  pub ring : List Level
+  pub plans : List Plan
+  pub x : List ℕ
+
+-- what is always kept of them: a planned row beside each level, at most n levels, 1 to 8, and each entry in its ranges
+pub record AreSound (n : ℕ) (ring : List Level) (plans : List Plan) : Type 0 where
+  pub beside : length plans ≡ length ring
+  pub few : length ring ≤ n
+  pub some : 1 ≤ n
+  pub most : n ≤ 8
+  pub prepared : All (λ level. IsPrepared level.prepared) ring
+
+-- a level is the next entry of the state s behind the front f, prepared; t says whether it is a table instruction. The operand words are
+-- those that are there at the tick
+pub record IsLevel (ds : List ℕ) (n tick : ℕ) (t : Option ℕ) (s : Machine) (f : Front) (level : Level) (q : Plan) : Type 0 where
+  pub prepared : level.prepared ≡ plan s t
+  pub p : level.p ≡ (row ds n f (entry t s)).p
+  pub have : level.have ≡ have_of ds n tick t s f
+  pub front : q.front ≡ f
+  pub r : q.r ≡ (row ds n f (entry t s)).r
+  pub c : q.c ≡ (row ds n f (entry t s)).c
+  pub fills : q.fills ≡ fills ds n f (entry t s)
+
+-- levels, oldest first, are the next entries by guessed steps, and `last` is the front behind them
+unfoldable pub AreLevels : List ℕ → ℕ → ℕ → Option ℕ → Machine → Front → Front → List Level → List Plan → Type 0
+AreLevels ds n tick t s f last [] [] = last ≡ f
+AreLevels ds n tick t s f last [] (q ∷ qs) = ⊥
+AreLevels ds n tick t s f last (level ∷ levels) [] = ⊥
+AreLevels ds n tick t s f last (level ∷ levels) (q ∷ qs) =
+    IsLevel ds n tick t s f level q
+    × AreLevels ds n tick None (guess t s) (after ds n f (entry t s)) last levels qs
+
+-- all of it: only the youngest level may be one that is done alone
+pub record AreAhead (ds : List ℕ) (n tick : ℕ) (t : Option ℕ) (s : Machine) (f last : Front) (v : LevelsView) : Type 0 where
+  pub levels : AreLevels ds n tick t s f last v.ring v.plans
+  pub index : v.x ≡ split_words (length v.ring) t s
+  pub run_ahead : RunAhead (length v.ring - 1) t s
+
+-- none of them is done at this tick or before it
+abbrev pub AreNotDone : ℕ → LevelsView → Type 0
+AreNotDone now v = All (λ q. now < q.c) v.plans
+
+-- the oldest of them is done at this tick
+abbrev pub is_due : List Plan → ℕ → Bool
+is_due [] now = false
+is_due (q ∷ qs) now = q.c == now
+
+-- the front of the oldest entry that is not done, given that behind the levels
+abbrev pub oldest_front : List Plan → Front → Front
+oldest_front [] last = last
+oldest_front (q ∷ qs) last = q.front
+
+-- the operand words of a level are in its slots, as they stand in the state s; T and SWAP take theirs from storage
+pub record HasOperands (s : Machine) (level : Level) : Type 0 where
+  pub slots : is_transmission level.prepared.instr ≡ false → (k : ℕ) → k < level.prepared.reads.len → k < 2 →
+      slice_index_or level.have k None ≡ Some (word s (level.prepared.reads.first + k))
+
+-- there is an oldest level, and its operand words are in its slots
+abbrev pub IsOldestReady : Machine → LevelsView → Type 0
+IsOldestReady s v = (0 < length v.ring) × IfSome (slice_get v.ring 0) (HasOperands s)
+
+-- what is told of the next entry of the state s behind the front f when it is done
+pub record IsCompleted (ds : List ℕ) (n : ℕ) (t : Option ℕ) (s : Machine) (f : Front) (done : Completed) : Type 0 where
+  pub address : done.address ≡ (plan s t).place.address
+  pub p : done.p ≡ (row ds n f (entry t s)).p
+  pub r : done.r ≡ (row ds n f (entry t s)).r
+  pub missed : done.missed ≡ (if is_missed (plan s t) s then Some (plan s t).following else None)

@@ -1,0 +1,126 @@
+//! What holds of all levels that are the entries ahead of a state.
+ghost use Rattle.std.specs.Prelude.{◌≡◌, ℕ, ◌+◌, ◌<◌, ◌≤◌, true, false, List, [], length, All, Option, None, IfSome};
+ghost use Rattle.st_state.specs.Machine.{Machine, IsMachine, word};
+ghost use Rattle.st_prep.specs.Fetch.{index_words};
+ghost use Rattle.st_prep.specs.BesideOrders.{AreAlikeBesideOrders};
+ghost use Rattle.st_rows.specs.Entries.{latest_done};
+ghost use Rattle.st_rows.specs.Ranges.{IsTight};
+ghost use Rattle.st_rows.specs.Rows.{row, after};
+ghost use Rattle.st_rows.specs.declared.front.Front.{Front};
+ghost use Rattle.st_segment.specs.Entries.{entry};
+ghost use Rattle.st_segment.specs.Guesses.{guesses, table_behind};
+ghost use Rattle.st_segment.specs.Ahead.{ahead, front_behind, prepared_before};
+ghost use Rattle.st_segment.specs.Alone.{RunAhead, is_written};
+ghost use Rattle.st_levels.specs.Levels.{LevelsView, AreAhead, AreNotDone, IsOldestReady, is_due, oldest_front};
+
+use st_rows::{operands_are_there_before_completion, rows_are_in_order};
+use st_segment::{entries_are_in_range, guesses_leave_the_rest};
+
+/// The last front is the one behind the levels, and the oldest of them stands behind the first one. Where all of them are prepared before a
+/// tick, and the entry behind them is not, they are the entries ahead that are.
+pub fn levels_are_the_entries_ahead()
+    ensures front { (ds : List ℕ) (n tick : ℕ) (t : Option ℕ) (s : Machine) (f last : Front)
+        (v : LevelsView) →
+        AreAhead ds n tick t s f last v → last ≡ front_behind ds n (length v.ring) t s f }
+    ensures oldest { (ds : List ℕ) (n tick : ℕ) (t : Option ℕ) (s : Machine) (f last : Front)
+        (v : LevelsView) →
+        AreAhead ds n tick t s f last v → oldest_front v.plans last ≡ f }
+    ensures prepared { (ds : List ℕ) (n tick now m : ℕ) (t : Option ℕ) (s : Machine)
+        (f last : Front) (v : LevelsView) →
+        AreAhead ds n tick t s f last v → All (λ level. level.p < now) v.ring →
+        let k = length v.ring in
+        now ≤ (row ds n last (entry (table_behind k t) (guesses k t s))).p → k ≤ m →
+        (prepared_before now (ahead ds n m t s f) ≡ ahead ds n k t s f)
+        × (length (prepared_before now (ahead ds n m t s f)) ≡ k) }
+{}
+
+/// Two levels that are prepared before a tick and not done before it: then none is done alone, since an entry that is, and the one behind
+/// it, await the last one.
+pub fn levels_that_are_not_done_run_ahead()
+    ensures { (ds : List ℕ) (n tick now : ℕ) (t : Option ℕ) (s : Machine) (f last : Front)
+        (v : LevelsView) →
+        AreAhead ds n tick t s f last v → All (λ level. level.p < now) v.ring →
+        All (λ q. now ≤ q.c) v.plans →
+        2 ≤ length v.ring → RunAhead (length v.ring) t s }
+{
+    rows_are_in_order();
+}
+
+/// What a level that is not done writes is seen in what the fronts behind it keep, of at most eight levels: a word whose latest
+/// writer is done by then is written by none of them, and so it stands in the state.
+pub fn writers_are_seen()
+    ensures written { (ds : List ℕ) (n tick now j w : ℕ) (t : Option ℕ) (s : Machine)
+        (f last : Front) (v : LevelsView) →
+        AreAhead ds n tick t s f last v → AreNotDone now v → j ≤ length v.ring → length v.ring ≤ 8 →
+        latest_done (front_behind ds n j t s f).past w ≤ now → is_written j t s w ≡ false }
+    ensures last { (ds : List ℕ) (n tick now w : ℕ) (t : Option ℕ) (s : Machine) (f last : Front)
+        (v : LevelsView) →
+        AreAhead ds n tick t s f last v → AreNotDone now v → length v.ring ≤ 8 →
+        latest_done last.past w ≤ now → is_written (length v.ring) t s w ≡ false }
+    ensures words { (ds : List ℕ) (n tick now w : ℕ) (t : Option ℕ) (s : Machine) (f last : Front)
+        (v : LevelsView) →
+        IsMachine s → IfSome t (λ i. i < 64) →
+        AreAhead ds n tick t s f last v → AreNotDone now v → length v.ring ≤ 8 → 32 ≤ w →
+        latest_done last.past w ≤ now → word (guesses (length v.ring) t s) w ≡ word s w }
+{
+    guesses_leave_the_rest();
+}
+
+/// A level that is done at the next tick has its operands.
+pub fn levels_that_are_due_have_their_operands()
+    ensures { (ds : List ℕ) (n tick most : ℕ) (t : Option ℕ) (s : Machine) (f last : Front)
+        (v : LevelsView) →
+        IsMachine s → IfSome t (λ i. i < 64) → IsTight most f → AreAhead ds n tick t s f last v →
+        is_due v.plans (tick + 1) ≡ true → IsOldestReady s v }
+{
+    operands_are_there_before_completion();
+    entries_are_in_range();
+}
+
+/// A signal, and an order that brings no card, are passed over: the levels, none of them done alone, are the entries ahead as before.
+pub fn levels_pass_signals_over()
+    ensures { (ds : List ℕ) (n tick : ℕ) (s u : Machine) (f last : Front) (v : LevelsView) →
+        IsMachine s →
+        AreAlikeBesideOrders s u → RunAhead (length v.ring) None s →
+        AreAhead ds n tick None s f last v →
+        AreAhead ds n tick None u f last v }
+{}
+
+/// Levels are prepared one after another, up to the last front, and they are done one after another: where the oldest one is not done at a
+/// tick, none is, and when it is, the front behind it says so.
+pub fn levels_come_in_order()
+    ensures prepared { (ds : List ℕ) (n tick : ℕ) (t : Option ℕ) (s : Machine) (f last : Front)
+        (v : LevelsView) →
+        AreAhead ds n tick t s f last v → All (λ level. (f.p < level.p) ×
+        (level.p ≤ last.p)) v.ring }
+    ensures completed { (ds : List ℕ) (n tick : ℕ) (t : Option ℕ) (s : Machine) (f last : Front)
+        (v : LevelsView) →
+        IsMachine s → IfSome t (λ i. i < 64) → AreAhead ds n tick t s f last v →
+        All (λ q. (f.c < q.c) × (q.c ≤ last.c)) v.plans }
+    ensures behind { (ds : List ℕ) (n tick now : ℕ) (t : Option ℕ) (s : Machine) (f last : Front)
+        (v : LevelsView) →
+        IsMachine s → IfSome t (λ i. i < 64) → AreAhead ds n tick t s f last v → now ≤ f.c →
+        AreNotDone now v }
+    ensures waits { (ds : List ℕ) (n tick now : ℕ) (t : Option ℕ) (s : Machine) (f last : Front)
+        (v : LevelsView) →
+        IsMachine s → IfSome t (λ i. i < 64) → AreAhead ds n tick t s f last v → AreNotDone now v →
+        is_due v.plans (now + 1) ≡ false → AreNotDone (now + 1) v }
+    ensures due { (ds : List ℕ) (n tick now : ℕ) (t : Option ℕ) (s : Machine) (f last : Front)
+        (v : LevelsView) →
+        AreAhead ds n tick t s f last v → is_due v.plans now ≡ true →
+        (0 < length v.ring) × ((row ds n f (entry t s)).c ≡ now) ×
+        ((after ds n f (entry t s)).c ≡ now) }
+{
+    rows_are_in_order();
+    entries_are_in_range();
+}
+
+/// Where there is no level, nothing runs ahead: the last front is the oldest one, and the index words are those of the state.
+pub fn nothing_is_ahead_without_levels()
+    ensures none { (ds : List ℕ) (n tick : ℕ) (t : Option ℕ) (s : Machine) (f : Front)
+        (x : List ℕ) →
+        x ≡ index_words s → AreAhead ds n tick t s f f (record { ring = []; plans = []; x = x }) }
+    ensures only { (ds : List ℕ) (n tick : ℕ) (t : Option ℕ) (s : Machine) (f last : Front)
+        (v : LevelsView) →
+        AreAhead ds n tick t s f last v → length v.ring ≡ 0 → (last ≡ f) × (v.x ≡ index_words s) }
+{}

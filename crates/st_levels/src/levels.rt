@@ -1,0 +1,242 @@
+//! Levels that are pushed, filled, done and undone.
+ghost use Rattle.std.specs.Prelude.{◌≡◌, ℕ, ◌+◌, ◌<◌, ◌≤◌, ◌^◌, length, Option, None, Some, IfSome, List, [], ◌∷◌, ◌++◌, slice_get, false, true};
+ghost use Rattle.st_state.specs.Machine.{Machine, IsMachine, word as word_of};
+ghost use Rattle.st_prep.specs.EarlyChange.{words_after};
+ghost use Rattle.st_prep.specs.Fetch.{index_words as index_words_of};
+ghost use Rattle.st_prep.specs.Plan.{plan as plan_of};
+ghost use Rattle.st_prep.specs.Ranges.{IsPrepared};
+ghost use Rattle.st_exec.specs.Completion.{executed, guess};
+ghost use Rattle.st_rows.specs.Ranges.{AreDelays};
+ghost use Rattle.st_rows.specs.Rows.{row, after, fills};
+ghost use Rattle.st_rows.specs.declared.front.Front.{Front as FrontOf};
+ghost use Rattle.st_segment.specs.Entries.{entry};
+ghost use Rattle.st_segment.specs.Guesses.{guesses, table_behind};
+ghost use Rattle.st_segment.specs.Alone.{RunAhead};
+ghost use Rattle.st_levels.specs.Levels.{LevelsView, AreSound, AreAhead, AreNotDone, HasOperands, IsOldestReady, IsCompleted, is_due as is_due_at};
+ghost use Rattle.st_levels.specs.Slots.{register_in};
+
+use crate::filling::fill_all;
+use crate::plans::{Plan, Plans};
+use crate::slots::{changed, missed, operands_of, registers};
+use st_exec::complete;
+use st_prep::{Prepared, index_words};
+use st_ring::{Level, SpecRing};
+use st_rows::{Filled, Front};
+use st_state::State;
+use std::marker::Model;
+
+/// What is told of a level when it is done.
+#[derive(Clone, Copy, Debug, PartialEq, Eq)]
+pub struct Completed {
+    /// The half-word address of its entry.
+    pub address: u32,
+    /// The tick at which it was prepared.
+    pub p: u64,
+    /// The tick at which its operands were there.
+    pub r: u64,
+    /// Where its guess was wrong, the counter by which what runs ahead goes on.
+    pub missed: Option<u32>,
+}
+
+/// The levels of a machine with N levels, 1 to 8, and the index words that run ahead of the state.
+#[derive(Debug, Drop)]
+pub struct Levels<const N: usize> {
+    ring: SpecRing<N>,
+    plans: Plans,
+    x: [u64; 16],
+}
+
+// Clauses see the levels and the planned rows, oldest first, and the index words.
+impl<const N: usize> Model for Levels<N> {
+    ghost use Rattle.st_levels.specs.Levels.{LevelsView, AreSound};
+
+    ghost Value = { LevelsView };
+
+    ghost view = { λ levels. record { ring = levels.ring; plans = levels.plans; x = levels.x } };
+
+    ghost invariant = { λ levels. AreSound N levels.ring levels.plans };
+}
+
+impl<const N: usize> Levels<N> {
+    /// No levels, where these are the index words of the state.
+    pub fn new(x: [u64; 16]) -> Levels<N>
+        requires some { 1 ≤ N }
+        requires few { N ≤ 8 }
+        ensures { result ≡ record { ring = []; plans = []; x = x } }
+    {
+        Levels {
+            ring: SpecRing::new(),
+            plans: Plans::new(),
+            x,
+        }
+    }
+
+    /// The number of levels.
+    pub fn len(&self) -> usize
+        ensures value { result ≡ length self.now.ring }
+        ensures within { result ≤ N }
+        ensures beside { length self.now.plans ≡ length self.now.ring }
+    {
+        self.ring.len()
+    }
+
+    /// Makes known what is always kept: a planned row beside each level, at most N of them, and each entry in its ranges.
+    pub fn shape(&self)
+        ensures { AreSound N self.now.ring self.now.plans }
+    {
+        let _ = &self.x;
+    }
+
+    /// The levels, oldest first.
+    pub fn ring(&self) -> &SpecRing<N>
+        ensures { result.now ≡ self.now.ring }
+    {
+        &self.ring
+    }
+
+    /// The index words that run ahead.
+    pub fn index(&self) -> &[u64; 16]
+        ensures { result.now ≡ self.now.x }
+    {
+        &self.x
+    }
+
+    /// The planned row of level k, counted from the oldest, which is 0. There is one.
+    pub fn plan(&self, k: usize) -> &Plan
+        requires { k < length self.now.ring }
+        ensures { slice_get self.now.plans k ≡ Some result.now }
+    {
+        self.plans.get(k)
+    }
+
+    /// Appends an entry that is prepared at this tick, its P, behind `front`; `filled` is its row. Its register operands are taken from the
+    /// state, and the index word that it changes is changed. There is room.
+    pub fn push(&mut self, prepared: Prepared, front: &Front, filled: &Filled, state: &State)
+        requires room { length self.old.ring < N }
+        requires prepared { IsPrepared prepared }
+        ensures ring { self.new.ring ≡ self.old.ring ++ (record {
+          prepared = prepared;
+          p = filled.now.row.p;
+          r = filled.now.row.p;
+          have = register_in prepared state.now 0 ∷ register_in prepared state.now 1 ∷ [];
+        }) ∷ [] }
+        ensures plans { self.new.plans ≡ self.old.plans ++ (record {
+          front = front.now;
+          r = filled.now.row.r;
+          c = filled.now.row.c;
+          fills = filled.now.fills;
+        }) ∷ [] }
+        ensures index { self.new.x ≡ words_after self.old.x prepared.index }
+        ensures not_done { (now : ℕ) → AreNotDone now self.old → now < filled.now.row.c →
+            AreNotDone now self.new }
+
+        // Where the levels are the entries ahead, none done alone, and it is the next one, they are so with it. One that is done alone is
+        // pushed when all before it are done.
+        ensures ahead { (ds : List ℕ) (n tick most : ℕ) (t : Option ℕ) (s : Machine)
+            (f last : FrontOf) →
+            let k = length self.old.ring in let u = guesses k t s in let i = table_behind k t in
+            AreDelays most ds → IsMachine s → IfSome t (λ i. i < 64) →
+            AreAhead ds n tick t s f last self.old → RunAhead k t s →
+            front.now ≡ last → tick ≡ filled.now.row.p → prepared ≡ plan_of u i →
+            filled.now.row ≡ row ds n last (entry i u) →
+            filled.now.fills ≡ fills ds n last (entry i u) →
+            ((entry i u).serial ≡ true → state.now ≡ u) →
+            AreAhead ds n tick t s f (after ds n last (entry i u)) self.new }
+    {
+        self.x = changed(self.x, prepared.index);
+        self.ring.push(Level {
+            prepared,
+            p: filled.row.p,
+            r: filled.row.p,
+            have: registers(&prepared, state),
+        });
+        self.plans.push(Plan {
+            front: *front,
+            r: filled.row.r,
+            c: filled.row.c,
+            fills: filled.fills,
+        });
+    }
+
+    /// Whether the oldest level is done at this tick.
+    pub fn is_due(&self, now: u64) -> bool
+        ensures { result ≡ is_due_at self.now.plans now }
+    {
+        self.len() > 0 && self.plans.get(0).c == now
+    }
+
+    /// The oldest level is done: its entry is executed by the operands in its slots, and it is taken away. Where it is done alone the
+    /// index words become those of the state. There is one, and its operands are there.
+    pub fn complete(&mut self, state: &mut State) -> Completed
+        requires ready { IsOldestReady state.old self.old }
+        requires few { state.old.done < 2 ^ 63 }
+        ensures { (ds : List ℕ) (n tick : ℕ) (t : Option ℕ) (s : Machine) (f last : FrontOf) →
+            IsMachine s → IfSome t (λ i. i < 64) → AreAhead ds n tick t s f last self.old →
+            s ≡ state.old →
+            (state.new ≡ executed t s) × IsCompleted ds n t s f result
+            × AreAhead ds n tick None (guess t s) (after ds n f (entry t s)) last self.new }
+    {
+        let r = self.plans.get(0).r;
+        let level = self.ring.retire();
+        self.plans.drop_first();
+        let missed = missed(&level.prepared, state);
+        execute_level(&level, state);
+        self.x = index_behind(self.x, level.prepared.serial, state);
+        Completed {
+            address: level.prepared.place.address,
+            p: level.p,
+            r,
+            missed,
+        }
+    }
+
+    /// Puts the operand words that come at this tick into their slots, as they stand in the state.
+    pub fn fill(&mut self, state: &State, now: u64)
+        ensures plans { self.new.plans ≡ self.old.plans }
+        ensures index { self.new.x ≡ self.old.x }
+        ensures len { length self.new.ring ≡ length self.old.ring }
+
+        // No level is done yet. A word that comes at this tick is written by no older level, so it stands in the state as before the step of the entry.
+        ensures ahead { (ds : List ℕ) (n tick most : ℕ) (t : Option ℕ) (s : Machine)
+            (f last : FrontOf) →
+            AreDelays most ds → IsMachine s → IfSome t (λ i. i < 64) →
+            AreAhead ds n tick t s f last self.old →
+            now ≡ tick + 1 → AreNotDone now self.old → ((w : ℕ) → 32 ≤ w →
+            word_of state.now w ≡ word_of s w) →
+            AreAhead ds n now t s f last self.new }
+    {
+        fill_all(&mut self.ring, &self.plans, state, now);
+    }
+
+    /// Puts the index words back as they were before all levels, leaves no level, and gives the number of levels that there were.
+    pub fn undo(&mut self) -> u8
+        ensures empty { (self.new.ring ≡ []) × (self.new.plans ≡ []) }
+        ensures count { result ≡ length self.old.ring }
+        ensures words { (ds : List ℕ) (n tick : ℕ) (t : Option ℕ) (s : Machine) (f last : FrontOf) →
+            IsMachine s → IfSome t (λ i. i < 64) → AreAhead ds n tick t s f last self.old →
+            self.new.x ≡ index_words_of s }
+    {
+        self.plans.clear();
+        self.ring.undo_into(&mut self.x)
+    }
+}
+
+/// Executes the entry of a level, by the operands in its slots.
+fn execute_level(level: &Level, state: &mut State)
+    requires prepared { IsPrepared level.now.prepared }
+    requires operands { HasOperands state.old level.now }
+    requires few { state.old.done < 2 ^ 63 }
+    ensures { (t : Option ℕ) → level.now.prepared ≡ plan_of state.old t →
+        state.new ≡ executed t state.old }
+{
+    let operands = operands_of(level, state);
+    complete(&level.prepared, &operands, state);
+}
+
+/// The index words behind an entry that is done: those of the state where it is done alone, and else as they were.
+fn index_behind(x: [u64; 16], alone: bool, state: &State) -> [u64; 16]
+    ensures alone { alone ≡ true → result ≡ index_words_of state.now }
+    ensures stays { alone ≡ false → result ≡ x }
+{
+    if alone { index_words(state) } else { x }
+}

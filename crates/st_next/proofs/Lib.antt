@@ -1,0 +1,14 @@
+pub mod Fronts
+pub mod WordByWord
+pub mod Starts
+pub mod Readings
+pub mod Given
+pub mod Contents
+pub mod Late
+pub mod Resting
+pub mod Steps
+pub mod Asking
+pub mod Preparing
+pub mod Goes
+pub mod Starting
+pub mod Whole

@@ -1,0 +1,78 @@
+-- While the entry rests, what is left of it is wanted later.
+use Rattle.std.proofs.Common.{◌≡◌, ℕ, zero, suc, ◌≤◌, ◌<◌, ◌||◌, max, Bool, true, false, ◌==◌, if◌then◌else◌, List, Option, refl, ◌∙◌, ap, arith}
+use Rattle.st_state.specs.Machine.{Machine}
+use Rattle.st_rows.specs.Rows.{fetch_words, wanted_from, fetched, addressed, tick_a}
+use Rattle.st_rows.specs.declared.entry.Run.{Run}
+use Rattle.st_rows.specs.declared.entry.Entry.{Entry}
+use Rattle.st_rows.specs.declared.fetching.Fetching.{Fetching}
+use Rattle.st_rows.specs.declared.front.Front.{Front}
+use Rattle.st_segment.specs.Entries.{entry}
+use Rattle.st_next.specs.Words.{words_so_far}
+use Rattle.st_next.specs.Progress.{IsReadOn, Rests, Planned, Waits, Target, wanted_next, target_waits}
+use Rattle.st_next.specs.declared.next.Next.{Next}
+use Rattle.st_next.proofs.Given.{target-serial}
+use Rattle.st_next.proofs.WordByWord.{fetch-none}
+use Rattle.st_next.proofs.Late.{waits-most, words-later, AreLeft, left_none, left_target}
+
+pub waits-none : (f : Front) (run : Run) → run.len ≡ 0 → target_waits f run ≡ 0
+waits-none f run none = ap (λ n. if n == 0 then 0 else f.c) none
+
+-- ---- the address is formed later
+
+-- an entry that is done alone, and the one behind it, await the last entry
+alone-first : (a b : Bool) (p c : ℕ) → (if b then max p c else p) ≤ max p (if a || b then c else 0)
+alone-first true true p c = omega arith
+alone-first true false p c = omega arith
+alone-first false true p c = omega arith
+alone-first false false p c = omega arith
+
+alone-serial : (a b : Bool) (c : ℕ) → a ≡ true → c ≤ (if a || b then c else 0)
+alone-serial true b c e = omega arith
+alone-serial false b c e = absurd (cc)
+
+module _ (ds : List ℕ) (m : ℕ) (t : Option ℕ) (u : Machine) (f : Front) (next : Next) (read : IsReadOn ds t u f next) (un : next.planned ≡ false) where
+  abbrev e : Entry
+  e = entry t u
+
+  same-answered : next.words.answered ≡ (words_so_far ds f next.own next.target).answered
+  same-answered = ap (λ (s : Fetching). s.answered) read.words
+
+  same-awaited : next.words.awaited ≡ (words_so_far ds f next.own next.target).awaited
+  same-awaited = ap (λ (s : Fetching). s.awaited) read.words
+
+  after-words : m ≤ max (max (max (wanted_from f) (if e.serial || f.serial then f.c else 0)) next.words.answered) next.words.awaited → m < tick_a ds f e
+  unfolding tick_a addressed
+  after-words late =
+      let more = words-later ds f next.own next.target e read.first in
+      omega (arith, late, same-answered, same-awaited, more.0, more.1, alone-first e.serial f.serial f.p f.c)
+
+  waits-alone : (n : ℕ) → next.target.len ≡ n → target_waits f next.target ≤ (if e.serial || f.serial then f.c else 0)
+  waits-alone zero none = omega (arith, waits-none f next.target none)
+  waits-alone (suc n) some =
+      let serial : e.serial ≡ true = target-serial t u (omega (arith, some, read.first.target_start.few)) in
+      omega (arith, waits-most f next.target, alone-serial e.serial f.serial f.c serial)
+
+  pub address-late : Rests m t u f next → m < tick_a ds f e
+  address-late (Planned p) = absurd (cc)
+  address-late (Waits p late) = after-words (omega (arith, late, waits-alone next.target.len refl))
+  address-late (Target p all none some late) =
+      after-words (omega (arith, late, alone-serial e.serial f.serial f.c (target-serial t u some)))
+
+  -- ---- and so are the words that are left
+
+  left-waits : (n : ℕ) → next.target.len ≡ n → m ≤ wanted_next f next → AreLeft ds f next.own next.target e read.first m
+  unfolding fetched
+  left-waits zero none late =
+      let start : Fetching = record { bus = f.bus; answered = 0; awaited = 0 } in
+      let own = fetch_words ds f.past start (wanted_from f) next.own.first next.own.len in
+      let words : next.words ≡ own = read.words ∙ fetch-none ds f.past (max (wanted_from f) f.c) own next.target.first next.target.len none in
+      left_none ds f next.own next.target e read.first m none
+      (omega (arith, late, waits-none f next.target none, ap (λ (s : Fetching). s.answered) words, ap (λ (s : Fetching). s.awaited) words))
+  left-waits (suc n) some late =
+      left_target ds f next.own next.target e read.first m (read.first.all_own (omega (arith, some)))
+      (omega (arith, late, waits-most f next.target, same-answered, same-awaited))
+
+  pub rest-left : Rests m t u f next → AreLeft ds f next.own next.target e read.first m
+  rest-left (Planned p) = absurd (cc)
+  rest-left (Waits p late) = left-waits next.target.len refl late
+  rest-left (Target p all none some late) = left_target ds f next.own next.target e read.first m all (omega arith)

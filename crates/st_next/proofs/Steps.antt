@@ -1,0 +1,214 @@
+-- One step of the entry that is prepared next, whatever the state before it is.
+use Rattle.std.proofs.Common.{◌≡◌, ℕ, zero, suc, ◌+◌, ◌≤◌, ◌<◌, max, Bool, true, false, List, ◌++◌, map, Option, refl, sym, subst, ◌∙◌, ap, arith}
+use Rattle.std.specs.Prelude.{IfSome, option_map, is_none, ◌&&◌}
+use Rattle.st_state.specs.Machine.{Machine, word}
+use Rattle.st_prep.specs.declared.entries.Fetched.{Fetched}
+use Rattle.st_prep.specs.declared.entries.Fetching.{Fetching as Giving}
+use Rattle.st_prep.specs.declared.entries.Fetching.TheVariants.{Next as GivenWord, Found as GivenAll}
+use Rattle.st_prep.specs.declared.entries.Place.{Place}
+use Rattle.st_prep.specs.Fetch.{index_words, place_of, fetched as fetched_at}
+use Rattle.st_prep.specs.Plan.{Sight, seen, sight, needs, prepared}
+use Rattle.st_prep.specs.Reading.{reading, left_after, given}
+use Rattle.st_rows.specs.Rows.{fetch_word, wanted_from, tick_a, bus_a, tick_p}
+use Rattle.st_rows.specs.declared.entry.Run.{Run}
+use Rattle.st_rows.specs.declared.entry.Runs.{Runs}
+use Rattle.st_rows.specs.declared.entry.Entry.{Entry}
+use Rattle.st_rows.specs.declared.fetching.Fetching.{Fetching}
+use Rattle.st_rows.specs.declared.front.Front.{Front}
+use Rattle.st_segment.specs.Alone.{words_of_run}
+use Rattle.st_segment.specs.Entries.{reading_at, entry, side_to_read, words_to_read, words_to_write}
+use Rattle.st_segment.proofs.EntryRanges.{entry-ranges}
+use Rattle.st_segment.proofs.KnownEarly.{known-early}
+use Rattle.st_next.specs.Words.{with_word, words_so_far}
+use Rattle.st_next.specs.Known.{IsBefore}
+use Rattle.st_next.specs.Progress.{IsReadOn, IsPlanned, IsPlannedIf, Rests, Planned, Waits, Target, wanted_next}
+use Rattle.st_next.specs.Going.{GoesOn, IsPlannedAs, entry_seen}
+use Rattle.st_next.specs.declared.next.Next.{Next}
+use Rattle.st_next.proofs.Starts.{IsNextOwn, own-more, IsNextTarget, target-more, word-behind, IsAll}
+use Rattle.st_next.proofs.Given.{contents_of, gives-own, gives-target, gives-all}
+use Rattle.st_next.proofs.Contents.{words-entry, contents-same, reading-same, given-same}
+use Rattle.st_next.proofs.WordByWord.{own-fetched, target-fetched}
+use Rattle.st_next.proofs.Late.{waits-most, waits-some}
+
+pub planned-none : (b : Bool) (ds : List ℕ) (n : ℕ) (t : Option ℕ) (u : Machine) (f : Front) (next : Next) → b ≡ false → IsPlannedIf b ds n t u f next
+planned-none false ds n t u f next e = tt
+planned-none true ds n t u f next e = absurd (cc)
+
+planned-some : (b : Bool) (ds : List ℕ) (n : ℕ) (t : Option ℕ) (u : Machine) (f : Front) (next : Next) → b ≡ true → IsPlanned ds n t u f next → IsPlannedIf b ds n t u f next
+planned-some false ds n t u f next e is = tt
+planned-some true ds n t u f next e is = is
+
+pub planned-is : (b : Bool) (ds : List ℕ) (n : ℕ) (t : Option ℕ) (u : Machine) (f : Front) (next : Next) → b ≡ true → IsPlannedIf b ds n t u f next → IsPlanned ds n t u f next
+planned-is false ds n t u f next e is = absurd (cc)
+planned-is true ds n t u f next e is = is
+
+abbrev sight_with : Place → Fetched → List ℕ → ℕ → Bool → Sight
+sight_with p fd x b on = record { place = p; fetched = fd; x = x; bounds = b; enabled = on }
+
+-- what is seen of the state before the entry is seen of it
+pub sight-same : (now : ℕ) (f : Front) (x : List ℕ) (s u : Machine) (t : Option ℕ) (p : Place) (fd : Fetched) → IsBefore now f.past x s u
+    → p ≡ place_of u t → fd ≡ fetched_at u (place_of u t) → seen p fd x s ≡ sight u (place_of u t)
+unfolding sight
+sight-same now f x s u t p fd is place found =
+    ap (λ p. seen p fd x s) place ∙ ap (λ fd. seen (place_of u t) fd x s) found
+    ∙ ap (λ x. seen (place_of u t) (fetched_at u (place_of u t)) x s) (sym is.index)
+    ∙ ap (λ b. sight_with (place_of u t) (fetched_at u (place_of u t)) (index_words u) b s.enabled) (sym is.bounds)
+    ∙ ap (λ on. sight_with (place_of u t) (fetched_at u (place_of u t)) (index_words u) (word u 3) on) (sym is.enabled)
+
+-- so is the entry
+abbrev entry_with : Run → Run → Option ℕ → Runs → Runs → ℕ → Bool → Bool → Entry
+entry_with own target side reads writes cost serial follows = record {
+  own = own;
+  target = target;
+  side = side;
+  reads = reads;
+  writes = writes;
+  cost = cost;
+  serial = serial;
+  follows = follows;
+}
+
+same_fields : (o p g h : Run) (a b : Option ℕ) (r q v w : Runs) (m n : ℕ) (c d e f : Bool) → o ≡ p → g ≡ h → a ≡ b → r ≡ q → v ≡ w → m ≡ n → c ≡ d → e ≡ f
+    → entry_with o g a r v m c e ≡ entry_with p h b q w n d f
+same_fields o p g h a b r q v w m n c d e f e1 e2 e3 e4 e5 e6 e7 e8 = cc
+
+follows-same : (t : Option ℕ) (u : Machine) → let v = sight u (place_of u t) in (is_none v.place.table && is_none v.fetched.fault) ≡ (entry t u).follows
+unfolding entry sight place_of
+follows-same t u = refl
+
+entry-whole : (t : Option ℕ) (u : Machine) (own target : Run) → own ≡ (entry t u).own → target ≡ (entry t u).target
+    → entry_seen own target (sight u (place_of u t)) ≡ entry t u
+entry-whole t u own target o g =
+    let v = sight u (place_of u t) in
+    let q = option_map (λ w. 0) (needs v).index_read in
+    let k = known-early t u q in
+    same_fields own (entry t u).own target (entry t u).target (side_to_read (needs v).index_read) (entry t u).side
+    (words_to_read (prepared v q).reads) (entry t u).reads (words_to_write (prepared v q).writes) (entry t u).writes
+    (prepared v q).cost (entry t u).cost (prepared v q).serial (entry t u).serial _ (entry t u).follows
+    o g (sym k.4) (sym k.0) (sym k.1) (sym k.2) (sym k.3) (follows-same t u)
+
+pub entry-same : (t : Option ℕ) (u : Machine) (own target : Run) (v : Sight) → own ≡ (entry t u).own → target ≡ (entry t u).target
+    → v ≡ sight u (place_of u t) → entry_seen own target v ≡ entry t u
+entry-same t u own target v o g e = ap (λ v. entry_seen own target v) e ∙ entry-whole t u own target o g
+
+module _ (ds : List ℕ) (n now : ℕ) (f : Front) (x : List ℕ) (s : Machine) (before : Next) (un : before.planned ≡ false) (due : wanted_next f before ≤ now)
+    (cs : List ℕ) (contents : cs ≡ map (word s) (words_of_run before.own ++ words_of_run before.target)) where
+  abbrev pub what : Giving
+  what = given (left_after (reading x (word s 3) s.enabled before.place) cs)
+
+  module _ (t : Option ℕ) (u : Machine) (table : IfSome t (λ i. i < 64)) (is : IsBefore now f.past x s u) (read : IsReadOn ds t u f before) where
+    there : what ≡ given (left_after (reading_at t u) (contents_of t u before.own before.target))
+    there =
+        let words = words-entry before.own before.target (entry t u) read.first (entry-ranges t u is.machine table) in
+        given-same (reading x (word s 3) s.enabled before.place) (reading_at t u) cs (contents_of t u before.own before.target)
+        (reading-same now f.past x s u t before.place is read.place)
+        (contents ∙ contents-same ds now f x s u before.own before.target is words (omega (arith, due, ap (λ (w : Fetching). w.awaited) read.words)))
+
+    pub comes-own : (w : ℕ) → what ≡ GivenWord w false → IsNextOwn before.own before.target (entry t u) w
+    comes-own w e = gives-own t u before.own before.target w read.first (sym there ∙ e)
+
+    pub comes-target : (w : ℕ) → what ≡ GivenWord w true → IsNextTarget before.own before.target (entry t u) w
+    comes-target w e = gives-target t u before.own before.target w read.first (sym there ∙ e)
+
+    pub comes-all : (fd : Fetched) → what ≡ GivenAll fd → IsAll before.own before.target (entry t u) × (fd ≡ fetched_at u (place_of u t))
+    comes-all fd e = gives-all t u before.own before.target fd read.first (sym there ∙ e)
+
+  -- ---- an own word
+
+  abbrev pub with_own : ℕ → Next
+  with_own w = record before { words = fetch_word ds f.past before.words w (wanted_from f); own = with_word before.own w }
+
+  own-wanted : (w : ℕ) → wanted_next f before ≤ wanted_next f (with_own w)
+  unfolding fetch_word
+  own-wanted w = omega arith
+
+  own-rests : (t : Option ℕ) (u : Machine) (w : ℕ) → IsNextOwn before.own before.target (entry t u) w → Rests now t u f before → Rests now t u f (with_own w)
+  own-rests t u w is (Planned p) = absurd (cc)
+  own-rests t u w is (Waits p late) = Waits p (omega (arith, late, own-wanted w))
+  own-rests t u w is (Target p all none some late) = let more = is.more in let same : before.own.len ≡ (entry t u).own.len = ap (λ (r : Run). r.len) all in absurd (omega arith)
+
+  own-read : (t : Option ℕ) (u : Machine) (w : ℕ) → IsReadOn ds t u f before → IsNextOwn before.own before.target (entry t u) w → IsReadOn ds t u f (with_own w)
+  own-read t u w read is = record {
+    place = read.place;
+    first = own-more before.own before.target (entry t u) w read.first is;
+    words = ap (λ (s : Fetching). fetch_word ds f.past s w (wanted_from f)) read.words
+        ∙ sym (own-fetched ds f before.own before.target w is.none (word-behind before.own (entry t u).own w read.first.own_start is.place));
+  }
+
+  pub own-goes : (w : ℕ) (after : Next) → what ≡ GivenWord w false → after ≡ with_own w → GoesOn ds n now f x s before after now
+  own-goes w after e same = subst (λ a. GoesOn ds n now f x s before a now) (sym same) (record {
+    each = λ t u table is next rests. let it = comes-own t u table is next.read_on w e in (
+      record { read_on = own-read t u w next.read_on it; planned = planned-none before.planned ds n t u f (with_own w) un },
+      own-rests t u w it rests,
+    );
+  })
+
+  -- ---- a word of the target
+
+  abbrev pub with_target : ℕ → Next
+  with_target w = record before { words = fetch_word ds f.past before.words w (max (wanted_from f) f.c); target = with_word before.target w }
+
+  target-wanted : (w : ℕ) → max (wanted_next f before) f.c ≤ wanted_next f (with_target w)
+  unfolding fetch_word
+  target-wanted w = omega (arith, waits-most f before.target, waits-some f (with_word before.target w) (omega arith))
+
+  target-rests : (t : Option ℕ) (u : Machine) (w : ℕ) → Rests now t u f before → Rests now t u f (with_target w)
+  target-rests t u w (Planned p) = absurd (cc)
+  target-rests t u w (Waits p late) = Waits p (omega (arith, late, target-wanted w))
+  target-rests t u w (Target p all none some late) = Waits p (omega (arith, late, target-wanted w))
+
+  target-read : (t : Option ℕ) (u : Machine) (w : ℕ) → IsReadOn ds t u f before → IsNextTarget before.own before.target (entry t u) w → IsReadOn ds t u f (with_target w)
+  target-read t u w read is = record {
+    place = read.place;
+    first = target-more before.own before.target (entry t u) w read.first is;
+    words = ap (λ (s : Fetching). fetch_word ds f.past s w (max (wanted_from f) f.c)) read.words
+        ∙ sym (target-fetched ds f before.own before.target w (word-behind before.target (entry t u).target w read.first.target_start is.place));
+  }
+
+  pub target-goes : (w : ℕ) (after : Next) → what ≡ GivenWord w true → after ≡ with_target w → GoesOn ds n now f x s before after now
+  target-goes w after e same = subst (λ a. GoesOn ds n now f x s before a now) (sym same) (record {
+    each = λ t u table is next rests. let it = comes-target t u table is next.read_on w e in (
+      record { read_on = target-read t u w next.read_on it; planned = planned-none before.planned ds n t u f (with_target w) un },
+      target-rests t u w rests,
+    );
+  })
+
+  -- ---- the target waits for the last entry
+
+  waits-rests : (k : ℕ) (t : Option ℕ) (u : Machine) (w : ℕ) → before.target.len ≡ k → now < f.c → IsNextTarget before.own before.target (entry t u) w → Rests (now + 1) t u f before
+  waits-rests zero t u w none early is = Target un is.all none (let more = is.more in omega arith) (omega arith)
+  waits-rests (suc k) t u w some early is = absurd (omega (arith, due, early, waits-some f before.target (omega arith)))
+
+  pub target-waits : (w : ℕ) → what ≡ GivenWord w true → now < f.c → GoesOn ds n now f x s before before (now + 1)
+  target-waits w e early = record {
+    each = λ t u table is next rests. let it = comes-target t u table is next.read_on w e in (next, waits-rests before.target.len t u w refl early it);
+  }
+
+  -- ---- the plan
+
+  pub plan-goes : (fd : Fetched) (after : Next) (later : ℕ) → what ≡ GivenAll fd → IsPlannedAs ds n f (seen before.place fd x s) before after → GoesOn ds n now f x s before after later
+  plan-goes fd after later e made = record {
+    each = λ t u table is next rests.
+        let it = comes-all t u table is next.read_on fd e in
+        let same = sight-same now f x s u t before.place fd is next.read_on.place it.1 in
+        let v = seen before.place fd x s in
+        let whole = entry-same t u before.own before.target v it.0.own_all it.0.target_all same in (
+          record {
+            read_on = record {
+              place = made.place ∙ next.read_on.place;
+              first = rw (made.own, made.target) next.read_on.first;
+              words = made.words ∙ next.read_on.words ∙ ap (λ r. words_so_far ds f r before.target) (sym made.own) ∙ ap (λ r. words_so_far ds f after.own r) (sym made.target);
+            };
+            planned = planned-some after.planned ds n t u f after made.planned (record {
+              all = record { own = made.own ∙ it.0.own_all; target = made.target ∙ it.0.target_all; found = made.found ∙ it.1 };
+              needs = made.needed ∙ ap needs same;
+              prepared = made.ready ∙ ap (λ v. prepared v (option_map (λ w. 0) (needs v).index_read)) same;
+              entry = made.entry ∙ whole;
+              address = made.address ∙ ap (tick_a ds f) whole;
+              bus = made.bus ∙ ap (bus_a ds f) whole;
+              tick = made.tick ∙ ap (tick_p ds n f) whole;
+            });
+          },
+          Planned made.planned,
+        );
+  }

@@ -1,0 +1,120 @@
+-- The reads so far are the first ones of the entry.
+use Rattle.std.specs.Prelude.{All}
+use Rattle.std.proofs.Common.{◌≡◌, ℕ, ◌≤◌, ◌<◌, Bool, true, false, if◌then◌else◌, List, ◌++◌, append_assoc, Option, refl, sym, ◌∙◌, ap, arith}
+use Rattle.std.proofs.lemmas.List.Elements.{All-append}
+use Rattle.st_state.specs.Machine.{Machine}
+use Rattle.st_rows.specs.Asked.{Read, asked, served, side_asked, following_asked, fetches_asked}
+use Rattle.st_rows.specs.Rows.{fetched, tick_a, bus_a, tick_p, operands}
+use Rattle.st_rows.specs.declared.entry.Run.{Run}
+use Rattle.st_rows.specs.declared.entry.Entry.{Entry}
+use Rattle.st_rows.specs.declared.fetching.Fetching.{Fetching}
+use Rattle.st_rows.specs.declared.front.Front.{Front}
+use Rattle.st_rows.proofs.Served.{served-append, served-fetches, served-side}
+use Rattle.st_port.specs.Parts.{runs_asked, data_of}
+use Rattle.st_port.proofs.Each.{each-operand, each-following, each-of-data}
+use Rattle.st_port.proofs.Stages.{asked-parts, a-p}
+use Rattle.st_segment.specs.Entries.{entry}
+use Rattle.st_next.specs.Words.{words_alone, asked_so_far}
+use Rattle.st_next.specs.Progress.{IsPlanned, IsNext, Rests, reads_so_far}
+use Rattle.st_next.specs.Going.{AreLeft}
+use Rattle.st_next.specs.declared.next.Next.{Next}
+use Rattle.st_next.proofs.Late.{IsLate}
+use Rattle.st_next.proofs.Resting.{address-late, rest-left}
+use Rattle.st_next.proofs.Asking.{reads-none, reads-planned, side-late}
+use Rattle.st_next.proofs.Steps.{planned-is}
+
+-- all of the data is wanted when the address is formed or later
+data-late : (ds : List ℕ) (n m : ℕ) (f : Front) (e : Entry) → m ≤ tick_a ds f e → All (IsLate m) (data_of ds n f e)
+data-late ds n m f e late =
+    let p : m ≤ tick_p ds n f e = omega (arith, late, a-p ds n f e) in
+    each-of-data (IsLate m) ds n f e (side-late f.past e.side m (tick_a ds f e) late)
+    (each-operand (IsLate m) f.past e.reads (tick_p ds n f e) (λ v least most. p) (λ v least most. p))
+    (each-following (IsLate m) ds (operands ds n f e).bus e (tick_p ds n f e) (λ follows v least most. p))
+
+-- the words of the entry, with whatever else
+fetches-same : (ds : List ℕ) (f : Front) (own target : Run) (e : Entry) → own ≡ e.own → target ≡ e.target → asked_so_far ds f own target ≡ fetches_asked ds f e
+unfolding fetches_asked
+fetches-same ds f own target e o g = rw (o, g) refl
+
+-- ---- of an entry that is not planned
+
+pub left-resting : (ds : List ℕ) (n now : ℕ) (t : Option ℕ) (u : Machine) (f : Front) (next : Next) → IsNext ds n t u f next → next.planned ≡ false
+    → Rests now t u f next → AreLeft ds n now t u f next
+left-resting ds n now t u f next is un rests =
+    let e = entry t u in
+    let left = rest-left ds now t u f next is.read_on un rests in
+    let late : now < tick_a ds f e = address-late ds now t u f next is.read_on un rests in
+    record {
+      rest = left.rest ++ data_of ds n f e;
+      reads =
+          asked-parts ds n f e ∙ ap (λ reads. reads ++ data_of ds n f e) left.reads
+          ∙ append_assoc (asked_so_far ds f next.own next.target) left.rest (data_of ds n f e)
+          ∙ ap (λ reads. reads ++ (left.rest ++ data_of ds n f e)) (sym (reads-none ds f next un));
+      late = All-append (IsLate now) left.rest (data_of ds n f e) left.late (data-late ds n now f e (omega arith));
+    }
+
+-- ---- of one that is
+
+module _ (ds : List ℕ) (n : ℕ) (t : Option ℕ) (u : Machine) (f : Front) (next : Next) (is : IsNext ds n t u f next) (done : next.planned ≡ true) where
+  abbrev e : Entry
+  e = entry t u
+
+  planned : IsPlanned ds n t u f next
+  planned = planned-is next.planned ds n t u f next done is.planned
+
+  planned-reads : reads_so_far ds f next ≡ fetches_asked ds f e ++ side_asked f.past e.side (tick_a ds f e)
+  planned-reads =
+      reads-planned ds f next done
+      ∙ ap (λ reads. reads ++ side_asked f.past next.entry.side next.formed.a) (fetches-same ds f next.own next.target e planned.all.own planned.all.target)
+      ∙ ap (λ (g : Entry). fetches_asked ds f e ++ side_asked f.past g.side next.formed.a) planned.entry
+      ∙ ap (λ a. fetches_asked ds f e ++ side_asked f.past e.side a) planned.address
+
+  abbrev behind : List Read
+  behind = runs_asked f.past e.reads (tick_p ds n f e) ++ following_asked ds (operands ds n f e).bus e (tick_p ds n f e)
+
+  whole : asked ds n f e ≡ reads_so_far ds f next ++ behind
+  whole =
+      asked-parts ds n f e ∙ sym (append_assoc (fetches_asked ds f e) (side_asked f.past e.side (tick_a ds f e)) behind)
+      ∙ ap (λ reads. reads ++ behind) (sym planned-reads)
+
+  pub asked-planned : asked ds n f e
+      ≡ reads_so_far ds f next ++ (runs_asked f.past next.entry.reads next.formed.p ++ following_asked ds (operands ds n f e).bus next.entry next.formed.p)
+  asked-planned =
+      whole ∙ ap (λ (g : Entry). reads_so_far ds f next ++ (runs_asked f.past g.reads (tick_p ds n f e) ++ following_asked ds (operands ds n f e).bus g (tick_p ds n f e))) (sym planned.entry)
+      ∙ ap (λ p. reads_so_far ds f next ++ (runs_asked f.past next.entry.reads p ++ following_asked ds (operands ds n f e).bus next.entry p)) (sym planned.tick)
+
+  pub left-planned : AreLeft ds n next.formed.p t u f next
+  left-planned =
+      let p : next.formed.p ≤ tick_p ds n f e = omega (arith, planned.tick) in
+      record {
+        rest = behind;
+        reads = whole;
+        late =
+            All-append (IsLate next.formed.p) (runs_asked f.past e.reads (tick_p ds n f e)) (following_asked ds (operands ds n f e).bus e (tick_p ds n f e))
+            (each-operand (IsLate next.formed.p) f.past e.reads (tick_p ds n f e) (λ v least most. p) (λ v least most. p))
+            (each-following (IsLate next.formed.p) ds (operands ds n f e).bus e (tick_p ds n f e) (λ follows v least most. p));
+      }
+
+  served-planned : served ds (reads_so_far ds f next) f.bus ≡ next.formed.bus
+  unfolding bus_a
+  served-planned =
+      let side = side_asked f.past e.side (tick_a ds f e) in
+      ap (λ reads. served ds reads f.bus) planned-reads ∙ served-append ds (fetches_asked ds f e) side f.bus
+      ∙ ap (served ds side) (served-fetches ds f e) ∙ served-side ds f.past e.side (tick_a ds f e) (fetched ds f e).bus ∙ sym planned.bus
+
+-- ---- the bus
+
+served-resting : (ds : List ℕ) (n : ℕ) (t : Option ℕ) (u : Machine) (f : Front) (next : Next) → IsNext ds n t u f next → next.planned ≡ false
+    → served ds (reads_so_far ds f next) f.bus ≡ next.words.bus
+served-resting ds n t u f next is un =
+    ap (λ reads. served ds reads f.bus) (reads-none ds f next un) ∙ served-fetches ds f (words_alone next.own next.target)
+    ∙ ap (λ (s : Fetching). s.bus) (sym is.read_on.words)
+
+served-by : (b : Bool) (ds : List ℕ) (n : ℕ) (t : Option ℕ) (u : Machine) (f : Front) (next : Next) → next.planned ≡ b → IsNext ds n t u f next
+    → served ds (reads_so_far ds f next) f.bus ≡ (if b then next.formed.bus else next.words.bus)
+served-by true ds n t u f next e is = served-planned ds n t u f next is e
+served-by false ds n t u f next e is = served-resting ds n t u f next is e
+
+pub served-so-far : (ds : List ℕ) (n : ℕ) (t : Option ℕ) (u : Machine) (f : Front) (next : Next) → IsNext ds n t u f next
+    → served ds (reads_so_far ds f next) f.bus ≡ (if next.planned then next.formed.bus else next.words.bus)
+served-so-far ds n t u f next is = served-by next.planned ds n t u f next refl is

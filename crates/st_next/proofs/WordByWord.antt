@@ -1,0 +1,136 @@
+-- Instruction words are asked for one after another.
+use Rattle.std.proofs.Common.{◌≡◌, ℕ, zero, suc, ◌+◌, ◌≤◌, max, Bool, true, false, ◌==◌, if◌then◌else◌, List, [], ◌++◌, append_assoc, refl, sym, ◌∙◌, ap, arith}
+use Rattle.std.proofs.Math.Nat.{add-zero, zero-add, suc-add}
+use Rattle.std.proofs.lemmas.List.{append-nil}
+use Rattle.st_fetch.specs.Planned.{tick_of}
+use Rattle.st_prep.proofs.GivenLemmas.{is_none, is_some}
+use Rattle.st_rows.specs.Rows.{fetch_word, fetch_words, wanted_from, fetched}
+use Rattle.st_rows.specs.Asked.{Read, word_asked, words_asked, fetches_asked}
+use Rattle.st_rows.specs.declared.entry.Run.{Run}
+use Rattle.st_rows.specs.declared.past.Past.{Past}
+use Rattle.st_rows.specs.declared.fetching.Fetching.{Fetching}
+use Rattle.st_rows.specs.declared.front.Front.{Front}
+use Rattle.st_next.specs.Words.{with_word, words_so_far, asked_so_far}
+
+module _ (ds : List ℕ) (past : List Past) (from : ℕ) where
+  -- the want of the next word
+  abbrev pub want_of : Fetching → ℕ
+  want_of s = max (max from s.answered) s.awaited
+
+  -- some words, and then more
+  pub fetch-more : (s : Fetching) (w m k : ℕ)
+      → fetch_words ds past s from w (m + k) ≡ fetch_words ds past (fetch_words ds past s from w m) from (w + m) k
+  unfolding fetch_words
+  fetch-more s w zero k = rw (zero-add k, add-zero w) refl
+  fetch-more s w (suc m) k =
+      rw (suc-add m k)
+      (fetch-more (fetch_word ds past s w from) (w + 1) m k
+      ∙ ap (λ v. fetch_words ds past (fetch_words ds past (fetch_word ds past s w from) from (w + 1) m) from v k) (omega arith))
+
+  pub asked-more : (s : Fetching) (w m k : ℕ)
+      → words_asked ds past s from w (m + k)
+      ≡ words_asked ds past s from w m ++ words_asked ds past (fetch_words ds past s from w m) from (w + m) k
+  unfolding fetch_words words_asked
+  asked-more s w zero k = rw (zero-add k, add-zero w) refl
+  asked-more s w (suc m) k =
+      let first = word_asked (tick_of s.bus.held.words w) w (want_of s) in
+      let next = fetch_word ds past s w from in
+      let later = words_asked ds past (fetch_words ds past next from (w + 1) m) from in
+      let place : w + 1 + m ≡ w + suc m = omega arith in
+      rw (suc-add m k)
+      (ap (λ reads. first ++ reads) (asked-more next (w + 1) m k ∙ ap (λ v. words_asked ds past next from (w + 1) m ++ later v k) place)
+      ∙ sym (append_assoc first (words_asked ds past next from (w + 1) m) (later (w + suc m) k)))
+
+  -- ---- one word more behind those of a run
+
+  pub fetch-none : (s : Fetching) (w n : ℕ) → n ≡ 0 → fetch_words ds past s from w n ≡ s
+  unfolding fetch_words
+  fetch-none s w zero e = refl
+  fetch-none s w (suc n) e = absurd (omega arith)
+
+  pub asked-none : (s : Fetching) (w n : ℕ) → n ≡ 0 → words_asked ds past s from w n ≡ []
+  unfolding words_asked
+  asked-none s w zero e = refl
+  asked-none s w (suc n) e = absurd (omega arith)
+
+  fetch-by : (b : Bool) (s : Fetching) (v n w : ℕ) → (n == 0) ≡ b → (1 ≤ n → w ≡ v + n)
+      → fetch_words ds past s from (if b then w else v) (n + 1)
+      ≡ fetch_word ds past (fetch_words ds past s from v n) w from
+  unfolding fetch_words
+  fetch-by true s v n w e place = rw (is_none n e) refl
+  fetch-by false s v n w e place =
+      fetch-more s v n 1 ∙ ap (λ k. fetch_word ds past (fetch_words ds past s from v n) k from) (sym (place (is_some n e)))
+
+  pub fetch-word : (s : Fetching) (run : Run) (w : ℕ) → (1 ≤ run.len → w ≡ run.first + run.len)
+      → fetch_words ds past s from (with_word run w).first (with_word run w).len
+      ≡ fetch_word ds past (fetch_words ds past s from run.first run.len) w from
+  fetch-word s run w place = fetch-by (run.len == 0) s run.first run.len w refl place
+
+  -- the read of the next word
+  abbrev pub read_of : Fetching → ℕ → List Read
+  read_of s w = word_asked (tick_of s.bus.held.words w) w (want_of s)
+
+  asked-by : (b : Bool) (s : Fetching) (v n w : ℕ) → (n == 0) ≡ b → (1 ≤ n → w ≡ v + n)
+      → words_asked ds past s from (if b then w else v) (n + 1)
+      ≡ words_asked ds past s from v n ++ read_of (fetch_words ds past s from v n) w
+  unfolding fetch_words words_asked
+  asked-by true s v n w e place = rw (is_none n e) (append-nil (read_of s w))
+  asked-by false s v n w e place =
+      asked-more s v n 1
+      ∙ ap (λ reads. words_asked ds past s from v n ++ reads) (append-nil (read_of (fetch_words ds past s from v n) (v + n)))
+      ∙ ap (λ k. words_asked ds past s from v n ++ read_of (fetch_words ds past s from v n) k) (sym (place (is_some n e)))
+
+  pub asked-word : (s : Fetching) (run : Run) (w : ℕ) → (1 ≤ run.len → w ≡ run.first + run.len)
+      → words_asked ds past s from (with_word run w).first (with_word run w).len
+      ≡ words_asked ds past s from run.first run.len ++ read_of (fetch_words ds past s from run.first run.len) w
+  asked-word s run w place = asked-by (run.len == 0) s run.first run.len w refl place
+
+-- ---- of an entry
+
+module _ (ds : List ℕ) (f : Front) (own target : Run) (w : ℕ) where
+  abbrev before : Fetching
+  before = record { bus = f.bus; answered = 0; awaited = 0 }
+
+  abbrev own_words : Fetching
+  own_words = fetch_words ds f.past before (wanted_from f) own.first own.len
+
+  abbrev waits : ℕ
+  waits = max (wanted_from f) f.c
+
+  pub own-fetched : target.len ≡ 0 → (1 ≤ own.len → w ≡ own.first + own.len)
+      → words_so_far ds f (with_word own w) target ≡ fetch_word ds f.past (words_so_far ds f own target) w (wanted_from f)
+  unfolding fetched
+  own-fetched none place =
+      fetch-none ds f.past waits _ target.first target.len none ∙ fetch-word ds f.past (wanted_from f) before own w place
+      ∙ ap (λ s. fetch_word ds f.past s w (wanted_from f)) (sym (fetch-none ds f.past waits own_words target.first target.len none))
+
+  pub target-fetched : (1 ≤ target.len → w ≡ target.first + target.len)
+      → words_so_far ds f own (with_word target w) ≡ fetch_word ds f.past (words_so_far ds f own target) w (max (wanted_from f) f.c)
+  unfolding fetched
+  target-fetched place = fetch-word ds f.past waits own_words target w place
+
+  own-words : target.len ≡ 0 → words_so_far ds f own target ≡ own_words
+  unfolding fetched
+  own-words none = fetch-none ds f.past waits own_words target.first target.len none
+
+  own-reads : target.len ≡ 0 → asked_so_far ds f own target ≡ words_asked ds f.past before (wanted_from f) own.first own.len
+  unfolding fetches_asked
+  own-reads none =
+      ap (λ reads. words_asked ds f.past before (wanted_from f) own.first own.len ++ reads)
+      (asked-none ds f.past waits own_words target.first target.len none)
+      ∙ append-nil (words_asked ds f.past before (wanted_from f) own.first own.len)
+
+  pub target-asked : (1 ≤ target.len → w ≡ target.first + target.len)
+      → asked_so_far ds f own (with_word target w) ≡ asked_so_far ds f own target ++ read_of ds f.past (max (wanted_from f) f.c) (words_so_far ds f own target) w
+  unfolding fetched fetches_asked
+  target-asked place =
+      ap (λ reads. words_asked ds f.past before (wanted_from f) own.first own.len ++ reads) (asked-word ds f.past waits own_words target w place)
+      ∙ sym (append_assoc (words_asked ds f.past before (wanted_from f) own.first own.len) (words_asked ds f.past own_words waits target.first target.len) _)
+
+pub own-asked : (ds : List ℕ) (f : Front) (own target : Run) (w : ℕ) → target.len ≡ 0 → (1 ≤ own.len → w ≡ own.first + own.len)
+    → asked_so_far ds f (with_word own w) target ≡ asked_so_far ds f own target ++ read_of ds f.past (wanted_from f) (words_so_far ds f own target) w
+own-asked ds f own target w none place =
+    own-reads ds f (with_word own w) target w none
+    ∙ asked-word ds f.past (wanted_from f) (before ds f own target w) own w place
+    ∙ ap (λ reads. reads ++ read_of ds f.past (wanted_from f) (own_words ds f own target w) w) (sym (own-reads ds f own target w none))
+    ∙ ap (λ s. asked_so_far ds f own target ++ read_of ds f.past (wanted_from f) s w) (sym (own-words ds f own target w none))

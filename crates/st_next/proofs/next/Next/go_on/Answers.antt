@@ -1,0 +1,148 @@
+use Rattle.std.proofs.Common.{take, sym, ◌∙◌, ap, arith}
+use Rattle.std.proofs.lemmas.List.{length-take}
+use Rattle.st_prep.specs.declared.entries.Fetching.TheVariants.{Next}
+use Rattle.st_rows.proofs.Within.{AreDelays-list}
+use Rattle.st_next.proofs.Steps.{own-goes, target-goes, target-waits, plan-goes}
+use Rattle.st_next.proofs.Asking.{known-words, known-early, known-place, known-seen, own-asks, target-asks, plan-asks, plan-late, more-word, more-side, count-most, count-own, count-target, count-plan}
+use Rattle.st_next.proofs.next.Next.go_on.Goals as goal
+
+pub contents-contents-requires : goal.contents-contents-requires
+contents-contents-requires c = record { words = known-words _ _ _ _ _ _ _ c.requires.unplanned c.requires.due c.requires.known }
+
+pub overflow_add-self : goal.overflow_add-self
+overflow_add-self c =
+    let are = known-words _ _ _ _ _ _ _ c.requires.unplanned c.requires.due c.requires.known in
+    omega (arith, are.own_few, are.target_few)
+
+pub slice_bounds-contents-end : goal.slice_bounds-contents-end
+slice_bounds-contents-end c =
+    let are = known-words _ _ _ _ _ _ _ c.requires.unplanned c.requires.due c.requires.known in
+    omega (arith, are.own_few, are.target_few)
+
+pub slice_bounds-fetch_on-end : goal.slice_bounds-fetch_on-end
+slice_bounds-fetch_on-end c =
+    let are = known-words _ _ _ _ _ _ _ c.requires.unplanned c.requires.due c.requires.known in
+    omega (arith, are.own_few, are.target_few, length-take c.from-so_far.result c.contents-contents.result)
+
+pub fetch_on-requires : goal.fetch_on-requires
+fetch_on-requires c = known-place _ _ _ _ _ _ _ c.requires.unplanned c.requires.due c.requires.known
+
+pub returns-then-outlook-clause-next : goal.returns-then-outlook-clause-next
+returns-then-outlook-clause-next c =
+    let contents = ap (λ n. take n c.contents-contents.result) c.from-so_far.ensures ∙ c.contents-contents.ensures in
+    target-waits _ _ _ _ _ _ _ c.requires.unplanned c.requires.due _ contents _ (sym c.in-Next-default-true.ensures.value ∙ ap (λ t. Next c.in-Next-default-true.word t) c.in-Next-default-true.target-test) c.if-outlook.true
+
+pub ask_target-requires-clause-words : goal.ask_target-requires-clause-words
+ask_target-requires-clause-words c =
+    let are = known-words _ _ _ _ _ _ _ c.requires.unplanned c.requires.due c.requires.known in omega (arith, are.target_few)
+
+pub ask_target-requires-clause-room : goal.ask_target-requires-clause-room
+ask_target-requires-clause-room c =
+    known-early _ _ _ _ _ _ _ c.requires.unplanned c.requires.due c.requires.known (AreDelays-list c.args.delays.now c.shape.ensures) c.requires.front
+
+pub ask_target-requires-clause-few : goal.ask_target-requires-clause-few
+ask_target-requires-clause-few c =
+    let most = count-most c.args.self.now c.requires.unplanned (known-words _ _ _ _ _ _ _ c.requires.unplanned c.requires.due c.requires.known) in
+    omega (arith, most, c.requires.room)
+
+pub ask_own-requires-clause-words : goal.ask_own-requires-clause-words
+ask_own-requires-clause-words c =
+    let are = known-words _ _ _ _ _ _ _ c.requires.unplanned c.requires.due c.requires.known in omega (arith, are.own_few)
+
+pub ask_own-requires-clause-room : goal.ask_own-requires-clause-room
+ask_own-requires-clause-room c =
+    known-early _ _ _ _ _ _ _ c.requires.unplanned c.requires.due c.requires.known (AreDelays-list c.args.delays.now c.shape.ensures) c.requires.front
+
+pub ask_own-requires-clause-few : goal.ask_own-requires-clause-few
+ask_own-requires-clause-few c =
+    let most = count-most c.args.self.now c.requires.unplanned (known-words _ _ _ _ _ _ _ c.requires.unplanned c.requires.due c.requires.known) in
+    omega (arith, most, c.requires.room)
+
+pub plan-requires-clause-place : goal.plan-requires-clause-place
+plan-requires-clause-place c = known-place _ _ _ _ _ _ _ c.requires.unplanned c.requires.due c.requires.known
+
+pub plan-requires-clause-entry : goal.plan-requires-clause-entry
+plan-requires-clause-entry c =
+    let contents = ap (λ n. take n c.contents-contents.result) c.from-so_far.ensures ∙ c.contents-contents.ensures in
+    known-seen _ _ _ _ _ _ _ c.requires.unplanned c.requires.due c.requires.known _ contents _ (sym c.in-Found.ensures.value)
+
+pub plan-requires-clause-few : goal.plan-requires-clause-few
+plan-requires-clause-few c =
+    let most = count-most c.args.self.now c.requires.unplanned (known-words _ _ _ _ _ _ _ c.requires.unplanned c.requires.due c.requires.known) in
+    omega (arith, most, c.requires.room)
+
+pub returns-else-outlook-clause-next : goal.returns-else-outlook-clause-next
+returns-else-outlook-clause-next c =
+    let contents = ap (λ n. take n c.contents-contents.result) c.from-so_far.ensures ∙ c.contents-contents.ensures in
+    target-goes _ _ _ _ _ _ _ c.requires.unplanned c.requires.due _ contents _ _ (sym c.in-Next-default-true.ensures.value ∙ ap (λ t. Next c.in-Next-default-true.word t) c.in-Next-default-true.target-test) c.ask_target.ensures.next
+
+pub returns-else-outlook-clause-reads : goal.returns-else-outlook-clause-reads
+returns-else-outlook-clause-reads c =
+    let contents = ap (λ n. take n c.contents-contents.result) c.from-so_far.ensures ∙ c.contents-contents.ensures in
+    target-asks _ _ _ _ _ _ _ c.requires.unplanned c.requires.due c.requires.known _ contents _ _ _ _ (sym c.in-Next-default-true.ensures.value ∙ ap (λ t. Next c.in-Next-default-true.word t) c.in-Next-default-true.target-test)
+    c.ask_target.ensures.next c.ask_target.ensures.reads
+
+pub returns-else-outlook-clause-more : goal.returns-else-outlook-clause-more
+returns-else-outlook-clause-more c done = count-target c.args.self.now c.ask_target.new.self _ _ c.requires.unplanned c.ask_target.ensures.next
+
+pub returns-else-outlook-clause-few : goal.returns-else-outlook-clause-few
+returns-else-outlook-clause-few c =
+    let more = count-target c.args.self.now c.ask_target.new.self _ _ c.requires.unplanned c.ask_target.ensures.next in
+    omega (arith, more, more-word _ _ _ _ _ c.ask_target.ensures.reads)
+
+pub returns-in-Next-default-false-clause-next : goal.returns-in-Next-default-false-clause-next
+returns-in-Next-default-false-clause-next c =
+    let contents = ap (λ n. take n c.contents-contents.result) c.from-so_far.ensures ∙ c.contents-contents.ensures in
+    own-goes _ _ _ _ _ _ _ c.requires.unplanned c.requires.due _ contents _ _ (sym c.in-Next-default-false.ensures.value ∙ ap (λ t. Next c.in-Next-default-false.word t) c.in-Next-default-false.target-test) c.ask_own.ensures.next
+
+pub returns-in-Next-default-false-clause-reads : goal.returns-in-Next-default-false-clause-reads
+returns-in-Next-default-false-clause-reads c =
+    let contents = ap (λ n. take n c.contents-contents.result) c.from-so_far.ensures ∙ c.contents-contents.ensures in
+    own-asks _ _ _ _ _ _ _ c.requires.unplanned c.requires.due c.requires.known _ contents _ _ _ _ (sym c.in-Next-default-false.ensures.value ∙ ap (λ t. Next c.in-Next-default-false.word t) c.in-Next-default-false.target-test)
+    c.ask_own.ensures.next c.ask_own.ensures.reads
+
+pub returns-in-Next-default-false-clause-more : goal.returns-in-Next-default-false-clause-more
+returns-in-Next-default-false-clause-more c done = count-own c.args.self.now c.ask_own.new.self _ _ c.requires.unplanned c.ask_own.ensures.next
+
+pub returns-in-Next-default-false-clause-few : goal.returns-in-Next-default-false-clause-few
+returns-in-Next-default-false-clause-few c =
+    let more = count-own c.args.self.now c.ask_own.new.self _ _ c.requires.unplanned c.ask_own.ensures.next in
+    omega (arith, more, more-word _ _ _ _ _ c.ask_own.ensures.reads)
+
+pub returns-in-Found-clause-next : goal.returns-in-Found-clause-next
+returns-in-Found-clause-next c =
+    let contents = ap (λ n. take n c.contents-contents.result) c.from-so_far.ensures ∙ c.contents-contents.ensures in
+    plan-goes _ _ _ _ _ _ _ c.requires.unplanned c.requires.due _ contents _ _ _ (sym c.in-Found.ensures.value) c.plan.ensures.next
+
+pub returns-in-Found-clause-reads : goal.returns-in-Found-clause-reads
+returns-in-Found-clause-reads c =
+    let contents = ap (λ n. take n c.contents-contents.result) c.from-so_far.ensures ∙ c.contents-contents.ensures in
+    plan-asks _ _ _ _ _ _ _ c.requires.unplanned c.requires.due c.requires.known _ contents _ (sym c.in-Found.ensures.value) _ _ _
+    c.plan.ensures.next c.plan.ensures.reads
+
+pub returns-in-Found-clause-more : goal.returns-in-Found-clause-more
+returns-in-Found-clause-more c done =
+    count-plan c.args.self.now c.plan.new.self c.requires.unplanned c.plan.ensures.next.own c.plan.ensures.next.target c.plan.ensures.next.planned
+
+pub returns-in-Found-clause-few : goal.returns-in-Found-clause-few
+returns-in-Found-clause-few c =
+    let more =
+    count-plan c.args.self.now c.plan.new.self c.requires.unplanned c.plan.ensures.next.own c.plan.ensures.next.target c.plan.ensures.next.planned in
+    omega (arith, more, more-side _ _ _ _ _ c.plan.ensures.reads)
+
+pub returns-in-Found-clause-planned : goal.returns-in-Found-clause-planned
+returns-in-Found-clause-planned c planned =
+    let contents = ap (λ n. take n c.contents-contents.result) c.from-so_far.ensures ∙ c.contents-contents.ensures in
+    plan-late _ _ _ _ _ _ _ c.requires.unplanned c.requires.due c.requires.known _ contents _ (sym c.in-Found.ensures.value) _ c.plan.ensures.next
+
+pub returns-then-outlook-clause-most : goal.returns-then-outlook-clause-most
+returns-then-outlook-clause-most c = count-most c.args.self.now c.requires.unplanned (known-words _ _ _ _ _ _ _ c.requires.unplanned c.requires.due c.requires.known)
+
+pub returns-else-outlook-clause-most : goal.returns-else-outlook-clause-most
+returns-else-outlook-clause-most c = count-most c.args.self.now c.requires.unplanned (known-words _ _ _ _ _ _ _ c.requires.unplanned c.requires.due c.requires.known)
+
+pub returns-in-Next-default-false-clause-most : goal.returns-in-Next-default-false-clause-most
+returns-in-Next-default-false-clause-most c = count-most c.args.self.now c.requires.unplanned (known-words _ _ _ _ _ _ _ c.requires.unplanned c.requires.due c.requires.known)
+
+pub returns-in-Found-clause-most : goal.returns-in-Found-clause-most
+returns-in-Found-clause-most c = count-most c.args.self.now c.requires.unplanned (known-words _ _ _ _ _ _ _ c.requires.unplanned c.requires.due c.requires.known)

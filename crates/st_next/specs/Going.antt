@@ -1,0 +1,81 @@
+-- How the entry that is prepared next goes on, and what it takes for granted.
+use Rattle.std.specs.Prelude.{ℕ, ◌≡◌, ◌+◌, ◌-◌, ◌^◌, ◌≤◌, ◌<◌, true, ◌&&◌, if◌then◌else◌, List, ◌++◌, All, Option, IfSome, is_none, option_map}
+use Rattle.st_state.specs.Machine.{Machine}
+use Rattle.st_prep.specs.Plan.{Sight, needs, prepared}
+use Rattle.st_rows.specs.Asked.{Read, asked}
+use Rattle.st_rows.specs.Ranges.{IsTight, IsFetchingWithin, ArePastWithin}
+use Rattle.st_rows.specs.Rows.{wanted_from, tick_a, bus_a, tick_p}
+use Rattle.st_rows.specs.declared.entry.Run.{Run}
+use Rattle.st_rows.specs.declared.entry.Entry.{Entry}
+use Rattle.st_rows.specs.declared.fetching.Fetching.{Fetching}
+use Rattle.st_rows.specs.declared.front.Front.{Front}
+use Rattle.st_segment.specs.Entries.{entry, side_to_read, words_to_read, words_to_write}
+use Rattle.st_next.specs.Known.{IsBefore}
+use Rattle.st_next.specs.Progress.{IsNext, Rests, reads_so_far}
+use Rattle.st_next.specs.declared.next.Next.{Next}
+
+-- a machine of 1 to 8 levels, and a front whose ticks lie close together and are early enough
+pub record IsFront (n : ℕ) (f : Front) : Type 0 where
+  pub some : 1 ≤ n
+  pub most : n ≤ 8
+  pub tight : IsTight 255 f
+  pub early : f.c ≤ 2 ^ 63 + 2 ^ 20
+
+-- of how many words it is known whether they are asked for: its words so far, and the index-side word once it is planned
+abbrev pub known_count : Next → ℕ
+known_count next = next.own.len + next.target.len + (if next.planned then 1 else 0)
+
+-- whatever the state before the entry is, what is known of it stays so, and nothing more can be known before the tick
+pub record GoesOn (ds : List ℕ) (n now : ℕ) (f : Front) (x : List ℕ) (s : Machine) (before after : Next) (later : ℕ) : Type 0 where
+  pub each : (t : Option ℕ) (u : Machine) → IfSome t (λ i. i < 64) → IsBefore now f.past x s u
+      → IsNext ds n t u f before → Rests now t u f before → IsNext ds n t u f after × Rests later t u f after
+
+-- the reads that are asked for it come behind the others, and each is wanted at the tick or later
+pub record AreAskedMore (ds : List ℕ) (now : ℕ) (f : Front) (before after : Next) (reads more : List Read) : Type 0 where
+  pub added : List Read
+  pub so_far : reads_so_far ds f after ≡ reads_so_far ds f before ++ added
+  pub asked : more ≡ reads ++ added
+  pub late : All (λ (r : Read). now ≤ r.want) added
+
+-- what is fetched so far and what the front awaits is early enough for one read more
+pub record IsEarly (f : Front) (words : Fetching) : Type 0 where
+  pub room : IsFetchingWithin (2 ^ 64 - 512) words
+  pub before : ArePastWithin (2 ^ 64 - 512) f.past
+  pub wanted : wanted_from f ≤ 2 ^ 64 - 512
+  pub done : f.c ≤ 2 ^ 64 - 512
+
+-- the entry with these instruction words, of which so much is seen
+abbrev pub entry_seen : Run → Run → Sight → Entry
+entry_seen own target v =
+    let p = prepared v (option_map (λ w. 0) (needs v).index_read) in
+    record {
+      own = own;
+      target = target;
+      side = side_to_read (needs v).index_read;
+      reads = words_to_read p.reads;
+      writes = words_to_write p.writes;
+      cost = p.cost;
+      serial = p.serial;
+      follows = is_none v.place.table && is_none v.fetched.fault;
+    }
+
+-- an entry of which the words are there is planned, of which so much is seen
+pub record IsPlannedAs (ds : List ℕ) (n : ℕ) (f : Front) (v : Sight) (before after : Next) : Type 0 where
+  pub place : after.place ≡ before.place
+  pub own : after.own ≡ before.own
+  pub target : after.target ≡ before.target
+  pub words : after.words ≡ before.words
+  pub planned : after.planned ≡ true
+  pub found : after.fetched ≡ v.fetched
+  pub needed : after.needs ≡ needs v
+  pub ready : after.prepared ≡ prepared v (option_map (λ w. 0) (needs v).index_read)
+  pub entry : after.entry ≡ entry_seen before.own before.target v
+  pub address : after.formed.a ≡ tick_a ds f (entry_seen before.own before.target v)
+  pub bus : after.formed.bus ≡ bus_a ds f (entry_seen before.own before.target v)
+  pub tick : after.formed.p ≡ tick_p ds n f (entry_seen before.own before.target v)
+
+-- the reads so far are the first ones of the entry, and those that are left are wanted at a tick or later
+pub record AreLeft (ds : List ℕ) (n want : ℕ) (t : Option ℕ) (u : Machine) (f : Front) (next : Next) : Type 0 where
+  pub rest : List Read
+  pub reads : asked ds n f (entry t u) ≡ reads_so_far ds f next ++ rest
+  pub late : All (λ (r : Read). want ≤ r.want) rest

@@ -1,0 +1,4 @@
+pub mod Words
+pub mod Progress
+pub mod Known
+pub mod Going

@@ -1,0 +1,60 @@
+//! What holds of the reads that are asked for the entry that is prepared next.
+ghost use Rattle.std.specs.Prelude.{◌≡◌, ℕ, List, [], ◌++◌, ◌≤◌, Option, true, false, ◌<◌, if◌then◌else◌};
+ghost use Rattle.st_state.specs.Machine.{Machine};
+ghost use Rattle.st_rows.specs.Asked.{asked, served, following_asked};
+ghost use Rattle.st_prep.specs.Fetch.{place_of};
+ghost use Rattle.st_rows.specs.Rows.{tick_a, operands, wanted_from};
+ghost use Rattle.st_rows.specs.declared.front.Front.{Front};
+ghost use Rattle.st_port.specs.Parts.{runs_asked};
+ghost use Rattle.st_segment.specs.Entries.{entry};
+ghost use Rattle.st_next.specs.Progress.{IsNext, Rests, reads_so_far};
+ghost use Rattle.st_next.specs.Going.{AreLeft};
+ghost use Rattle.st_next.specs.declared.next.Next.{Next};
+
+/// The reads that are asked for the entry so far are the first ones of those that are made for it. Of an entry that is planned the operands
+/// and the following words are left, which are wanted when it is prepared; of another one that rests before a tick each read that is left is
+/// wanted at that tick or later.
+pub fn reads_so_far_come_first()
+    ensures planned { (ds : List ℕ) (n : ℕ) (t : Option ℕ) (u : Machine) (f : Front) (next : Next) →
+        IsNext ds n t u f next → next.planned ≡ true →
+        asked ds n f (entry t u) ≡ reads_so_far ds f next
+        ++ (runs_asked f.past next.entry.reads next.formed.p
+        ++ following_asked ds (operands ds n f (entry t u)).bus next.entry next.formed.p) }
+    ensures behind { (ds : List ℕ) (n : ℕ) (t : Option ℕ) (u : Machine) (f : Front) (next : Next) →
+        IsNext ds n t u f next → next.planned ≡ true →
+        AreLeft ds n next.formed.p t u f next }
+    ensures resting { (ds : List ℕ) (n now : ℕ) (t : Option ℕ) (u : Machine) (f : Front) (next : Next) →
+        IsNext ds n t u f next → next.planned ≡ false → Rests now t u f next →
+        AreLeft ds n now t u f next }
+{}
+
+/// Made one after the other, the reads so far give the bus behind the words so far, or behind the index-side word of an entry that is
+/// planned.
+pub fn reads_so_far_give_the_bus()
+    ensures { (ds : List ℕ) (n : ℕ) (t : Option ℕ) (u : Machine) (f : Front) (next : Next) →
+        IsNext ds n t u f next → served ds (reads_so_far ds f next) f.bus
+        ≡ (if next.planned then next.formed.bus else next.words.bus) }
+{}
+
+/// The address of an entry that rests before a tick and is not planned yet is formed later than that, so that no entry is planned too
+/// late.
+pub fn entries_are_planned_in_time()
+    ensures { (ds : List ℕ) (n now : ℕ) (t : Option ℕ) (u : Machine) (f : Front) (next : Next) →
+        IsNext ds n t u f next → next.planned ≡ false → Rests now t u f next →
+        now < tick_a ds f (entry t u) }
+{}
+
+/// An entry of which no word is asked for is read on so far, whichever state it is the next entry of; where it becomes known late, behind an
+/// entry that is done alone, it is enough to say where it stands.
+pub fn entries_begin_anywhere()
+    ensures next { (ds : List ℕ) (n : ℕ) (t : Option ℕ) (u : Machine) (f : Front) (next : Next) →
+        next.place ≡ place_of u t → next.own ≡ record { first = 0; len = 0 } →
+        next.target ≡ record { first = 0; len = 0 } →
+        next.words ≡ record { bus = f.bus; answered = 0; awaited = 0 } →
+        next.planned ≡ false → IsNext ds n t u f next }
+    ensures rests { (now : ℕ) (t : Option ℕ) (u : Machine) (f : Front) (next : Next) →
+        next.planned ≡ false → now ≤ wanted_from f → Rests now t u f next }
+    ensures reads { (ds : List ℕ) (f : Front) (next : Next) → next.own ≡ record { first = 0; len = 0 } →
+        next.target ≡ record { first = 0; len = 0 } → next.planned ≡ false →
+        reads_so_far ds f next ≡ [] }
+{}

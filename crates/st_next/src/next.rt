@@ -1,0 +1,415 @@
+//! The entry that is prepared next, as far as it is known.
+ghost use Rattle.std.specs.Prelude.{◌≡◌, ℕ, ◌+◌, ◌-◌, ◌<◌, ◌≤◌, ◌^◌, true, false, max, length, take, map, List, [], ◌++◌, Option, IfSome, get_or, is_none, ◌&&◌, if◌then◌else◌};
+ghost use Rattle.st_bits.specs.Storage.{words_of_storage};
+ghost use Rattle.st_fetch.specs.Planned.{tick_of};
+ghost use Rattle.st_state.specs.Machine.{Machine, word};
+ghost use Rattle.st_prep.specs.EarlyChange.{words_after};
+ghost use Rattle.st_prep.specs.Fetch.{place_of as place_by};
+ghost use Rattle.st_prep.specs.Plan.{seen, plan as plan_of};
+ghost use Rattle.st_prep.specs.Ranges.{IsPlace, IsFetched, IsChange, IsPrepared};
+ghost use Rattle.st_rows.specs.Asked.{word_asked, side_asked};
+ghost use Rattle.st_rows.specs.declared.front.Front.{Front as FrontAt};
+ghost use Rattle.st_rows.specs.Ranges.{IsEntry};
+ghost use Rattle.st_rows.specs.Rows.{wanted_from, fetch_word};
+ghost use Rattle.st_segment.specs.Alone.{words_of_run};
+ghost use Rattle.st_segment.specs.Entries.{above_registers as above_registers_of, words_to_read as words_to_read_of, words_to_write as words_to_write_of, side_to_read as side_to_read_of, entry as entry_at};
+ghost use Rattle.st_next.specs.Words.{words_alone, words_so_far, with_word as with_word_of};
+ghost use Rattle.st_next.specs.Known.{IsBefore};
+ghost use Rattle.st_next.specs.Progress.{IsKnown, IsReady, IsNext, Rests, wanted_next, reads_so_far};
+ghost use Rattle.st_next.specs.Going.{IsFront, IsEarly, GoesOn, AreAskedMore, known_count, entry_seen, IsPlannedAs};
+
+use st_banks::Delays;
+use st_bits::register::FIRST_STORAGE_WORD;
+use st_port::Port;
+use st_prep::{
+    Fetched, Fetching as Given, IndexChange, Needs, Place, Prepared, Words, fetch_on, prepare_in,
+    prepare_without_side, side_word,
+};
+use st_rows::{Entry, Fetching, Formed, Front, Run, Runs};
+use st_state::State;
+
+/// The entry that is prepared next, as far as it is known.
+#[derive(Clone, Copy, Debug, Default, PartialEq, Eq)]
+pub struct Next {
+    /// Where it stands.
+    pub place: Place,
+    /// Its own instruction words that are asked for.
+    pub own: Run,
+    /// Those of the target of EX.
+    pub target: Run,
+    /// The bus behind them, their answers, and which writers of them are awaited.
+    pub words: Fetching,
+    /// Whether all of it is known but its index-side word; what follows is said of such an entry alone.
+    pub planned: bool,
+    /// What is fetched.
+    pub fetched: Fetched,
+    /// What it needs.
+    pub needs: Needs,
+    /// What it is, with 0 in place of its index-side word.
+    pub prepared: Prepared,
+    /// The same as the timetable sees it.
+    pub entry: Entry,
+    /// When its address is formed and when it is prepared, and the bus after its index-side word.
+    pub formed: Formed,
+}
+
+/// What the entry is read on by at a tick.
+#[derive(Clone, Copy)]
+pub struct Outlook<'a> {
+    /// The tick.
+    pub tick: u64,
+    /// How many levels the machine has, 1 to 8.
+    pub levels: usize,
+    /// The front that its row is computed from.
+    pub front: &'a Front,
+    /// The index words that run ahead.
+    pub x: &'a [u64; 16],
+}
+
+impl Next {
+    /// The entry at a place behind the front, of which no word is asked for.
+    pub fn new(place: Place, front: &Front) -> Next
+        ensures next { (ds : List ℕ) (n : ℕ) (t : Option ℕ) (u : Machine) → place ≡ place_by u t →
+            IsNext ds n t u front.now result }
+        ensures rests { (now : ℕ) (t : Option ℕ) (u : Machine) → now ≤ wanted_from front.now →
+            Rests now t u front.now result }
+        ensures reads { (ds : List ℕ) → reads_so_far ds front.now result ≡ [] }
+        ensures place { result.place ≡ place }
+        ensures own { result.own ≡ record { first = 0; len = 0 } }
+        ensures target { result.target ≡ record { first = 0; len = 0 } }
+        ensures words { result.words ≡ record { bus = front.now.bus; answered = 0; awaited = 0 } }
+        ensures unplanned { result.planned ≡ false }
+        ensures none { known_count result ≡ 0 }
+    {
+        Next {
+            place,
+            words: Fetching::new(front.bus),
+            ..Next::default()
+        }
+    }
+
+    /// The tick from which on its next word is wanted, as far as the words so far tell.
+    fn wanted(&self, front: &Front) -> u64
+        ensures { result ≡ wanted_next front.now self.now }
+    {
+        let waits = if self.target.len == 0 { 0 } else { front.c };
+        front
+            .wanted_from()
+            .max(waits)
+            .max(self.words.answered)
+            .max(self.words.awaited)
+    }
+
+    /// The address of one of the words so far, 0 behind them.
+    fn word_at(&self, k: u8) -> u32
+        requires words { IsEntry (words_alone self.now.own self.now.target) }
+        ensures value { k < self.now.own.len + self.now.target.len → result
+            ≡ get_or (words_of_run self.now.own ++ words_of_run self.now.target) k 0 }
+        ensures inside { result < words_of_storage }
+    {
+        if k < self.own.len {
+            return self.own.first + u32::from(k);
+        }
+        let behind = k - self.own.len;
+        if behind < self.target.len {
+            return self.target.first + u32::from(behind);
+        }
+        0
+    }
+
+    /// The contents of the words so far.
+    fn contents(&self, state: &State) -> [u64; 4]
+        requires words { IsEntry (words_alone self.now.own self.now.target) }
+        ensures { take (self.now.own.len + self.now.target.len) result
+            ≡ map (word state.now) (words_of_run self.now.own ++ words_of_run self.now.target) }
+    {
+        [
+            state.word(self.word_at(0)),
+            state.word(self.word_at(1)),
+            state.word(self.word_at(2)),
+            state.word(self.word_at(3)),
+        ]
+    }
+
+    /// Asks for an instruction word that is wanted from `from` on, unless it is held.
+    fn ask(&mut self, w: u32, from: u64, front: &Front, delays: &Delays, port: &mut Port)
+        requires room { IsEarly front.now self.old.words }
+        requires early { from ≤ 2 ^ 64 - 512 }
+        requires few { length port.old.reads < 40 }
+        ensures words { self.new ≡ record self.old {
+          words =
+              fetch_word delays.now front.now.past self.old.words w from;
+        } }
+        ensures reads { port.new.reads ≡ port.old.reads ++ word_asked
+            (tick_of self.old.words.bus.held.words w) w
+            (max (max from self.old.words.answered) self.old.words.awaited) }
+        ensures bus { port.new.bus ≡ port.old.bus }
+    {
+        let want = from.max(self.words.answered).max(self.words.awaited);
+        port.ask_fetch(self.words.bus.held, w, want);
+        self.words.word(delays, &front.past, w, from);
+    }
+
+    /// Asks for a word of its own.
+    fn ask_own(&mut self, w: u32, front: &Front, delays: &Delays, port: &mut Port)
+        requires words { self.old.own.len ≤ 16 }
+        requires room { IsEarly front.now self.old.words }
+        requires few { length port.old.reads < 40 }
+        ensures next { self.new ≡ record self.old {
+          words = fetch_word delays.now front.now.past self.old.words w (wanted_from front.now);
+          own = with_word_of self.old.own w;
+        } }
+        ensures reads { port.new.reads ≡ port.old.reads ++ word_asked
+            (tick_of self.old.words.bus.held.words w) w
+            (max (max (wanted_from front.now) self.old.words.answered) self.old.words.awaited) }
+        ensures bus { port.new.bus ≡ port.old.bus }
+    {
+        self.ask(w, front.wanted_from(), front, delays, port);
+        self.own = with_word(self.own, w);
+    }
+
+    /// Asks for a word of the target of EX, which waits for the entry before.
+    fn ask_target(&mut self, w: u32, front: &Front, delays: &Delays, port: &mut Port)
+        requires words { self.old.target.len ≤ 16 }
+        requires room { IsEarly front.now self.old.words }
+        requires few { length port.old.reads < 40 }
+        ensures next { self.new ≡ record self.old {
+          words = fetch_word delays.now front.now.past self.old.words w
+              (max (wanted_from front.now) front.now.c);
+          target = with_word_of self.old.target w;
+        } }
+        ensures reads { port.new.reads ≡ port.old.reads ++ word_asked
+            (tick_of self.old.words.bus.held.words w) w
+            (max (max (max (wanted_from front.now) front.now.c) self.old.words.answered)
+            self.old.words.awaited) }
+        ensures bus { port.new.bus ≡ port.old.bus }
+    {
+        self.ask(w, front.wanted_from().max(front.c), front, delays, port);
+        self.target = with_word(self.target, w);
+    }
+
+    /// Reads it on as far as the tick allows: asks for the words that are known by now, and once they all are plans it. Whatever the state
+    /// before it is, what is known of it stays so, and nothing more of it can be known before the next tick.
+    pub fn advance(&mut self, outlook: &Outlook, state: &State, delays: &Delays, port: &mut Port)
+        requires known { IsKnown delays.now outlook.now.levels outlook.now.tick
+            outlook.now.front.now outlook.now.x.now state.now self.old }
+        requires front { IsFront outlook.now.levels outlook.now.front.now }
+        requires room { length port.old.reads + 5 ≤ 40 + known_count self.old }
+        ensures next { GoesOn delays.now outlook.now.levels outlook.now.tick outlook.now.front.now
+            outlook.now.x.now state.now self.old self.new (outlook.now.tick + 1) }
+        ensures reads { AreAskedMore delays.now outlook.now.tick outlook.now.front.now
+            self.old self.new port.old.reads port.new.reads }
+        ensures bus { port.new.bus ≡ port.old.bus }
+        ensures few { length port.new.reads + known_count self.old
+            ≤ length port.old.reads + known_count self.new }
+        ensures planned { self.old.planned ≡ false → self.new.planned ≡ true →
+            outlook.now.tick < self.new.formed.a }
+        ensures same { self.old.planned ≡ true → self.new ≡ self.old }
+    {
+        'words: while !self.planned && self.wanted(outlook.front) <= outlook.tick {
+            if !self.go_on(outlook, state, delays, port) {
+                return;
+            }
+        }
+    }
+
+    /// Prepares it for good, at its tick, where it is planned; the index word that it changes is changed in `x`.
+    pub fn prepare(&self, x: &mut [u64; 16], state: &State) -> Prepared
+        requires planned { self.now.planned ≡ true }
+        requires ready { IsReady x.old state.now self.now }
+        ensures value { (ds : List ℕ) (n now : ℕ) (f : FrontAt) (t : Option ℕ) (u : Machine) →
+            IfSome t (λ i. i < 64) → IsBefore now f.past x.old state.now u →
+            IsNext ds n t u f self.now → now ≡ self.now.formed.p →
+            ((entry_at t u).serial ≡ true → u ≡ state.now) → result ≡ plan_of u t }
+        ensures words { x.new ≡ words_after x.old result.index }
+        ensures ranges { IsPrepared result }
+    {
+        let mut prepared = self.prepared;
+        if self.needs.index_read.is_none() {
+            change_index(prepared.index, x);
+            return prepared;
+        }
+        let read = side_word(state, self.place.table, self.needs.index_read);
+        prepared.place = self.place;
+        prepare_in(&mut prepared, &self.fetched, x, read, state);
+        prepared
+    }
+
+    /// Reads it on by one word, or plans it, unless the target of EX waits for the entry before. The result says whether it went on.
+    fn go_on(&mut self, outlook: &Outlook, state: &State, delays: &Delays, port: &mut Port) -> bool
+        requires known { IsKnown delays.now outlook.now.levels outlook.now.tick
+            outlook.now.front.now outlook.now.x.now state.now self.old }
+        requires front { IsFront outlook.now.levels outlook.now.front.now }
+        requires unplanned { self.old.planned ≡ false }
+        requires due { wanted_next outlook.now.front.now self.old ≤ outlook.now.tick }
+        requires room { length port.old.reads + 5 ≤ 40 + known_count self.old }
+        ensures next { GoesOn delays.now outlook.now.levels outlook.now.tick outlook.now.front.now
+            outlook.now.x.now state.now self.old self.new
+            (if result then outlook.now.tick else outlook.now.tick + 1) }
+        ensures reads { AreAskedMore delays.now outlook.now.tick outlook.now.front.now
+            self.old self.new port.old.reads port.new.reads }
+        ensures bus { port.new.bus ≡ port.old.bus }
+        ensures more { result ≡ true → known_count self.new ≡ known_count self.old + 1 }
+        ensures most { known_count self.old ≤ 4 }
+        ensures few { length port.new.reads + known_count self.old
+            ≤ length port.old.reads + known_count self.new }
+        ensures planned { self.new.planned ≡ true → outlook.now.tick < self.new.formed.a }
+    {
+        delays.shape();
+        let contents = self.contents(state);
+        let so_far = usize::from(self.own.len + self.target.len);
+        match fetch_on(&self.place, outlook.x, &contents[..so_far], state) {
+            Given::Next {
+                word,
+                target: false,
+            } => {
+                self.ask_own(word, outlook.front, delays, port);
+                true
+            }
+            Given::Next { word, target: true } => {
+                if outlook.tick < outlook.front.c {
+                    return false;
+                }
+                self.ask_target(word, outlook.front, delays, port);
+                true
+            }
+            Given::Found(fetched) => {
+                self.plan(fetched, outlook, state, delays, port);
+                true
+            }
+        }
+    }
+
+    /// Plans the entry, of which this is fetched.
+    fn plan(
+        &mut self,
+        fetched: Fetched,
+        outlook: &Outlook,
+        state: &State,
+        delays: &Delays,
+        port: &mut Port,
+    )
+        requires place { IsPlace self.old.place }
+        requires fetched { IsFetched fetched }
+        requires front { IsFront outlook.now.levels outlook.now.front.now }
+        requires entry { IsEntry (entry_seen self.old.own self.old.target
+            (seen self.old.place fetched outlook.now.x.now state.now)) }
+        requires words { self.old.words
+            ≡ words_so_far delays.now outlook.now.front.now self.old.own self.old.target }
+        requires few { length port.old.reads < 40 }
+        ensures next { IsPlannedAs delays.now outlook.now.levels outlook.now.front.now
+            (seen self.old.place fetched outlook.now.x.now state.now) self.old self.new }
+        ensures reads { port.new.reads ≡ port.old.reads
+            ++ side_asked outlook.now.front.now.past self.new.entry.side self.new.formed.a }
+        ensures bus { port.new.bus ≡ port.old.bus }
+    {
+        self.prepared.place = self.place;
+        self.needs = prepare_without_side(&mut self.prepared, &fetched, outlook.x, state);
+        self.entry = entry_of(self.own, self.target, &self.needs, &self.prepared, &fetched);
+        self.fetched = fetched;
+        let front = outlook.front;
+        self.formed = front.form(delays, outlook.levels, &self.entry, self.words);
+        self.planned = true;
+        port.ask_side(&front.past, self.entry.side, self.formed.a);
+    }
+}
+
+/// An entry with these instruction words as the timetable sees it.
+fn entry_of(own: Run, target: Run, needs: &Needs, prepared: &Prepared, fetched: &Fetched) -> Entry
+    ensures { result ≡ record {
+      own = own;
+      target = target;
+      side = side_to_read_of needs.now.index_read;
+      reads = words_to_read_of prepared.now.reads;
+      writes = words_to_write_of prepared.now.writes;
+      cost = prepared.now.cost;
+      serial = prepared.now.serial;
+      follows = is_none prepared.now.place.table && is_none fetched.now.fault;
+    } }
+{
+    Entry {
+        own,
+        target,
+        side: side_to_read(needs.index_read),
+        reads: words_to_read(prepared.reads),
+        writes: words_to_write(prepared.writes),
+        cost: prepared.cost,
+        serial: prepared.serial,
+        follows: prepared.place.table.is_none() && fetched.fault.is_none(),
+    }
+}
+
+/// Makes the change of an index word, if there is one.
+fn change_index(index: Option<IndexChange>, x: &mut [u64; 16])
+    requires { IfSome index IsChange }
+    ensures { x.new ≡ words_after x.old index }
+{
+    if let Some(change) = index {
+        x[change.number as usize] = change.word;
+    }
+}
+
+/// A run with one word more.
+fn with_word(run: Run, w: u32) -> Run
+    requires { run.len ≤ 16 }
+    ensures { result ≡ with_word_of run w }
+{
+    let first = if run.len == 0 { w } else { run.first };
+    Run {
+        first,
+        len: run.len + 1,
+    }
+}
+
+/// A run of words without the registers at its front.
+#[tactic(auto, unfolding(st_segment::specs::Entries::above_registers))]
+fn above_registers(first: u32, len: u8) -> Run
+    ensures { result ≡ above_registers_of first len }
+{
+    if first >= FIRST_STORAGE_WORD {
+        return Run { first, len };
+    }
+    let registers = (FIRST_STORAGE_WORD - first) as u8;
+    Run {
+        first: FIRST_STORAGE_WORD,
+        len: len.saturating_sub(registers),
+    }
+}
+
+/// The operand words that make reads.
+#[tactic(auto, unfolding(st_segment::specs::Entries::words_to_read))]
+fn words_to_read(words: Words) -> Runs
+    ensures { result ≡ words_to_read_of words }
+{
+    Runs {
+        one: above_registers(words.first, words.len),
+        two: above_registers(words.first2, words.len2),
+    }
+}
+
+/// The words that are written.
+fn words_to_write(words: Words) -> Runs
+    ensures { result ≡ words_to_write_of words }
+{
+    Runs {
+        one: Run {
+            first: words.first,
+            len: words.len,
+        },
+        two: Run {
+            first: words.first2,
+            len: words.len2,
+        },
+    }
+}
+
+/// The index-side word, where it makes a read.
+#[tactic(auto, unfolding(st_segment::specs::Entries::side_to_read))]
+fn side_to_read(side: Option<u32>) -> Option<u32>
+    ensures { result ≡ side_to_read_of side }
+{
+    match side {
+        Some(w) if w >= FIRST_STORAGE_WORD => Some(w),
+        _ => None,
+    }
+}
