@@ -350,85 +350,58 @@ fn fill_plain(own: Decoded, x: &[u64; 16], state: &State, p: &mut Prepared)
 
 /// The same of half-words whose format is known.
 #[inline(always)]
-fn fill_as(format: Format, first: u32, second: u32, x: &[u64; 16], state: &State, p: &mut Prepared)
+fn fill_as(format: Format, halves: (u32, u32), x: &[u64; 16], state: &State, p: &mut Prepared)
     requires place { IsPlace p.old.place }
-    requires format { spelled_as format first second ≡ instruction_of first second }
-    ensures { p.new ≡ entry_by state.now p.old.place (plain (decoded first second)) x.now }
+    requires format { spelled_as format halves.0 halves.1 ≡ instruction_of halves.0 halves.1 }
+    ensures { p.new ≡ entry_by state.now p.old.place (plain (decoded halves.0 halves.1)) x.now }
 {
-    fill_plain(decode_as(format, first, second), x, state, p);
+    fill_plain(decode_as(format, halves.0, halves.1), x, state, p);
 }
 
 /// The same, of a format that is not frequent.
 #[inline(never)]
-fn fill_seldom(
-    format: Format,
-    first: u32,
-    second: u32,
-    x: &[u64; 16],
-    state: &State,
-    p: &mut Prepared,
-)
+fn fill_seldom(format: Format, halves: (u32, u32), x: &[u64; 16], state: &State, p: &mut Prepared)
     requires place { IsPlace p.old.place }
-    requires format { spelled_as format first second ≡ instruction_of first second }
-    ensures { p.new ≡ entry_by state.now p.old.place (plain (decoded first second)) x.now }
+    requires format { spelled_as format halves.0 halves.1 ≡ instruction_of halves.0 halves.1 }
+    ensures { p.new ≡ entry_by state.now p.old.place (plain (decoded halves.0 halves.1)) x.now }
 {
-    fill_as(format, first, second, x, state, p);
+    fill_as(format, halves, x, state, p);
 }
 
 /// The same, of a full word.
 #[inline(always)]
-fn fill_whole(op: FullOp, first: u32, second: u32, x: &[u64; 16], state: &State, p: &mut Prepared)
+fn fill_whole(op: FullOp, halves: (u32, u32), x: &[u64; 16], state: &State, p: &mut Prepared)
     requires place { IsPlace p.old.place }
-    requires format { spelled_as (Format.Whole op) first second ≡ instruction_of first second }
-    ensures { p.new ≡ entry_by state.now p.old.place (plain (decoded first second)) x.now }
+    requires format { spelled_as (Format.Whole op) halves.0 halves.1
+        ≡ instruction_of halves.0 halves.1 }
+    ensures { p.new ≡ entry_by state.now p.old.place (plain (decoded halves.0 halves.1)) x.now }
 {
     match op {
         FullOp::Variable(op) => {
-            fill_as(
-                Format::Whole(FullOp::Variable(op)),
-                first,
-                second,
-                x,
-                state,
-                p,
-            )
+            fill_as(Format::Whole(FullOp::Variable(op)), halves, x, state, p)
         }
         FullOp::Connective(kind) => {
-            fill_as(
-                Format::Whole(FullOp::Connective(kind)),
-                first,
-                second,
-                x,
-                state,
-                p,
-            )
+            fill_as(Format::Whole(FullOp::Connective(kind)), halves, x, state, p)
         }
         FullOp::IndicatorTest => {
-            fill_as(
-                Format::Whole(FullOp::IndicatorTest),
-                first,
-                second,
-                x,
-                state,
-                p,
-            )
+            fill_as(Format::Whole(FullOp::IndicatorTest), halves, x, state, p)
         }
-        _ => fill_seldom(Format::Whole(op), first, second, x, state, p),
+        _ => fill_seldom(Format::Whole(op), halves, x, state, p),
     }
 }
 
 /// The same, of any format. What follows knows the format, so that it is told apart once.
 #[inline(always)]
-fn fill_own(format: Format, first: u32, second: u32, x: &[u64; 16], state: &State, p: &mut Prepared)
+fn fill_own(format: Format, halves: (u32, u32), x: &[u64; 16], state: &State, p: &mut Prepared)
     requires place { IsPlace p.old.place }
-    requires format { spelled_as format first second ≡ instruction_of first second }
-    ensures { p.new ≡ entry_by state.now p.old.place (plain (decoded first second)) x.now }
+    requires format { spelled_as format halves.0 halves.1 ≡ instruction_of halves.0 halves.1 }
+    ensures { p.new ≡ entry_by state.now p.old.place (plain (decoded halves.0 halves.1)) x.now }
 {
     match format {
-        Format::Index(op) => fill_as(Format::Index(op), first, second, x, state, p),
-        Format::Branch(op) => fill_as(Format::Branch(op), first, second, x, state, p),
-        Format::Whole(op) => fill_whole(op, first, second, x, state, p),
-        _ => fill_seldom(format, first, second, x, state, p),
+        Format::Index(op) => fill_as(Format::Index(op), halves, x, state, p),
+        Format::Branch(op) => fill_as(Format::Branch(op), halves, x, state, p),
+        Format::Whole(op) => fill_whole(op, halves, x, state, p),
+        _ => fill_seldom(format, halves, x, state, p),
     }
 }
 
@@ -469,7 +442,7 @@ fn fill_spelled(first: u32, second: u32, x: &[u64; 16], state: &State, p: &mut P
     if is_execute_format(format) {
         fill_other(x, state, p)
     } else {
-        fill_own(format, first, second, x, state, p)
+        fill_own(format, (first, second), x, state, p)
     }
 }
 
