@@ -25,7 +25,7 @@ fn words_that_mean_nothing_touch_neither_job_nor_report(rt: HostRuntime) -> Resu
         &["--help"],
         &["assemble", "now"],
         &["soak", "7030", "40"],
-        &["disassemble"],
+        &["disassembled"],
         &["sweep"],
     ];
     for line in lines {
