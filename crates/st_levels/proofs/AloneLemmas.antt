@@ -44,7 +44,7 @@ module _ (ds : List ℕ) (n tick now : ℕ) (awaits : (f : Front) (e : Entry) �
       let late : f.c < (row ds n f (entry t s)).p = awaits f (entry t s) some in omega arith) in
       (sym (entry-serial t s) ∙ both.0, both.1)
 
-  behind-ahead : (t : Option ℕ) (s : Machine) (f last : Front) (ring : List Level) (plans : List Plan)
+  pub behind-ahead : (t : Option ℕ) (s : Machine) (f last : Front) (ring : List Level) (plans : List Plan)
       → AreLevels ds n tick t s f last ring plans → All (λ level. level.p < now) ring → All (λ q. now ≤ q.c) plans
       → now ≤ f.c → 1 ≤ length ring → (f.serial ≡ false) × RunAhead (length ring) t s
   unfolding AreLevels RunAhead

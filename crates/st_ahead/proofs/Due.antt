@@ -1,0 +1,196 @@
+-- The next entry at the tick at which it is prepared: what is known of it, its reads, and the room for it.
+use Rattle.std.specs.Prelude.{All, IfSome, if◌then◌else◌, get_or, ◌-◌, ◌*◌, ◌^◌}
+use Rattle.std.proofs.Common.{◌≡◌, ℕ, zero, suc, ◌+◌, ◌<◌, ◌≤◌, ◌||◌, Bool, true, false, List, [], ◌∷◌, ◌++◌, append_assoc, inl, inr, length, take, Option, None, refl, sym, subst, ◌∙◌, ap, ap₂, arith}
+use Rattle.std.proofs.lemmas.List.{append-nil, get_or-take}
+use Rattle.std.proofs.lemmas.List.Elements.{All-head}
+use Rattle.st_state.specs.Machine.{Machine}
+use Rattle.st_exec.specs.Completion.{guess}
+use Rattle.st_rows.specs.Asked.{Read, asked, fetches_asked, side_asked, served}
+use Rattle.st_rows.specs.Entries.{no_words}
+use Rattle.st_rows.specs.Ranges.{AreDelays, IsEntry}
+use Rattle.st_rows.specs.Rows.{row, after, prepared, addressed, completed, done_before, tick_a, bus_a, tick_p, tick_c}
+use Rattle.st_rows.specs.declared.entry.Entry.{Entry}
+use Rattle.st_rows.specs.declared.entry.Run.{Run}
+use Rattle.st_rows.specs.declared.front.Front.{Front}
+use Rattle.st_rows.specs.declared.past.Past.{Past}
+use Rattle.st_rows.proofs.Served.{served-append, served-asked}
+use Rattle.st_ring.specs.declared.level.Level.{Level}
+use Rattle.st_segment.specs.Entries.{entry}
+use Rattle.st_segment.specs.Guesses.{guesses, table_behind}
+use Rattle.st_segment.specs.Alone.{RunAhead}
+use Rattle.st_segment.proofs.EntryRanges.{entry-ranges}
+use Rattle.st_segment.proofs.GuessLemmas.{behind-none, behind-indicator}
+use Rattle.st_port.proofs.Made.{before-cases}
+use Rattle.st_way.specs.Parts.{formed_asked}
+use Rattle.st_way.specs.Way.{IsOnTheWay}
+use Rattle.st_way.proofs.Wanted.{way-prepared}
+use Rattle.st_levels.specs.Levels.{AreLevels}
+use Rattle.st_levels.specs.declared.plans.Plan.{Plan}
+use Rattle.st_next.specs.Known.{IsBefore}
+use Rattle.st_next.specs.Words.{asked_so_far}
+use Rattle.st_next.specs.Progress.{IsNext, IsPlanned, IsPlannedIf, Rests, reads_so_far}
+use Rattle.st_next.specs.declared.next.Next.{Next}
+use Rattle.st_ahead.specs.Look.{LookView, IsNextIf, count, is_open, asked_ahead}
+use Rattle.st_ahead.specs.Going.{IsGoing, BecomesLevel}
+use Rattle.st_ahead.proofs.Further.{going-late, next-known}
+
+-- ---- the ticks of a row
+
+pub done-behind : (ds : List ℕ) (n : ℕ) (f : Front) (e : Entry) → IsEntry e → f.c < (row ds n f e).c
+unfolding row tick_c
+done-behind ds n f e range = omega (arith, range.costs.0)
+
+alone-behind : (ds : List ℕ) (n : ℕ) (f : Front) (e : Entry) → e.serial ≡ true → f.c < tick_p ds n f e
+unfolding tick_p prepared tick_a addressed
+alone-behind ds n f e alone = rw alone (omega arith)
+
+levels-behind : (ds : List ℕ) (n : ℕ) (f : Front) (e : Entry) → done_before n f.past < tick_p ds n f e
+unfolding tick_p prepared
+levels-behind ds n f e = omega arith
+
+pub front-before : (ds : List ℕ) (n : ℕ) (f : Front) (e : Entry) → f.p < tick_p ds n f e
+unfolding tick_p prepared tick_a addressed
+front-before ds n f e = omega arith
+
+pub row-p : (ds : List ℕ) (n : ℕ) (f : Front) (e : Entry) → (row ds n f e).p ≡ tick_p ds n f e
+unfolding row
+row-p ds n f e = refl
+
+pub after-p : (ds : List ℕ) (n : ℕ) (f : Front) (e : Entry) → (after ds n f e).p ≡ tick_p ds n f e
+unfolding after
+after-p ds n f e = refl
+
+-- ---- levels: the reads of them, and what the last front keeps of them
+
+module _ (ds : List ℕ) (n tick : ℕ) where
+  served-ahead : (t : Option ℕ) (s : Machine) (f last : Front) (ring : List Level) (plans : List Plan)
+      → AreLevels ds n tick t s f last ring plans → served ds (asked_ahead ds n (length ring) t s f) f.bus ≡ last.bus
+  unfolding AreLevels asked_ahead served
+  served-ahead t s f last [] [] h = ap (λ (g : Front). g.bus) (sym h)
+  served-ahead t s f last [] (q ∷ qs) h = absurd h
+  served-ahead t s f last (level ∷ levels) [] h = absurd h
+  served-ahead t s f last (level ∷ levels) (q ∷ qs) h =
+      let rest = asked_ahead ds n (length levels) None (guess t s) (after ds n f (entry t s)) in
+      served-append ds (asked ds n f (entry t s)) rest f.bus
+      ∙ ap (served ds rest) (served-asked ds n f (entry t s))
+      ∙ served-ahead None (guess t s) (after ds n f (entry t s)) last levels qs h.1
+
+  pub asked-more : (t k : Option ℕ) (s u : Machine) (f last : Front) (ring : List Level) (plans : List Plan)
+      → k ≡ table_behind (length ring) t → u ≡ guesses (length ring) t s → AreLevels ds n tick t s f last ring plans
+      → asked_ahead ds n (suc (length ring)) t s f ≡ asked_ahead ds n (length ring) t s f ++ asked ds n last (entry k u)
+  unfolding AreLevels asked_ahead guesses
+  asked-more t k s u f last [] [] table state h =
+      append-nil (asked ds n f (entry t s)) ∙ ap₂ (λ g e. asked ds n g e) (sym h) (sym (ap₂ entry table state))
+  asked-more t k s u f last [] (q ∷ qs) table state h = absurd h
+  asked-more t k s u f last (level ∷ levels) [] table state h = absurd h
+  asked-more t k s u f last (level ∷ levels) (q ∷ qs) table state h =
+      let first = asked ds n f (entry t s) in
+      ap (λ reads. first ++ reads)
+      (asked-more None k (guess t s) u (after ds n f (entry t s)) last levels qs (table ∙ sym (behind-none (length levels))) state h.1)
+      ∙ sym (append_assoc first (asked_ahead ds n (length levels) None (guess t s) (after ds n f (entry t s))) (asked ds n last (entry k u)))
+
+  -- an older entry lies behind all levels
+  past-behind : (j : ℕ) (d : Past) (t : Option ℕ) (s : Machine) (f last : Front) (ring : List Level) (plans : List Plan)
+      → AreLevels ds n tick t s f last ring plans → length ring + j < 8 → get_or last.past (length ring + j) d ≡ get_or f.past j d
+  unfolding AreLevels after
+  past-behind j d t s f last [] [] h few =
+      let place : length {A = Level} [] + j ≡ j = omega arith in
+      ap (λ i. get_or last.past i d) place ∙ ap (λ (g : Front). get_or g.past j d) h
+  past-behind j d t s f last [] (q ∷ qs) h few = absurd h
+  past-behind j d t s f last (level ∷ levels) [] h few = absurd h
+  past-behind j d t s f last (level ∷ levels) (q ∷ qs) h few =
+      let place : suc (length levels) + j ≡ length levels + suc j = omega arith in
+      ap (λ i. get_or last.past i d) place
+      ∙ past-behind (suc j) d None (guess t s) (after ds n f (entry t s)) last levels qs h.1 (omega arith)
+      ∙ get_or-take 7 f.past j d (omega arith)
+
+  -- the oldest of n levels is the entry n before the next one
+  pub full-behind : (now : ℕ) (t : Option ℕ) (s : Machine) (f last : Front) (ring : List Level) (plans : List Plan)
+      → AreLevels ds n tick t s f last ring plans → All (λ q. now < q.c) plans → 1 ≤ n → n ≤ 8 → length ring ≡ n → now < done_before n last.past
+  unfolding AreLevels after row
+  full-behind now t s f last [] plans h late some most full = let no : ⊥ = omega (arith, some, full) in absurd no
+  full-behind now t s f last (level ∷ levels) [] h late some most full = absurd h
+  full-behind now t s f last (level ∷ levels) (q ∷ qs) h late some most full =
+      let none : Past = record { c = 0; writes = no_words } in
+      let e = entry t s in
+      let here : now < q.c = All-head (λ (x : Plan). now < x.c) q qs late in
+      let is : q.c ≡ tick_c ds n f e = h.0.c in
+      let place : n - 1 ≡ length levels + 0 = omega (arith, full) in
+      let kept = past-behind 0 none None (guess t s) (after ds n f e) last levels qs h.1 (omega (arith, full, most)) in
+      let c : done_before n last.past ≡ tick_c ds n f e = ap (λ i. (get_or last.past i none).c) place ∙ ap (λ (x : Past). x.c) kept in
+      omega (arith, here, is, c)
+
+-- ---- the reads of the next entry up to its operands
+
+formed-fetches : (ds : List ℕ) (f : Front) (e : Entry) → asked_so_far ds f e.own e.target ≡ fetches_asked ds f e
+unfolding fetches_asked
+formed-fetches ds f e = refl
+
+pub reads-formed : (ds : List ℕ) (n : ℕ) (k : Option ℕ) (u : Machine) (f : Front) (next : Next) → IsPlanned ds n k u f next
+    → next.planned ≡ true → reads_so_far ds f next ≡ formed_asked ds f (entry k u)
+reads-formed ds n k u f next is planned =
+    let e = entry k u in
+    let fetches : asked_so_far ds f next.own next.target ≡ fetches_asked ds f e =
+    ap₂ (λ (a b : Run). asked_so_far ds f a b) is.all.own is.all.target ∙ formed-fetches ds f e in
+    let sides : (if next.planned then side_asked f.past next.entry.side next.formed.a else []) ≡ side_asked f.past e.side (tick_a ds f e) =
+    ap (λ b. if b then side_asked f.past next.entry.side next.formed.a else []) planned
+    ∙ ap₂ (λ (x : Entry) (a : ℕ). side_asked f.past x.side a) is.entry is.address in
+    ap₂ (λ a b. a ++ b) fetches sides
+
+-- ---- all of it
+
+pub planned-open : (b : Bool) (ds : List ℕ) (n rest : ℕ) (t : Option ℕ) (s : Machine) (v : LookView) → IsNextIf b ds n rest t s v
+    → v.next.planned ≡ true → b ≡ true
+planned-open true ds n rest t s v is planned = refl
+planned-open false ds n rest t s v is planned = let unplanned : v.next.planned ≡ false = is.0 in absurd (cc (planned, unplanned))
+
+none-guessed : (k : ℕ) (t : Option ℕ) (s : Machine) → k ≡ 0 → guesses k t s ≡ s
+unfolding guesses
+none-guessed zero t s none = refl
+none-guessed (suc k) t s none = absurd (cc none)
+
+pub becomes-level : (ds : List ℕ) (n now : ℕ) (t : Option ℕ) (s : Machine) (f : Front) (v : LookView) → 1 ≤ n → n ≤ 8 → AreDelays 255 ds
+    → count v ≤ n → now < 2 ^ 63 → IsGoing ds n now (now + 1) t s f v → v.next.planned ≡ true → v.next.formed.p ≡ now
+    → RunAhead (count v) t s → IsBefore now v.front.past v.levels.x s (guesses (count v) t s) → BecomesLevel ds n now t s f v
+becomes-level ds n now t s f v some most are few early is planned due run before =
+    let k = table_behind (count v) t in
+    let u = guesses (count v) t s in
+    let e = entry k u in
+    let opened : is_open v ≡ true = planned-open (is_open v) ds n (now + 1) t s v is.next planned in
+    let next = (next-known ds n now (now + 1) t s f v is opened).0 in
+    let all : IsPlanned ds n k u v.front v.next = subst (λ (b : Bool). IsPlannedIf b ds n k u v.front v.next) planned next.planned in
+    let indicator = behind-indicator (count v) t is.indicator in
+    let range : IsEntry e = entry-ranges k u before.machine indicator in
+    let p : tick_p ds n v.front e ≡ now = sym all.tick ∙ due in
+    let reads = reads-formed ds n k u v.front v.next all planned in
+    let way = subst (λ (l : List Read). IsOnTheWay ds now (asked_ahead ds n (count v) t s f ++ l) f.bus v.port) reads is.way in
+    let made = way-prepared 255 ds are n v.front e range is.tight now (asked_ahead ds n (count v) t s f) f.bus v.port
+    (served-ahead ds n now t s f v.front v.levels.ring v.levels.plans is.ahead.levels) (omega (arith, p)) way in
+    let late : 1 ≤ count v → now < v.front.c = going-late ds n now (now + 1) (λ g x r. done-behind ds n g x r) t s f v is in
+    record {
+      run = run;
+      before = before;
+      is_next = next;
+      indicator = indicator;
+      same = all.entry;
+      range = subst (λ (x : Entry). IsEntry x) (sym all.entry) range;
+      address = all.address ∙ ap (tick_a ds v.front) (sym all.entry);
+      bus = all.bus ∙ ap (bus_a ds v.front) (sym all.entry);
+      tick = all.tick ∙ ap (tick_p ds n v.front) (sym all.entry);
+      alone = λ serial.
+          let c : v.front.c < tick_p ds n v.front e = alone-behind ds n v.front e (sym (ap (λ (x : Entry). x.serial) all.entry) ∙ serial) in
+          none-guessed (count v) t s (no-levels (count v) now v.front.c late (omega (arith, c, p)));
+      room = not-full (count v) few (λ full.
+          let c : now < done_before n v.front.past = full-behind ds n now now t s f v.front v.levels.ring v.levels.plans is.ahead.levels is.not_done some most full in
+          let before_p : done_before n v.front.past < tick_p ds n v.front e = levels-behind ds n v.front e in
+          omega (arith, c, before_p, p));
+      early = omega (arith, is.early, few, most, early);
+      made = made.0;
+    }
+  where
+    no-levels : (j at c : ℕ) → (1 ≤ j → at < c) → c < at → j ≡ 0
+    no-levels zero at c late early_c = refl
+    no-levels (suc j) at c late early_c = let no : ⊥ = omega (arith, late (omega arith), early_c) in absurd no
+
+    not-full : (j : ℕ) → j ≤ n → (j ≡ n → ⊥) → j < n
+    not-full j below never = elim (before-cases j n) [ inl fewer ↦ fewer.1 | inr over ↦ absurd (never (omega (arith, below, over.1))) ]

@@ -1,0 +1,239 @@
+-- The entry that is prepared next is prepared at the tick or later, and what is not asked for yet is wanted then or later.
+use Rattle.std.specs.Prelude.{All, ◌==◌, if◌then◌else◌}
+use Rattle.std.proofs.Common.{◌≡◌, ℕ, zero, suc, ◌+◌, ◌<◌, ◌≤◌, ◌||◌, max, Bool, true, false, not, List, [], ◌∷◌, ◌++◌, append_assoc, length, Option, None, refl, sym, ◌∙◌, ap, ap₂, arith}
+use Rattle.std.proofs.lemmas.Bool.{lt-ltb, le-ltb}
+use Rattle.std.proofs.lemmas.List.{append-nil}
+use Rattle.std.proofs.lemmas.List.Elements.{All-append, All-weaker, All-head, All-tail}
+use Rattle.st_state.specs.Machine.{Machine}
+use Rattle.st_exec.specs.Completion.{guess}
+use Rattle.st_rows.specs.Asked.{Read, asked, fetches_asked, words_asked, side_asked, made_before}
+use Rattle.st_rows.specs.Rows.{row, after, wanted_from, tick_a, tick_p}
+use Rattle.st_rows.specs.declared.entry.Run.{Run}
+use Rattle.st_rows.specs.declared.entry.Entry.{Entry}
+use Rattle.st_rows.specs.declared.front.Front.{Front}
+use Rattle.st_port.specs.Parts.{data_of}
+use Rattle.st_port.proofs.Stages.{asked-parts}
+use Rattle.st_ring.specs.declared.level.Level.{Level}
+use Rattle.st_segment.specs.Entries.{entry}
+use Rattle.st_segment.specs.Guesses.{guesses, table_behind}
+use Rattle.st_segment.specs.Ahead.{ahead, reads_before}
+use Rattle.st_segment.proofs.GuessLemmas.{behind-none}
+use Rattle.st_way.specs.Parts.{prepared_asked}
+use Rattle.st_way.proofs.Wanted.{two-parts, at-prepared}
+use Rattle.st_way.proofs.Turned.{on-closing}
+use Rattle.st_levels.specs.Levels.{AreLevels}
+use Rattle.st_levels.specs.declared.plans.Plan.{Plan}
+use Rattle.st_levels.proofs.LevelLemmas.{levels-beside}
+use Rattle.st_next.specs.Words.{asked_so_far}
+use Rattle.st_next.specs.Progress.{IsNext, IsPlanned, Rests, reads_so_far}
+use Rattle.st_next.specs.declared.next.Next.{Next}
+use Rattle.st_next.proofs.Resting.{address-late, rest-left}
+use Rattle.st_next.proofs.Steps.{planned-is}
+use Rattle.st_ahead.specs.Look.{LookView, IsLook, IsNextIf, count, is_open, asked_ahead}
+
+-- no words
+abbrev none : Run
+none = record { first = 0; len = 0 }
+
+-- the ticks of rows in their order, and when their reads are wanted
+pub record AreOrdered (ds : List ℕ) (n : ℕ) : Type 0 where
+  pub alone : (f : Front) (e : Entry) → (e.serial || f.serial) ≡ true → f.c < (row ds n f e).a
+  pub prepared : (f : Front) (e : Entry) → (row ds n f e).a < (row ds n f e).p
+  pub fetches : (f : Front) (e : Entry) → All (λ (r : Read). wanted_from f ≤ r.want) (fetches_asked ds f e)
+  pub behind : (f : Front) (e : Entry) → All (λ (r : Read). tick_a ds f e ≤ r.want) (data_of ds n f e)
+
+-- the entry e behind the front f, of which so much is asked for
+pub record IsLater (ds : List ℕ) (n now : ℕ) (f : Front) (e : Entry) (next : Next) : Type 0 where
+  pub rest : List Read
+  pub reads : asked ds n f e ≡ reads_so_far ds f next ++ rest
+  pub late : All (λ (r : Read). now ≤ r.want) rest
+  pub prepared : now ≤ (row ds n f e).p
+
+module _ (ds : List ℕ) (n now : ℕ) (ordered : AreOrdered ds n) where
+  -- ---- it is planned
+
+  all-fetched : (f : Front) (e : Entry) → asked_so_far ds f e.own e.target ≡ fetches_asked ds f e
+  unfolding fetches_asked
+  all-fetched f e = refl
+
+  planned-later : (t : Option ℕ) (u : Machine) (f : Front) (next : Next) → IsPlanned ds n t u f next → next.planned ≡ true
+      → now ≤ next.formed.p → IsLater ds n now f (entry t u) next
+  unfolding row
+  planned-later t u f next is planned late =
+      let e : Entry = entry t u in
+      let p : next.formed.p ≡ tick_p ds n f e = is.tick in
+      let fetches : asked_so_far ds f next.own next.target ≡ fetches_asked ds f e =
+      ap₂ (λ (a b : Run). asked_so_far ds f a b) is.all.own is.all.target ∙ all-fetched f e in
+      let sides : (if next.planned then side_asked f.past next.entry.side next.formed.a else []) ≡ side_asked f.past e.side (tick_a ds f e) =
+      ap (λ b. if b then side_asked f.past next.entry.side next.formed.a else []) planned
+      ∙ ap₂ (λ (x : Entry) (a : ℕ). side_asked f.past x.side a) is.entry is.address in
+      record {
+        rest = prepared_asked ds n f e;
+        reads = two-parts ds n f e ∙ ap₂ (λ a b. (a ++ b) ++ prepared_asked ds n f e) (sym fetches) (sym sides);
+        late =
+            All-weaker (λ (r : Read). r.want ≡ tick_p ds n f e) (λ (r : Read). now ≤ r.want) (λ r h. omega arith)
+            (prepared_asked ds n f e) (at-prepared ds n f e);
+        prepared = omega arith;
+      }
+
+  -- ---- it is not
+
+  behind-fetches : (f : Front) (e : Entry) (next : Next) (rest : List Read) → next.planned ≡ false
+      → fetches_asked ds f e ≡ asked_so_far ds f next.own next.target ++ rest → All (λ (r : Read). now ≤ r.want) rest
+      → now ≤ tick_a ds f e → IsLater ds n now f e next
+  unfolding row
+  behind-fetches f e next rest unplanned reads late before =
+      let others = data_of ds n f e in
+      let so_far = asked_so_far ds f next.own next.target in
+      let p : (row ds n f e).a < (row ds n f e).p = ordered.prepared f e in
+      let none : reads_so_far ds f next ≡ so_far =
+      ap (λ b. so_far ++ (if b then side_asked f.past next.entry.side next.formed.a else [])) unplanned ∙ append-nil so_far in
+      record {
+        rest = rest ++ others;
+        reads =
+            asked-parts ds n f e ∙ ap (λ reads. reads ++ others) reads ∙ append_assoc so_far rest others
+            ∙ ap (λ reads. reads ++ (rest ++ others)) (sym none);
+        late =
+            All-append (λ (r : Read). now ≤ r.want) rest others late
+            (All-weaker (λ (r : Read). tick_a ds f e ≤ r.want) (λ (r : Read). now ≤ r.want) (λ r h. omega arith) others
+            (ordered.behind f e));
+        prepared = omega arith;
+      }
+
+  unplanned-later : (t : Option ℕ) (u : Machine) (f : Front) (next : Next) → IsNext ds n t u f next → next.planned ≡ false
+      → Rests now t u f next → IsLater ds n now f (entry t u) next
+  unplanned-later t u f next is unplanned rests =
+      let left = rest-left ds now t u f next is.read_on unplanned rests in
+      let a : now < tick_a ds f (entry t u) = address-late ds now t u f next is.read_on unplanned rests in
+      behind-fetches f (entry t u) next left.rest unplanned left.reads left.late (omega arith)
+
+  next-later : (t : Option ℕ) (u : Machine) (f : Front) (next : Next) → IsNext ds n t u f next → Rests now t u f next
+      → (next.planned ≡ true → now ≤ next.formed.p) → IsLater ds n now f (entry t u) next
+  next-later t u f next is rests late = by-planned next.planned refl
+    where
+      by-planned : (b : Bool) → next.planned ≡ b → IsLater ds n now f (entry t u) next
+      by-planned true e = planned-later t u f next (planned-is next.planned ds n t u f next e is.planned) e (late e)
+      by-planned false e = unplanned-later t u f next is e rests
+
+  -- ---- behind a level that is done alone
+
+  alone-later : (e : Entry) (f : Front) (next : Next) → next.planned ≡ false → next.own ≡ none → next.target ≡ none
+      → f.serial ≡ true → now ≤ f.c → IsLater ds n now f e next
+  unfolding row fetches_asked words_asked
+  alone-later e f next unplanned no_own no_target serial late =
+      let a : f.c < (row ds n f e).a = ordered.alone f e (or-second e.serial f.serial serial) in
+      let from : now ≤ wanted_from f = wanted_if f.serial serial in
+      behind-fetches f e next (fetches_asked ds f e) unplanned
+      (sym (rw (no_own, no_target) refl))
+      (All-weaker (λ (r : Read). wanted_from f ≤ r.want) (λ (r : Read). now ≤ r.want) (λ r h. omega arith) (fetches_asked ds f e) (ordered.fetches f e))
+      (omega arith)
+    where
+      or-second : (a b : Bool) → b ≡ true → (a || b) ≡ true
+      or-second true b h = refl
+      or-second false b h = h
+
+      wanted_if : (b : Bool) → b ≡ true → now ≤ (if b then max f.p f.c else f.p)
+      wanted_if true e = omega arith
+      wanted_if false e = absurd (cc e)
+
+-- ---- behind levels
+
+-- the youngest level is not done by the tick
+last-done : (tick : ℕ) (f last : Front) (plans : List Plan) → All (λ q. tick < q.c) plans
+    → All (λ q. (f.c < q.c) × (q.c ≤ last.c)) plans → 1 ≤ length plans → tick < last.c
+last-done tick f last [] late order some = absurd (omega arith)
+last-done tick f last (q ∷ qs) late order some =
+    let done : tick < q.c = All-head (λ (x : Plan). tick < x.c) q qs late in
+    let before : (f.c < q.c) × (q.c ≤ last.c) = All-head (λ (x : Plan). (f.c < x.c) × (x.c ≤ last.c)) q qs order in
+    omega (arith, before.1)
+
+closed-by : (a b : Bool) → (a || not b) ≡ false → (a ≡ false) × (b ≡ true)
+closed-by true b e = absurd (cc e)
+closed-by false true e = (refl, refl)
+closed-by false false e = absurd (cc e)
+
+some-by : (k : ℕ) → (k == 0) ≡ false → 1 ≤ k
+some-by zero e = absurd (cc e)
+some-by (suc k) e = omega arith
+
+pub look-later : (ds : List ℕ) (n tick now : ℕ) (t : Option ℕ) (s : Machine) (f : Front) (v : LookView) → AreOrdered ds n
+    → now ≤ tick + 1 → IsLook ds n tick now t s f v → All (λ q. (f.c < q.c) × (q.c ≤ v.front.c)) v.levels.plans
+    → IsLater ds n now v.front (entry (table_behind (count v) t) (guesses (count v) t s)) v.next
+look-later ds n tick now t s f v ordered soon is order = by-open (is_open v) refl is.next
+  where
+    by-open : (b : Bool) → is_open v ≡ b → IsNextIf b ds n now t s v
+        → IsLater ds n now v.front (entry (table_behind (count v) t) (guesses (count v) t s)) v.next
+    by-open true e next =
+        next-later ds n now ordered (table_behind (count v) t) (guesses (count v) t s) v.front v.next next.0 next.1 is.late
+    by-open false e next =
+        let closed = closed-by (count v == 0) v.front.serial e in
+        let beside = levels-beside ds n tick t s f v.front v.levels.ring v.levels.plans is.ahead.levels in
+        let c : tick < v.front.c = last-done tick f v.front v.levels.plans is.not_done order (omega (arith, beside, some-by (count v) closed.0)) in
+        alone-later ds n now ordered (entry (table_behind (count v) t) (guesses (count v) t s)) v.front v.next
+        next.0 next.1 next.2 closed.1 (omega arith)
+
+-- ---- the reads before the tick
+
+nothing-more : (b : Bool) (reads more : List Read) → b ≡ false → reads ++ (if b then more else []) ≡ reads
+nothing-more false reads more e = append-nil reads
+nothing-more true reads more e = absurd (cc e)
+
+more-behind : (b : Bool) (reads more : List Read) → b ≡ true → reads ++ (if b then more else []) ≡ reads ++ more
+more-behind true reads more e = refl
+more-behind false reads more e = absurd (cc e)
+
+levels-reads : (ds : List ℕ) (n tick now m : ℕ) (t k : Option ℕ) (s u : Machine) (f last : Front) (ring : List Level)
+    (plans : List Plan) → AreLevels ds n tick t s f last ring plans → All (λ level. level.p < now) ring
+    → k ≡ table_behind (length ring) t → u ≡ guesses (length ring) t s → now ≤ (row ds n last (entry k u)).p → length ring < m
+    → reads_before ds n now (ahead ds n m t s f) ≡ asked_ahead ds n (length ring) t s f ++ asked ds n last (entry k u)
+unfolding AreLevels guesses ahead reads_before asked_ahead
+levels-reads ds n tick now zero t k s u f last ring plans h each table state late more = absurd (omega arith)
+levels-reads ds n tick now (suc m) t k s u f last [] [] h each table state late more =
+    let front : last ≡ f = h in
+    let same : entry k u ≡ entry t s = ap₂ entry table state in
+    let p : (row ds n last (entry k u)).p ≡ (row ds n f (entry t s)).p = ap₂ (λ g e. (row ds n g e).p) front same in
+    nothing-more _ (asked ds n f (entry t s)) _ (le-ltb (row ds n f (entry t s)).p now (omega arith))
+    ∙ ap₂ (λ g e. asked ds n g e) (sym front) (sym same)
+levels-reads ds n tick now (suc m) t k s u f last [] (q ∷ qs) h each table state late more = absurd h
+levels-reads ds n tick now (suc m) t k s u f last (level ∷ levels) [] h each table state late more = absurd h
+levels-reads ds n tick now (suc m) t k s u f last (level ∷ levels) (q ∷ qs) h each table state late more =
+    let here : level.p < now = All-head (λ (x : Level). x.p < now) level levels each in
+    let is : level.p ≡ (row ds n f (entry t s)).p = h.0.p in
+    more-behind _ (asked ds n f (entry t s)) _ (lt-ltb (row ds n f (entry t s)).p now (omega arith))
+    ∙ ap (λ reads. asked ds n f (entry t s) ++ reads)
+    (levels-reads ds n tick now m None k (guess t s) u (after ds n f (entry t s)) last levels qs h.1
+    (All-tail (λ (x : Level). x.p < now) level levels each) (table ∙ sym (behind-none (length levels))) state late (omega arith))
+    ∙ sym (append_assoc (asked ds n f (entry t s)) (asked_ahead ds n (length levels) None (guess t s) (after ds n f (entry t s))) (asked ds n last (entry k u)))
+
+-- the oldest level is prepared
+oldest-prepared : (ds : List ℕ) (n tick now : ℕ) (t : Option ℕ) (s : Machine) (f last : Front) (ring : List Level) (plans : List Plan)
+    → AreLevels ds n tick t s f last ring plans → All (λ level. level.p < now) ring → 1 ≤ length ring
+    → (row ds n f (entry t s)).p < now
+unfolding AreLevels
+oldest-prepared ds n tick now t s f last [] plans h each some = absurd (omega arith)
+oldest-prepared ds n tick now t s f last (level ∷ levels) [] h each some = absurd h
+oldest-prepared ds n tick now t s f last (level ∷ levels) (q ∷ qs) h each some =
+    let here : level.p < now = All-head (λ (x : Level). x.p < now) level levels each in
+    let is : level.p ≡ (row ds n f (entry t s)).p = h.0.p in
+    omega arith
+
+pub banks-left : (ds : List ℕ) (n tick now : ℕ) (t : Option ℕ) (s : Machine) (f : Front) (v : LookView) → AreOrdered ds n
+    → now ≤ tick + 1 → count v ≤ n → 1 ≤ count v → IsLook ds n tick now t s f v
+    → All (λ q. (f.c < q.c) × (q.c ≤ v.front.c)) v.levels.plans → f.bus.free ≤ now
+    → made_before ds now (asked ds n f (entry t s)
+    ++ reads_before ds n now (ahead ds n (suc n) None (guess t s) (after ds n f (entry t s)))) f.bus ≡ v.port.bus
+unfolding ahead reads_before
+banks-left ds n tick now t s f v ordered soon few some is order free =
+    let k = table_behind (count v) t in
+    let u = guesses (count v) t s in
+    let later = look-later ds n tick now t s f v ordered soon is order in
+    let first : (row ds n f (entry t s)).p < now = oldest-prepared ds n tick now t s f v.front v.levels.ring v.levels.plans is.ahead.levels is.prepared some in
+    let made = asked_ahead ds n (count v) t s f in
+    let so_far = reads_so_far ds v.front v.next in
+    ap (λ reads. made_before ds now reads f.bus)
+    (sym (more-behind _ (asked ds n f (entry t s)) _ (lt-ltb (row ds n f (entry t s)).p now first))
+    ∙ levels-reads ds n tick now (suc (suc n)) t k s u f v.front v.levels.ring v.levels.plans is.ahead.levels is.prepared refl refl
+    later.prepared (omega arith)
+    ∙ ap (λ reads. made ++ reads) later.reads
+    ∙ sym (append_assoc made so_far later.rest))
+    ∙ on-closing ds now (made ++ so_far) later.rest f.bus v.port free later.late is.way

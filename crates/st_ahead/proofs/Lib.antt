@@ -1,0 +1,11 @@
+pub mod Openings
+pub mod SameLook
+pub mod OpenLevels
+pub mod Later
+pub mod LevelTicks
+pub mod DoneLooks
+pub mod TickCases
+pub mod Due
+pub mod Further
+pub mod Pushed
+pub mod Turning

@@ -1,0 +1,31 @@
+-- Where the next entry can be known, no level is done alone.
+use Rattle.std.specs.Prelude.{All, Bool, true, false, not}
+use Rattle.std.proofs.Common.{◌≡◌, ℕ, zero, suc, ◌+◌, ◌<◌, ◌≤◌, ◌||◌, ◌==◌, List, [], ◌∷◌, length, Option, None, refl, sym, subst, ◌∙◌, ap, arith}
+use Rattle.std.proofs.lemmas.Bool.{not-true}
+use Rattle.st_state.specs.Machine.{Machine}
+use Rattle.st_prep.specs.Plan.{plan}
+use Rattle.st_rows.specs.Rows.{after}
+use Rattle.st_rows.specs.declared.front.Front.{Front}
+use Rattle.st_ring.specs.declared.level.Level.{Level}
+use Rattle.st_segment.specs.Entries.{entry}
+use Rattle.st_segment.specs.Alone.{RunAhead}
+use Rattle.st_levels.specs.Levels.{LevelsView, AreLevels, AreAhead, AreNotDone}
+use Rattle.st_levels.specs.declared.plans.Plan.{Plan}
+
+-- of one level the front behind it tells whether it is done alone
+one-level : (ds : List ℕ) (n tick : ℕ) (t : Option ℕ) (s : Machine) (f last : Front) (level : Level) (plans : List Plan)
+    → AreLevels ds n tick t s f last (level ∷ []) plans → last.serial ≡ false → (plan s t).serial ≡ false
+unfolding AreLevels after entry
+one-level ds n tick t s f last level [] h alone = absurd h
+one-level ds n tick t s f last level (q ∷ []) h alone = sym (ap (λ (g : Front). g.serial) h.1) ∙ alone
+one-level ds n tick t s f last level (q ∷ r ∷ qs) h alone = absurd h.1
+
+-- several levels run ahead, and one does where the front behind it says so
+pub levels-run : (ds : List ℕ) (n tick : ℕ) (t : Option ℕ) (s : Machine) (f last : Front) (ring : List Level) (plans : List Plan)
+    → AreLevels ds n tick t s f last ring plans → ((length ring == 0) || not last.serial) ≡ true
+    → (2 ≤ length ring → RunAhead (length ring) t s) → RunAhead (length ring) t s
+unfolding RunAhead
+levels-run ds n tick t s f last [] plans h opened more = tt
+levels-run ds n tick t s f last (level ∷ []) plans h opened more =
+    (one-level ds n tick t s f last level plans h (not-true last.serial opened), tt)
+levels-run ds n tick t s f last (level ∷ next ∷ ring) plans h opened more = more (omega arith)

@@ -1,0 +1,149 @@
+-- At the opening of a segment nothing runs ahead.
+use Rattle.std.specs.Prelude.{All, if◌then◌else◌, Bool, true, false}
+use Rattle.std.proofs.Common.{◌≡◌, ℕ, ◌+◌, ◌<◌, ◌≤◌, max, List, [], Option, IfSome, refl, sym, subst, ◌∙◌, ap, arith}
+use Rattle.std.proofs.lemmas.List.{append-nil}
+use Rattle.std.proofs.lemmas.List.Elements.{All-nil, All-replicate}
+use Rattle.st_state.specs.Machine.{Machine, IsMachine}
+use Rattle.st_banks.specs.declared.answers.LastAnswers.{LastAnswers}
+use Rattle.st_prep.specs.Fetch.{index_words, place_of}
+use Rattle.st_rows.specs.Asked.{fetches_asked, words_asked}
+use Rattle.st_rows.specs.Ranges.{IsTight, IsNear, ArePastWithin}
+use Rattle.st_rows.specs.Rows.{opening, fetched, fetch_words}
+use Rattle.st_fetch.specs.declared.fetched.Fetched.{Fetched}
+use Rattle.st_fetch.specs.Planned.{nothing}
+use Rattle.st_rows.specs.Entries.{no_words}
+use Rattle.st_ring.specs.declared.level.Level.{Level}
+use Rattle.st_levels.specs.declared.plans.Plan.{Plan}
+use Rattle.st_rows.specs.declared.entry.Entry.{Entry}
+use Rattle.st_way.proofs.Turned.{on-opened}
+use Rattle.st_rows.specs.declared.front.Front.{Front}
+use Rattle.st_rows.specs.declared.past.Past.{Past}
+use Rattle.st_rows.specs.declared.entry.Run.{Run}
+use Rattle.st_segment.specs.Entries.{entry}
+use Rattle.st_segment.specs.Guesses.{guesses, split_words}
+use Rattle.st_segment.specs.Alone.{RunAhead}
+use Rattle.st_levels.specs.Levels.{LevelsView, AreLevels, AreAhead}
+use Rattle.st_next.specs.Words.{words_so_far, asked_so_far, IsStart, AreFirst}
+use Rattle.st_next.specs.Progress.{IsNext, Rests, Waits, reads_so_far}
+use Rattle.st_next.specs.declared.next.Next.{Next}
+use Rattle.st_ahead.specs.Look.{LookView, IsLook, IsOpened, asked_ahead}
+
+abbrev none : Run
+none = record { first = 0; len = 0 }
+
+-- ---- the front
+
+opening-near : (start : ℕ) (banks : LastAnswers) → All (λ b. b ≤ start + 255) banks.ticks → IsNear 255 (opening banks start).bus
+opening-near start banks early = record {
+  banks = early;
+  held = All-replicate (λ (h : Fetched). h.tick ≤ start + 255) 4 nothing (omega arith);
+}
+
+opening-past : (start : ℕ) (banks : LastAnswers) → ArePastWithin start (opening banks start).past
+opening-past start banks = record {
+  each = All-replicate (λ (entry : Past). entry.c ≤ start) 8 (record { c = 0; writes = no_words }) (omega arith);
+}
+
+opening-tight : (start : ℕ) (banks : LastAnswers) → All (λ b. b ≤ start + 255) banks.ticks → IsTight 255 (opening banks start)
+opening-tight start banks early = record {
+  prepared = omega arith;
+  done = opening-past start banks;
+  free = omega arith;
+  near = opening-near start banks early;
+}
+
+-- ---- no levels
+
+no-levels : (ds : List ℕ) (n tick : ℕ) (t : Option ℕ) (s : Machine) (f last : Front) (v : LevelsView)
+    → v.ring ≡ [] → v.plans ≡ [] → v.x ≡ index_words s → last ≡ f → AreAhead ds n tick t s f last v
+unfolding AreLevels RunAhead split_words
+no-levels ds n tick t s f last v ring plans index front = record {
+  levels = rw (ring, plans) front;
+  index = rw ring index;
+  run_ahead = rw ring tt;
+}
+
+-- ---- no words
+
+no-words : (ds : List ℕ) (f : Front) → words_so_far ds f none none ≡ record { bus = f.bus; answered = 0; awaited = 0 }
+unfolding fetched fetch_words
+no-words ds f = refl
+
+no-reads : (ds : List ℕ) (f : Front) → asked_so_far ds f none none ≡ []
+unfolding fetches_asked words_asked
+no-reads ds f = refl
+
+-- ---- the entry that is prepared next
+
+start-none : (run whole : Run) → run ≡ none → IsStart run whole
+start-none run whole e =
+    let len : run.len ≡ 0 = ap (λ (r : Run). r.len) e in
+    record { few = omega arith; first = λ some. absurd (omega arith); none = λ few. ap (λ (r : Run). r.first) e }
+
+pub first-none : (own target : Run) (e : Entry) → own ≡ none → target ≡ none → AreFirst own target e
+first-none own target e no_own no_target =
+    let len : target.len ≡ 0 = ap (λ (r : Run). r.len) no_target in
+    record {
+      own_start = start-none own e.own no_own;
+      target_start = start-none target e.target no_target;
+      all_own = λ some. absurd (omega arith);
+    }
+
+pub so-far : (ds : List ℕ) (f : Front) (own target : Run) → own ≡ none → target ≡ none
+    → words_so_far ds f own target ≡ record { bus = f.bus; answered = 0; awaited = 0 }
+so-far ds f own target no_own no_target = rw (no_own, no_target) (no-words ds f)
+
+reads-none : (ds : List ℕ) (f : Front) (next : Next) → next.own ≡ none → next.target ≡ none → next.planned ≡ false
+    → reads_so_far ds f next ≡ []
+reads-none ds f next no_own no_target unplanned = rw (no_own, no_target, unplanned) (append-nil _ ∙ no-reads ds f)
+
+next-none : (ds : List ℕ) (n now : ℕ) (t : Option ℕ) (s : Machine) (f : Front) (next : Next) → next.place ≡ place_of s t
+    → next.own ≡ none → next.target ≡ none → next.planned ≡ false
+    → next.words ≡ record { bus = f.bus; answered = 0; awaited = 0 } → now ≤ f.p → f.serial ≡ false
+    → IsNext ds n t s f next × Rests now t s f next
+next-none ds n now t s f next place no_own no_target unplanned words late alone = (
+  record {
+    read_on = record {
+      place = place;
+      first = first-none next.own next.target (entry t s) no_own no_target;
+      words = words ∙ sym (so-far ds f next.own next.target no_own no_target);
+    };
+    planned = rw unplanned tt;
+  },
+  Waits unplanned (omega (arith, late, wanted_if f.serial alone)),
+)
+  where
+    wanted_if : (b : Bool) → b ≡ false → f.p ≤ (if b then max f.p f.c else f.p)
+    wanted_if false e = omega arith
+    wanted_if true e = absurd (cc e)
+
+-- ---- all of it
+
+pub opening-looks : (ds : List ℕ) (n tick now start : ℕ) (t : Option ℕ) (s : Machine) (banks : LastAnswers) (v : LookView)
+    → IsOpened t s (opening banks start) v → IsMachine s → IfSome t (λ i. i < 64)
+    → All (λ b. b ≤ start + 255) banks.ticks → now ≤ start → start ≤ now + 9
+    → IsLook ds n tick now t s (opening banks start) v
+unfolding asked_ahead guesses
+opening-looks ds n tick now start t s banks v is machine some early before soon =
+    let f = opening banks start in
+    let tight = opening-tight start banks early in
+    let front : v.front ≡ f = is.front in
+    let next = next-none ds n now t s f v.next is.place is.own is.target is.planned is.words before refl in
+    let reads = reads-none ds v.front v.next is.own is.target is.planned in
+    record {
+      machine = machine;
+      indicator = some;
+      ahead = no-levels ds n tick t s f v.front v.levels is.ring is.plans is.index front;
+      prepared = rw is.ring (All-nil (λ (level : Level). level.p < now));
+      not_done = rw is.plans (All-nil (λ (q : Plan). tick < q.c));
+      oldest = tight;
+      tight = subst (IsTight 255) (sym front) tight;
+      start = soon;
+      early = rw (is.ring, front) (omega (arith, soon));
+      next = rw (is.ring, front) next;
+      late = λ planned. absurd (cc (sym is.planned ∙ planned));
+      way = rw (is.ring, reads, is.port) (on-opened ds now f.bus);
+      room = rw (is.port, is.planned, is.own, is.target) (omega arith);
+      near = rw is.port tight.near;
+      free = rw is.port (omega (arith, before));
+    }

@@ -1,0 +1,73 @@
+use Rattle.std.proofs.Common.{◌≡◌, ℕ, ◌+◌, ◌<◌, ◌≤◌, true, List, Option, refl, sym, subst, ◌∙◌, ap, arith}
+use Rattle.st_prep.specs.declared.entries.Prepared.{Prepared}
+use Rattle.st_prep.specs.Plan.{plan}
+use Rattle.st_rows.specs.Rows.{row, after, fills, tick_p}
+use Rattle.st_rows.specs.declared.entry.Entry.{Entry}
+use Rattle.st_rows.specs.declared.front.Front.{Front}
+use Rattle.st_rows.specs.declared.front.Row.{Row}
+use Rattle.st_rows.proofs.Within.{AreDelays-list}
+use Rattle.st_segment.specs.Entries.{entry}
+use Rattle.st_segment.specs.Guesses.{guesses, table_behind}
+use Rattle.st_levels.specs.Levels.{AreAhead}
+use Rattle.st_next.specs.Known.{IsBefore}
+use Rattle.st_ahead.specs.Look.{LookView, count}
+use Rattle.st_ahead.specs.Going.{IsGoing}
+use Rattle.st_ahead.proofs.Due.{row-p, after-p}
+use Rattle.st_ahead.proofs.Pushed.{going-pushed}
+use Rattle.st_ahead.proofs.look.Look.push.Goals as goal
+
+pub returns-clause-prepared : goal.returns-clause-prepared
+returns-clause-prepared g c =
+    let ds = c.args.delays.now in
+    let n = g.row.N in
+    let now = c.args.now in
+    let t = c.requires.going.table in
+    let s = c.args.state.now in
+    let f = c.requires.going.front in
+    let view : LookView = record { levels = c.self.inside.levels; front = c.self.inside.front; port = c.self.inside.port; next = c.self.inside.next } in
+    let is = subst (λ (w : LookView). IsGoing ds n now (now + 1) t s f w) (sym c.self.view_is) c.requires.going.going in
+    let planned : view.next.planned ≡ true = ap (λ (w : LookView). w.next.planned) c.self.view_is ∙ c.requires.planned in
+    let due : view.next.formed.p ≡ now = ap (λ (w : LookView). w.next.formed.p) c.self.view_is ∙ c.requires.due in
+    let becomes = c.planned_entries_become_levels.ensures ds n now t s f view c.requires.some c.requires.few
+    (AreDelays-list ds c.shape.ensures) (omega (arith, c.len-few.ensures.value, c.len-few.ensures.within)) c.requires.early is planned due in
+    ap (λ (x : Front). x.p) c.complete-filled.ensures.after ∙ after-p ds n view.front view.next.entry ∙ sym becomes.tick ∙ due
+
+pub returns-clause-going : goal.returns-clause-going
+returns-clause-going g c = λ t f given.
+    let ds = c.args.delays.now in
+    let n = g.row.N in
+    let now = c.args.now in
+    let s = c.args.state.now in
+    let view : LookView = record { levels = c.self.inside.levels; front = c.self.inside.front; port = c.self.inside.port; next = c.self.inside.next } in
+    let is = subst (λ (w : LookView). IsGoing ds n now (now + 1) t s f w) (sym c.self.view_is) given in
+    let planned : view.next.planned ≡ true = ap (λ (w : LookView). w.next.planned) c.self.view_is ∙ c.requires.planned in
+    let due : view.next.formed.p ≡ now = ap (λ (w : LookView). w.next.formed.p) c.self.view_is ∙ c.requires.due in
+    let are = AreDelays-list ds c.shape.ensures in
+    let becomes = c.planned_entries_become_levels.ensures ds n now t s f view c.requires.some c.requires.few
+    are (omega (arith, c.len-few.ensures.value, c.len-few.ensures.within)) c.requires.early is planned due in
+    let k = table_behind (count view) t in
+    let u = guesses (count view) t s in
+    let x = view.next.entry in
+    let new : LookView = record { levels = c.push.new.self; front = c.complete-filled.new.self; port = c.ask_data.new.port; next = c.new-self-inside.result } in
+    let filled = c.complete-filled.result in
+    let same : x ≡ entry k u = becomes.same in
+    let serial : (entry k u).serial ≡ true → u ≡ s = λ alone. becomes.alone (ap (λ (e : Entry). e.serial) same ∙ alone) in
+    let before = subst (λ (words : List ℕ). IsBefore now view.front.past words s u) (sym c.index.ensures) becomes.before in
+    let plan_is : c.prepare-prepared.result ≡ plan u k =
+    c.prepare-prepared.ensures.value ds n now view.front k u becomes.indicator before becomes.is_next (sym due) serial in
+    let row_is : filled.row ≡ row ds n view.front x = c.complete-filled.ensures.value in
+    let p_is : filled.row.p ≡ now = ap (λ (r : Row). r.p) row_is ∙ row-p ds n view.front x ∙ sym becomes.tick ∙ due in
+    let ready : (row ds n view.front x).p ≤ (row ds n view.front x).r = c.rows_are_in_order.ensures.ready ds n view.front x in
+    let done : (row ds n view.front x).r < (row ds n view.front x).c = (c.rows_are_in_order.ensures.done ds n view.front x becomes.range).0 in
+    let late : now < filled.row.c = omega (arith, ready, done, p_is, ap (λ (r : Row). r.p) row_is, ap (λ (r : Row). r.c) row_is) in
+    let front : new.front ≡ after ds n view.front x = c.complete-filled.ensures.after in
+    let pushed = c.push.ensures.ahead ds n now 255 t s f view.front are is.machine is.indicator is.ahead becomes.run refl (sym p_is) plan_is
+    (row_is ∙ ap (row ds n view.front) same) (c.complete-filled.ensures.fills ∙ ap (fills ds n view.front) same) (λ alone. sym (serial alone)) in
+    let ahead = subst (λ (h : Front). AreAhead ds n now t s f h new.levels) (ap (after ds n view.front) (sym same) ∙ sym front) pushed in
+    going-pushed ds n now t s f view new _ c.prepare-prepared.result is becomes planned due c.push.ensures.ring p_is
+    (c.push.ensures.not_done now is.not_done late) ahead front c.complete-filled.ensures.tight c.complete-filled.ensures.bound plan_is
+    (λ i y place. c.new-self-inside.ensures.next ds n i y (c.place_behind.ensures ∙ place))
+    (λ i y from. c.new-self-inside.ensures.rests now i y from)
+    c.new-self-inside.ensures.unplanned c.new-self-inside.ensures.own c.new-self-inside.ensures.target c.new-self-inside.ensures.words
+    (c.new-self-inside.ensures.reads ds) c.new-self-inside.ensures.none
+    c.ask_data.ensures.bus (c.ask_data.ensures.reads ds) c.ask_data.ensures.few (c.guesses_leave_the_rest.ensures.counter (count view) t s)

@@ -1,0 +1,103 @@
+-- What the calls of an overlapped machine make of what it stands for, and what they answer.
+use Rattle.std.specs.Prelude.{ℕ, ◌≡◌, ◌+◌, ◌==◌, Bool, true, false, if◌then◌else◌, List, length, Option, None, Some}
+use Rattle.st_banks.specs.declared.answers.LastAnswers.{LastAnswers}
+use Rattle.st_state.specs.Interrupts.{signalled}
+use Rattle.st_prep.specs.Plan.{plan}
+use Rattle.st_exec.specs.Completion.{executed, is_missed}
+use Rattle.st_exec.specs.Step.{rests}
+use Rattle.st_rows.specs.Rows.{opening, after}
+use Rattle.st_ahead.specs.Overlap.{Overlap, oldest, oldest_row, levels_of, banks_at_its_end, interrupt_due}
+use Rattle.st_ahead.specs.declared.events.Row.{Row}
+use Rattle.st_ahead.specs.declared.events.Event.{Event}
+use Rattle.st_ahead.specs.declared.events.Event.TheVariants.{Passed, Done}
+use Rattle.st_ahead.specs.declared.events.Settled.{Settled}
+use Rattle.st_ahead.specs.declared.events.Settled.TheVariants.{Goes, Interrupt, Missed, Waits}
+
+-- ---- a tick
+
+-- an entry is done at this tick
+abbrev pub is_done : Overlap → Bool
+is_done m = (oldest_row m).c == m.now
+
+-- its row
+abbrev pub row_done : Overlap → Row
+row_done m = record {
+  number = m.state.done + 1;
+  address = (plan m.state m.taken).place.address;
+  p = (oldest_row m).p;
+  r = (oldest_row m).r;
+  c = m.now;
+}
+
+-- the counter of the guess, where that was wrong
+abbrev pub missed_counter : Overlap → Option ℕ
+missed_counter m =
+    if is_missed (plan m.state m.taken) m.state then Some (plan m.state m.taken).following else None
+
+-- the machine once it is done
+unfoldable pub completed : Overlap → Overlap
+completed m = record m {
+  state = executed m.taken m.state;
+  taken = None;
+  behind = missed_counter m;
+  front = after m.delays m.levels m.front (oldest m);
+  owed = true;
+  closing = Some (banks_at_its_end m);
+}
+
+unfoldable pub ticked : Overlap → Overlap
+ticked m = if is_done m then completed m else record m { owed = true; closing = None }
+
+abbrev pub IsEvent : Overlap → Event → Type 0
+IsEvent m Passed = is_done m ≡ false
+IsEvent m (Done row) = (is_done m ≡ true) × (row ≡ row_done m)
+
+-- ---- the end of a segment
+
+-- how many levels are dropped
+unfoldable pub dropped : Overlap → ℕ
+dropped m = if m.ended then 0 else length (levels_of m)
+
+abbrev pub banks_left : Overlap → Option LastAnswers → LastAnswers
+banks_left m (Some banks) = banks
+banks_left m None = m.front.bus.banks
+
+-- the machine at the front of the next segment
+unfoldable pub ended : Overlap → Overlap
+ended m =
+    if m.ended then m
+    else record m {
+      front = opening (banks_left m m.closing) (m.now + 1 + length (levels_of m));
+      ended = true;
+    }
+
+-- ---- the decision about interrupts
+
+-- the tick is settled
+abbrev pub passed : Overlap → Overlap
+passed m = record m { owed = false; ended = false; behind = None; closing = None; now = m.now + 1 }
+
+abbrev pub settled_by : Option ℕ → Bool → Option ℕ → Overlap → Overlap
+settled_by (Some i) at_rest behind m = passed (record (ended m) { taken = Some i })
+settled_by None true behind m = ended m
+settled_by None false (Some h) m = passed (ended m)
+settled_by None false None m = passed m
+
+abbrev pub answer_by : Option ℕ → Bool → Option ℕ → Overlap → Settled
+answer_by (Some i) at_rest behind m = Interrupt i m.state.done m.state.ic (dropped m)
+answer_by None true behind m = Waits
+answer_by None false (Some h) m = Missed (dropped m)
+answer_by None false None m = Goes
+
+-- an interrupt is taken, or the machine waits, or a branch was missed, or it goes on
+unfoldable pub settled : Overlap → Overlap
+settled m = settled_by (interrupt_due m) (rests m.state) m.behind m
+
+unfoldable pub answer : Overlap → Settled
+answer m = answer_by (interrupt_due m) (rests m.state) m.behind m
+
+-- ---- from outside
+
+-- a signal comes
+abbrev pub signalled_by : ℕ → Overlap → Overlap
+signalled_by i m = record m { state = signalled m.state i }

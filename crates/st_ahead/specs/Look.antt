@@ -1,0 +1,86 @@
+-- What a machine keeps of what runs ahead: its levels, the front behind them, the reads, and the entry that is prepared next.
+use Rattle.std.specs.Prelude.{ℕ, zero, suc, ◌≡◌, ◌+◌, ◌*◌, ◌≤◌, ◌<◌, max, Bool, true, false, not, ◌||◌, ◌==◌, List, [], ◌++◌, length, All, Option, None, IfSome}
+use Rattle.st_state.specs.Machine.{Machine, IsMachine}
+use Rattle.st_prep.specs.Fetch.{index_words, place_of}
+use Rattle.st_exec.specs.Completion.{guess}
+use Rattle.st_rows.specs.Rows.{after}
+use Rattle.st_rows.specs.Ranges.{IsTight, IsNear}
+use Rattle.st_rows.specs.Asked.{Read, asked}
+use Rattle.st_rows.specs.declared.front.Front.{Front}
+use Rattle.st_segment.specs.Entries.{entry}
+use Rattle.st_segment.specs.Guesses.{guesses, table_behind}
+use Rattle.st_port.specs.Making.{PortView}
+use Rattle.st_way.specs.Way.{IsOnTheWay}
+use Rattle.st_levels.specs.Levels.{LevelsView, AreAhead, AreNotDone}
+use Rattle.st_next.specs.Going.{known_count}
+use Rattle.st_next.specs.Progress.{IsNext, Rests, reads_so_far}
+use Rattle.st_next.specs.declared.next.Next.{Next}
+
+-- what is seen of it
+pub record LookView : Type 0 where
+  pub levels : LevelsView
+  pub front : Front
+  pub port : PortView
+  pub next : Next
+
+-- the reads of the next k entries
+unfoldable pub asked_ahead : List ℕ → ℕ → ℕ → Option ℕ → Machine → Front → List Read
+asked_ahead ds n zero t s f = []
+asked_ahead ds n (suc k) t s f =
+    asked ds n f (entry t s) ++ asked_ahead ds n k None (guess t s) (after ds n f (entry t s))
+
+-- the entry that is prepared next can be known: the youngest level is not done alone
+abbrev pub is_open : LookView → Bool
+is_open v = (length v.levels.ring == 0) || not v.front.serial
+
+-- how many levels there are
+abbrev pub count : LookView → ℕ
+count v = length v.levels.ring
+
+-- it is the next entry behind the levels; behind a level that is done alone nothing is known of it
+abbrev pub IsNextIf : Bool → List ℕ → ℕ → ℕ → Option ℕ → Machine → LookView → Type 0
+IsNextIf true ds n now t s v =
+    IsNext ds n (table_behind (count v) t) (guesses (count v) t s) v.front v.next
+    × Rests now (table_behind (count v) t) (guesses (count v) t s) v.front v.next
+IsNextIf false ds n now t s v =
+    (v.next.planned ≡ false) × (v.next.own ≡ record { first = 0; len = 0 }) × (v.next.target ≡ record { first = 0; len = 0 })
+    × (v.next.words ≡ record { bus = v.front.bus; answered = 0; awaited = 0 })
+
+-- What runs ahead of the state s, behind the front f of the oldest entry that is not done; t says whether that is a table instruction. Entries that
+-- are prepared before `now` are levels, and those are not done at `tick` or before it.
+pub record IsLook (ds : List ℕ) (n tick now : ℕ) (t : Option ℕ) (s : Machine) (f : Front) (v : LookView) : Type 0 where
+  pub machine : IsMachine s
+  pub indicator : IfSome t (λ i. i < 64)
+  pub ahead : AreAhead ds n tick t s f v.front v.levels
+  pub prepared : All (λ level. level.p < now) v.levels.ring
+  pub not_done : AreNotDone tick v.levels
+  pub oldest : IsTight 255 f
+  pub tight : IsTight 255 v.front
+  pub start : f.c ≤ now + 9
+  pub early : v.front.c ≤ now + 9 + 16576 * count v
+  pub next : IsNextIf (is_open v) ds n now t s v
+  pub late : v.next.planned ≡ true → now ≤ v.next.formed.p
+  pub way : IsOnTheWay ds now (asked_ahead ds n (count v) t s f ++ reads_so_far ds v.front v.next) f.bus v.port
+  pub room : length v.port.reads + 5 ≤ 40 + known_count v.next
+  pub near : IsNear 255 v.port.bus
+  pub free : v.port.bus.free ≤ max now f.c
+
+-- there is such a state and such a front
+pub record Looks (ds : List ℕ) (n tick now : ℕ) (v : LookView) : Type 0 where
+  pub table : Option ℕ
+  pub state : Machine
+  pub front : Front
+  pub look : IsLook ds n tick now table state front v
+
+-- nothing runs ahead yet, at the opening of a segment
+pub record IsOpened (t : Option ℕ) (s : Machine) (f : Front) (v : LookView) : Type 0 where
+  pub ring : v.levels.ring ≡ []
+  pub plans : v.levels.plans ≡ []
+  pub index : v.levels.x ≡ index_words s
+  pub front : v.front ≡ f
+  pub port : v.port ≡ record { bus = f.bus; reads = [] }
+  pub place : v.next.place ≡ place_of s t
+  pub own : v.next.own ≡ record { first = 0; len = 0 }
+  pub target : v.next.target ≡ record { first = 0; len = 0 }
+  pub planned : v.next.planned ≡ false
+  pub words : v.next.words ≡ record { bus = f.bus; answered = 0; awaited = 0 }

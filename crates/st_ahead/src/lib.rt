@@ -1,0 +1,15 @@
+//! The overlapped machine: entries run ahead of the state, tick by tick, and what is seen is as if they were done one at a time.
+//! `docs/timetable.md` has the rules.
+#![tactic(auto, using(st_bits::specs::Storage::words_of_storage_is))]
+
+mod events;
+mod going_laws;
+mod look;
+mod look_going;
+mod look_laws;
+mod look_tick;
+
+pub use events::{Event, LevelView, Row, Settled, View};
+pub use going_laws::{next_entries_are_known, open_levels_run_ahead};
+pub use look::Look;
+pub use look_laws::{looks_are_levels, openings_look, signals_leave_looks, the_banks_are_left};

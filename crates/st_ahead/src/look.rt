@@ -1,0 +1,82 @@
+//! What runs ahead of a state: levels, the front behind them, reads, and the entry that is prepared next.
+ghost use Rattle.std.specs.Prelude.{◌≡◌, ℕ, ◌+◌, ◌*◌, ◌<◌, ◌≤◌, ◌-◌, ◌^◌, length, true, false, Option, None, Some, IfSome, All, List};
+ghost use Rattle.st_state.specs.Machine.{Machine, IsMachine};
+ghost use Rattle.st_prep.specs.Fetch.{index_words as index_words_of};
+ghost use Rattle.st_rows.specs.Ranges.{IsNear};
+ghost use Rattle.st_rows.specs.Rows.{opening};
+ghost use Rattle.st_rows.specs.declared.front.Front.{Front as FrontOf};
+
+use st_banks::{Delays, LastAnswers};
+use st_levels::{Completed, Levels};
+use st_next::{Next, Outlook};
+use st_port::Port;
+use st_prep::{Place, Prepared, index_words, place_of};
+use st_rows::Front;
+use st_state::State;
+use std::marker::Model;
+
+/// What runs ahead of a state.
+#[derive(Drop)]
+pub struct Look<const N: usize> {
+    /// The entries that are prepared and not done, and the index words that they change.
+    pub levels: Levels<N>,
+    /// The front behind them.
+    pub front: Front,
+    /// The reads that are made, and those that are asked for.
+    pub port: Port,
+    /// The entry that is prepared next.
+    pub next: Next,
+}
+
+impl<const N: usize> Model for Look<N> {
+    ghost use Rattle.st_ahead.specs.Look.{LookView};
+
+    ghost Value = { LookView };
+
+    ghost view = { λ look. record { levels = look.levels; front = look.front; port = look.port; next = look.next } };
+}
+
+impl<const N: usize> Look<N> {
+    ghost use Rattle.st_ahead.specs.Look.{IsLook, IsOpened, count};
+
+    /// Nothing runs ahead yet in a segment that starts at the tick `start`, at most 2^64 - 1,024, where the banks have these last answers; `table` is
+    /// the indicator whose interrupt was taken, if its table instruction comes first.
+    pub fn new(state: &State, table: Option<u8>, banks: LastAnswers, start: u64) -> Look<N>
+        requires some { 1 ≤ N }
+        requires few { N ≤ 8 }
+        requires indicator { IfSome table (λ i. i < 64) }
+        requires early { start ≤ 2 ^ 64 - 1024 }
+        requires banks { All (λ t. t ≤ start + 255) banks.ticks }
+        ensures { IsOpened table state.now (opening banks start) result }
+    {
+        let front = Front::new(banks, start);
+        Look {
+            levels: Levels::new(index_words(state)),
+            front,
+            port: Port::new(banks, start),
+            next: Next::new(place_of(state, table), &front),
+        }
+    }
+
+    /// The segment ends at the tick `now`: nothing runs ahead any more, and the index words are those of the state. The next segment starts one
+    /// tick later, and one more for each level that is dropped; the banks keep their last answers. The result is the number of levels dropped.
+    pub fn end(&mut self, state: &State, table: Option<u8>, now: u64) -> u8
+        requires indicator { IfSome table (λ i. i < 64) }
+        requires early { now ≤ 2 ^ 64 - 2048 }
+        requires free { self.old.port.bus.free ≤ now }
+        requires near { IsNear 255 self.old.port.bus }
+        ensures dropped { result ≡ count self.old }
+        ensures banks { All (λ b. b ≤ now + 1 + count self.old + 255) self.old.port.bus.banks.ticks }
+        ensures opened { (ds : List ℕ) (tick : ℕ) (t : Option ℕ) (s : Machine) (f : FrontOf) →
+            IsLook ds N tick now t s f self.old → index_words_of s ≡ index_words_of state.now →
+            IsOpened table state.now (opening self.old.port.bus.banks (now + 1 + count self.old)) self.new }
+    {
+        let banks = self.port.bus().banks;
+        let dropped = self.levels.undo();
+        let start = now + 1 + u64::from(dropped);
+        self.front = Front::new(banks, start);
+        self.port = Port::new(banks, start);
+        self.next = Next::new(place_of(state, table), &self.front);
+        dropped
+    }
+}

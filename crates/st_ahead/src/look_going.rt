@@ -1,0 +1,146 @@
+//! What runs ahead goes on by one tick: the next entry is known further, becomes a level when it is prepared, and a read is made.
+ghost use Rattle.std.specs.Prelude.{◌≡◌, ℕ, ◌+◌, ◌<◌, ◌≤◌, ◌^◌, true, Option, None, List, [], ◌++◌, length};
+ghost use Rattle.st_rows.specs.Asked.{following_asked};
+ghost use Rattle.st_rows.specs.Ranges.{IsEntry};
+ghost use Rattle.st_rows.specs.declared.front.Front.{Front as FrontOf};
+ghost use Rattle.st_port.specs.Parts.{runs_asked};
+
+use crate::going_laws::{
+    next_entries_are_known, open_levels_run_ahead, planned_entries_become_levels,
+};
+use crate::look::Look;
+use st_banks::Delays;
+use st_next::{Next, Outlook};
+use st_port::Port;
+use st_prep::{Place, Prepared};
+use st_rows::{Bus, Entry, Past, rows_are_in_order};
+use st_segment::guesses_leave_the_rest;
+use st_state::State;
+
+impl<const N: usize> Look<N> {
+    ghost use Rattle.st_ahead.specs.Look.{IsLook};
+    ghost use Rattle.st_ahead.specs.Going.{IsGoing, Goes};
+
+    /// The next entry is known as far as the tick `now` allows.
+    pub(crate) fn advance(&mut self, now: u64, state: &State, delays: &Delays)
+        requires some { 1 ≤ N }
+        requires few { N ≤ 8 }
+        requires early { now < 2 ^ 63 }
+        requires going { Goes delays.now N now now state.now self.old }
+        ensures going { (t : Option ℕ) (f : FrontOf) → IsGoing delays.now N now now t state.now f self.old →
+            IsGoing delays.now N now (now + 1) t state.now f self.new }
+        ensures levels { self.new.levels ≡ self.old.levels }
+        ensures front { self.new.front ≡ self.old.front }
+    {
+        next_entries_are_known();
+        open_levels_run_ahead();
+        rows_are_in_order();
+        let _few = self.levels.len();
+        if self.front.wanted_from() > now {
+            return;
+        }
+        let outlook = Outlook {
+            tick: now,
+            levels: N,
+            front: &self.front,
+            x: self.levels.index(),
+        };
+        self.next.advance(&outlook, state, delays, &mut self.port);
+    }
+
+    /// The next entry becomes a level at the tick `now`, its P.
+    pub(crate) fn push(&mut self, now: u64, state: &State, delays: &Delays)
+        requires some { 1 ≤ N }
+        requires few { N ≤ 8 }
+        requires early { now < 2 ^ 63 }
+        requires going { Goes delays.now N now (now + 1) state.now self.old }
+        requires planned { self.old.next.planned ≡ true }
+        requires due { self.old.next.formed.p ≡ now }
+        ensures going { (t : Option ℕ) (f : FrontOf) →
+            IsGoing delays.now N now (now + 1) t state.now f self.old →
+            IsGoing delays.now N now now t state.now f self.new }
+        ensures prepared { self.new.front.p ≡ now }
+    {
+        planned_entries_become_levels();
+        guesses_leave_the_rest();
+        rows_are_in_order();
+        delays.shape();
+        let _few = self.levels.len();
+        let before = self.front;
+        let entry = self.next.entry;
+        let formed = self.next.formed;
+        let mut x = *self.levels.index();
+        let prepared = self.next.prepare(&mut x, state);
+        let filled = self.front.complete(delays, N, &entry, formed);
+        ask_data(&mut self.port, &before.past, &entry, &formed.bus, now);
+        self.next = Next::new(place_behind(&prepared), &self.front);
+        self.levels.push(prepared, &before, &filled, state);
+    }
+
+    /// The next entry is known further, and becomes a level where this is its P. What is planned behind it is prepared later.
+    fn settle(&mut self, now: u64, state: &State, delays: &Delays)
+        requires some { 1 ≤ N }
+        requires few { N ≤ 8 }
+        requires early { now < 2 ^ 63 }
+        requires going { Goes delays.now N now now state.now self.old }
+        ensures going { (t : Option ℕ) (f : FrontOf) →
+            IsGoing delays.now N now now t state.now f self.old →
+            IsGoing delays.now N now (now + 1) t state.now f self.new }
+        ensures later { self.new.next.planned ≡ true → now < self.new.next.formed.p }
+    {
+        self.advance(now, state, delays);
+        if !self.next.planned {
+            return;
+        }
+        if self.next.formed.p != now {
+            return;
+        }
+        self.push(now, state, delays);
+        self.advance(now, state, delays);
+    }
+
+    /// Goes on at the tick `now`, which is below 2^63 and whose entry, if one is done at it, is executed: the next entry is known further, or becomes a
+    /// level, and a read is made.
+    pub fn go_on(&mut self, now: u64, state: &State, delays: &Delays)
+        requires some { 1 ≤ N }
+        requires few { N ≤ 8 }
+        requires early { now < 2 ^ 63 }
+        requires going { Goes delays.now N now now state.now self.old }
+        ensures { (t : Option ℕ) (f : FrontOf) →
+            IsGoing delays.now N now now t state.now f self.old →
+            IsLook delays.now N now (now + 1) t state.now f self.new }
+    {
+        delays.shape();
+        self.settle(now, state, delays);
+        self.port.serve(delays, now);
+    }
+}
+
+/// Asks for the operands and the following words of an entry that is prepared at this tick, where no read is left; `bus` is the one after its
+/// index-side word.
+fn ask_data(port: &mut Port, past: &[Past; 8], entry: &Entry, bus: &Bus, now: u64)
+    requires entry { IsEntry entry.now }
+    requires made { port.old.reads ≡ [] }
+    ensures reads { (ds : List ℕ) → port.new.reads ≡ port.old.reads
+        ++ (runs_asked past.now entry.now.reads now ++ following_asked ds bus.now entry.now now) }
+    ensures bus { port.new.bus ≡ port.old.bus }
+    ensures few { length port.new.reads ≤ 34 }
+{
+    port.ask_operands(past, entry.reads, now);
+    port.ask_following(bus, entry, now);
+}
+
+/// The place behind an entry, by the counter that it is guessed to leave.
+fn place_behind(prepared: &Prepared) -> Place
+    ensures { result ≡ record {
+      counter = prepared.now.following;
+      address = prepared.now.following;
+      table = None;
+    } }
+{
+    Place {
+        counter: prepared.following,
+        address: prepared.following,
+        table: None,
+    }
+}
