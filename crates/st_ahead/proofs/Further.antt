@@ -1,6 +1,6 @@
 -- The next entry is known further at a tick, behind levels that are not done.
-use Rattle.std.specs.Prelude.{All, IfSome, if◌then◌else◌, ◌==◌, ◌*◌, ◌^◌}
-use Rattle.std.proofs.Common.{◌≡◌, ℕ, zero, ◌+◌, ◌<◌, ◌≤◌, ◌||◌, suc, max, Bool, true, false, not, List, [], ◌∷◌, ◌++◌, append_assoc, length, Option, None, refl, sym, subst, ◌∙◌, ap, ap₂, arith}
+use Rattle.std.specs.Prelude.{All, if◌then◌else◌, ◌==◌, ◌^◌}
+use Rattle.std.proofs.Common.{◌≡◌, ℕ, zero, ◌+◌, ◌<◌, ◌≤◌, ◌||◌, suc, max, Bool, true, false, not, List, [], ◌∷◌, ◌++◌, append_assoc, length, Option, refl, sym, subst, ◌∙◌, ap, arith}
 use Rattle.std.proofs.lemmas.List.Elements.{All-head}
 use Rattle.st_state.specs.Machine.{Machine}
 use Rattle.st_rows.specs.Asked.{Read}
@@ -21,7 +21,7 @@ use Rattle.st_levels.proofs.LevelLemmas.{levels-beside}
 use Rattle.st_levels.proofs.OrderLemmas.{done-order}
 use Rattle.st_next.specs.Known.{IsBefore}
 use Rattle.st_next.specs.Going.{IsFront, GoesOn, AreAskedMore, known_count}
-use Rattle.st_next.specs.Progress.{IsNext, IsPlanned, IsPlannedIf, IsKnown, Rests, Planned, Waits, Target, wanted_next, reads_so_far}
+use Rattle.st_next.specs.Progress.{IsNext, IsPlanned, IsPlannedIf, IsKnown, Rests, Planned, Waits, Target, reads_so_far}
 use Rattle.st_next.specs.declared.next.Next.{Next}
 use Rattle.st_ahead.specs.Look.{LookView, IsNextIf, count, is_open, asked_ahead}
 use Rattle.st_ahead.specs.Going.{IsGoing}

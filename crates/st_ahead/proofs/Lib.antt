@@ -5,7 +5,13 @@ pub mod Later
 pub mod LevelTicks
 pub mod DoneLooks
 pub mod TickCases
-pub mod Due
+pub mod Standing
+pub mod Settling
+pub mod Signals
+pub mod Showing
 pub mod Further
+pub mod Due
 pub mod Pushed
 pub mod Turning
+pub mod Cards
+pub mod Views

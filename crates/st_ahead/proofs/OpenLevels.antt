@@ -1,6 +1,6 @@
 -- Where the next entry can be known, no level is done alone.
-use Rattle.std.specs.Prelude.{All, Bool, true, false, not}
-use Rattle.std.proofs.Common.{◌≡◌, ℕ, zero, suc, ◌+◌, ◌<◌, ◌≤◌, ◌||◌, ◌==◌, List, [], ◌∷◌, length, Option, None, refl, sym, subst, ◌∙◌, ap, arith}
+use Rattle.std.specs.Prelude.{true, false, not}
+use Rattle.std.proofs.Common.{◌≡◌, ℕ, ◌≤◌, ◌||◌, ◌==◌, List, [], ◌∷◌, length, Option, sym, ◌∙◌, ap, arith}
 use Rattle.std.proofs.lemmas.Bool.{not-true}
 use Rattle.st_state.specs.Machine.{Machine}
 use Rattle.st_prep.specs.Plan.{plan}
@@ -9,7 +9,7 @@ use Rattle.st_rows.specs.declared.front.Front.{Front}
 use Rattle.st_ring.specs.declared.level.Level.{Level}
 use Rattle.st_segment.specs.Entries.{entry}
 use Rattle.st_segment.specs.Alone.{RunAhead}
-use Rattle.st_levels.specs.Levels.{LevelsView, AreLevels, AreAhead, AreNotDone}
+use Rattle.st_levels.specs.Levels.{AreLevels}
 use Rattle.st_levels.specs.declared.plans.Plan.{Plan}
 
 -- of one level the front behind it tells whether it is done alone

@@ -1,6 +1,6 @@
 -- At the opening of a segment nothing runs ahead.
 use Rattle.std.specs.Prelude.{All, if◌then◌else◌, Bool, true, false}
-use Rattle.std.proofs.Common.{◌≡◌, ℕ, ◌+◌, ◌<◌, ◌≤◌, max, List, [], Option, IfSome, refl, sym, subst, ◌∙◌, ap, arith}
+use Rattle.std.proofs.Common.{◌≡◌, ℕ, ◌+◌, ◌-◌, ◌<◌, ◌≤◌, max, List, [], Option, IfSome, refl, sym, subst, ◌∙◌, ap, arith}
 use Rattle.std.proofs.lemmas.List.{append-nil}
 use Rattle.std.proofs.lemmas.List.Elements.{All-nil, All-replicate}
 use Rattle.st_state.specs.Machine.{Machine, IsMachine}
@@ -116,6 +116,10 @@ next-none ds n now t s f next place no_own no_target unplanned words late alone 
     wanted_if : (b : Bool) → b ≡ false → f.p ≤ (if b then max f.p f.c else f.p)
     wanted_if false e = omega arith
     wanted_if true e = absurd (cc e)
+
+room-left : (b : Bool) (k : ℕ) → b ≡ false → (if b then 0 else 5 - k) ≤ 40
+room-left false k e = omega arith
+room-left true k e = absurd (cc e)
 
 -- ---- all of it
 

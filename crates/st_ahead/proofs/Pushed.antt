@@ -1,6 +1,6 @@
 -- What runs ahead once the next entry is a level.
-use Rattle.std.specs.Prelude.{All, IfSome, if◌then◌else◌, nat_lt, ◌==◌, ◌*◌, ◌^◌}
-use Rattle.std.proofs.Common.{◌≡◌, ℕ, zero, suc, ◌+◌, ◌<◌, ◌≤◌, ◌||◌, max, Bool, true, false, not, List, [], ◌∷◌, ◌++◌, append_assoc, length-append, length, Option, None, Some, refl, sym, subst, ◌∙◌, ap, ap₂, arith}
+use Rattle.std.specs.Prelude.{All, if◌then◌else◌, nat_lt, ◌==◌}
+use Rattle.std.proofs.Common.{◌≡◌, ℕ, zero, suc, ◌+◌, ◌≤◌, ◌||◌, max, Bool, true, false, not, List, [], ◌∷◌, ◌++◌, length-append, length, Option, None, Some, refl, sym, subst, ◌∙◌, ap, arith}
 use Rattle.std.proofs.lemmas.List.{append-nil}
 use Rattle.std.proofs.lemmas.List.Elements.{All-append, All-weaker, All-cons, All-nil}
 use Rattle.st_state.specs.Machine.{Machine}
@@ -8,10 +8,9 @@ use Rattle.st_bits.specs.Storage.{words_of_storage}
 use Rattle.st_fetch.specs.Planned.{tick_of}
 use Rattle.st_prep.specs.Fetch.{place_of}
 use Rattle.st_prep.specs.Plan.{plan}
-use Rattle.st_prep.specs.declared.entries.Place.{Place}
 use Rattle.st_prep.specs.declared.entries.Prepared.{Prepared}
 use Rattle.st_prep.proofs.GivenLemmas.{differs}
-use Rattle.st_rows.specs.Asked.{Read, asked, word_asked, inside_asked, following_asked, data_asked, operands_asked}
+use Rattle.st_rows.specs.Asked.{Read, asked, word_asked, inside_asked, following_asked, operands_asked}
 use Rattle.st_rows.specs.Ranges.{IsTight, IsNear}
 use Rattle.st_rows.specs.Rows.{after, operands, request_inside, is_forwarded, wanted_from, bus_a, tick_p}
 use Rattle.st_rows.specs.declared.bus.Bus.{Bus}
@@ -19,7 +18,6 @@ use Rattle.st_rows.specs.declared.entry.Entry.{Entry}
 use Rattle.st_rows.specs.declared.entry.Runs.{Runs}
 use Rattle.st_rows.specs.declared.front.Front.{Front}
 use Rattle.st_rows.specs.declared.past.Past.{Past}
-use Rattle.st_port.specs.Making.{PortView}
 use Rattle.st_port.specs.Parts.{runs_asked}
 use Rattle.st_ring.specs.declared.level.Level.{Level}
 use Rattle.st_segment.specs.Entries.{entry}
@@ -30,7 +28,6 @@ use Rattle.st_way.proofs.Wanted.{two-parts, at-prepared, following-held, held-op
 use Rattle.st_levels.specs.Levels.{AreAhead, AreNotDone}
 use Rattle.st_next.specs.Going.{known_count}
 use Rattle.st_next.specs.Progress.{IsNext, IsPlanned, IsPlannedIf, Rests, reads_so_far}
-use Rattle.st_next.specs.declared.next.Next.{Next}
 use Rattle.st_ahead.specs.Look.{LookView, IsNextIf, count, is_open, asked_ahead}
 use Rattle.st_ahead.specs.Going.{IsGoing, BecomesLevel}
 use Rattle.st_ahead.proofs.Further.{more-way}

@@ -1,6 +1,6 @@
 -- What runs ahead at the next tick, once a read is made.
-use Rattle.std.specs.Prelude.{All, if◌then◌else◌, ◌*◌}
-use Rattle.std.proofs.Common.{◌≡◌, ℕ, ◌+◌, ◌<◌, ◌≤◌, max, nat_lt, Bool, true, false, List, [], ◌∷◌, ◌++◌, length, Option, refl, sym, subst, ◌∙◌, ap, arith}
+use Rattle.std.specs.Prelude.{if◌then◌else◌}
+use Rattle.std.proofs.Common.{◌≡◌, ℕ, ◌+◌, ◌<◌, ◌≤◌, nat_lt, Bool, true, false, List, [], ◌∷◌, ◌++◌, length, Option, sym, subst, ap, arith}
 use Rattle.std.proofs.lemmas.List.Elements.{All-weaker}
 use Rattle.st_state.specs.Machine.{Machine}
 use Rattle.st_rows.specs.Asked.{Read, after_one, made_before}
@@ -15,7 +15,6 @@ use Rattle.st_segment.specs.Entries.{entry}
 use Rattle.st_segment.specs.Guesses.{guesses, table_behind}
 use Rattle.st_way.specs.Way.{IsOnTheWay}
 use Rattle.st_way.proofs.Turned.{on-served, near-made}
-use Rattle.st_next.specs.Going.{known_count}
 use Rattle.st_next.specs.Progress.{IsPlanned, IsPlannedIf, reads_so_far}
 use Rattle.st_ahead.specs.Look.{LookView, IsLook, IsNextIf, count, is_open, asked_ahead}
 use Rattle.st_ahead.specs.Going.{IsGoing}

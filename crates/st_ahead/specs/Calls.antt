@@ -1,10 +1,11 @@
 -- What the calls of an overlapped machine make of what it stands for, and what they answer.
-use Rattle.std.specs.Prelude.{ℕ, ◌≡◌, ◌+◌, ◌==◌, Bool, true, false, if◌then◌else◌, List, length, Option, None, Some}
+use Rattle.std.specs.Prelude.{ℕ, ◌≡◌, ◌+◌, ◌==◌, Bool, true, false, if◌then◌else◌, List, length, Option, None, Some, IsSome, ◌⊎◌}
 use Rattle.st_banks.specs.declared.answers.LastAnswers.{LastAnswers}
 use Rattle.st_state.specs.Interrupts.{signalled}
 use Rattle.st_prep.specs.Plan.{plan}
 use Rattle.st_exec.specs.Completion.{executed, is_missed}
 use Rattle.st_exec.specs.Step.{rests}
+use Rattle.st_exec.specs.Run.{read_in, printed_out}
 use Rattle.st_rows.specs.Rows.{opening, after}
 use Rattle.st_ahead.specs.Overlap.{Overlap, oldest, oldest_row, levels_of, banks_at_its_end, interrupt_due}
 use Rattle.st_ahead.specs.declared.events.Row.{Row}
@@ -101,3 +102,24 @@ answer m = answer_by (interrupt_due m) (rests m.state) m.behind m
 -- a signal comes
 abbrev pub signalled_by : ℕ → Overlap → Overlap
 signalled_by i m = record m { state = signalled m.state i }
+
+-- one may come: before the first tick, or where an entry was done at the tick that is not settled yet
+abbrev pub MaySignal : Overlap → Type 0
+MaySignal m = ((m.owed ≡ false) × (m.now ≡ 0)) ⊎ ((m.owed ≡ true) × IsSome m.closing)
+
+-- a device may be served: behind a tick at which an entry was done, while its settle is owed
+abbrev pub MayServe : Overlap → Type 0
+MayServe m = (m.owed ≡ true) × IsSome m.closing
+
+-- the reader's order takes effect, for the area at word w: a card ends the segment first
+abbrev pub read_in_by : ℕ → Option (List ℕ) → Overlap → Overlap
+read_in_by w None m = record m { state = read_in m.state w None }
+read_in_by w (Some card) m = record (ended m) { state = read_in m.state w (Some card) }
+
+abbrev pub dropped_by : Option (List ℕ) → Overlap → ℕ
+dropped_by None m = 0
+dropped_by (Some card) m = dropped m
+
+-- the printer's order takes effect
+abbrev pub printed_by : Overlap → Overlap
+printed_by m = record m { state = printed_out m.state }

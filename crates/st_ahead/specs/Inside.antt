@@ -1,26 +1,83 @@
 -- What a machine keeps, so that it stands for what it does.
-use Rattle.std.specs.Prelude.{ℕ, ◌≡◌, ◌+◌, ◌<◌, ◌≤◌, Bool, true, false, Option, None, Some, IfSome}
-use Rattle.st_exec.specs.Step.{interrupt, rests}
+use Rattle.std.specs.Prelude.{ℕ, ◌≡◌, ◌+◌, ◌<◌, ◌≤◌, ◌^◌, Bool, true, false, if◌then◌else◌, zero, suc, nat_le, All, List, [], ◌∷◌, Option, None, Some, IfSome, option_map}
+use Rattle.st_state.specs.Machine.{Machine}
+use Rattle.st_exec.specs.Step.{rests}
 use Rattle.st_rows.specs.Rows.{opening}
+use Rattle.st_ring.specs.declared.level.Level.{Level}
+use Rattle.st_levels.specs.Levels.{oldest_front}
+use Rattle.st_levels.specs.declared.plans.Plan.{Plan}
 use Rattle.st_ahead.specs.Overlap.{Overlap, seen, interrupt_due, last_tick}
 use Rattle.st_ahead.specs.Look.{LookView, IsLook, IsOpened}
+use Rattle.st_ahead.specs.Shown.{kept_by}
+use Rattle.st_ahead.specs.declared.events.LevelView.{LevelView}
+
+-- what it stands for, by what it keeps; `fresh` says whether an entry was done at this tick
+abbrev pub standing : ℕ → List ℕ → Machine → Option ℕ → Option ℕ → ℕ → Bool → Bool → Bool → LookView → Overlap
+standing n delays state taken behind now owed ended fresh v = record {
+  delays = delays;
+  levels = n;
+  state = state;
+  taken = taken;
+  behind = behind;
+  front = oldest_front v.levels.plans v.front;
+  now = now;
+  owed = owed;
+  ended = ended;
+  closing = if fresh then Some v.port.bus.banks else None;
+}
+
+-- the segment has ended at the tick `now`, and v is what the next one opens with
+pub record IsBetween (now : ℕ) (t : Option ℕ) (s : Machine) (v : LookView) : Type 0 where
+  pub opened : IsOpened t s (opening v.port.bus.banks v.front.c) v
+  pub banks : All (λ b. b ≤ v.front.c + 255) v.port.bus.banks.ticks
+  pub later : now + 1 ≤ v.front.c
+  pub soon : v.front.c ≤ now + 9
 
 -- what runs ahead, or the opening of the next segment where one has ended at this tick
 abbrev pub IsLooking : Bool → Overlap → LookView → Type 0
 IsLooking false m v = IsLook m.delays m.levels (last_tick m) m.now m.taken (seen m) m.front v
-IsLooking true m v =
-    IsOpened m.taken m.state (opening v.port.bus.banks v.front.c) v
-    × (m.now + 1 ≤ v.front.c) × (v.front.c ≤ m.now + 9)
+IsLooking true m v = IsBetween m.now m.taken m.state v
 
--- a tick, and whether an entry was done at it
+-- the number of the tick is within its range
+abbrev pub IsInTime : Bool → ℕ → Type 0
+IsInTime true now = now < 2 ^ 63
+IsInTime false now = now ≤ 2 ^ 63
+
+-- before the first tick nothing is enabled, and nothing waits
+pub record IsUnstarted (m : Overlap) : Type 0 where
+  pub enabled : m.state.enabled ≡ false
+  pub waiting : m.state.waiting ≡ false
+  pub table : m.taken ≡ None
+  pub start : m.front.c ≡ 0
+
+-- a machine and what runs ahead of it
 pub record IsInside (m : Overlap) (fresh : Bool) (v : LookView) : Type 0 where
   pub some : 1 ≤ m.levels
   pub few : m.levels ≤ 8
   pub looking : IsLooking m.ended m v
   pub indicator : IfSome m.taken (λ i. i < 64)
+  pub in_time : IsInTime m.owed m.now
   pub fresh_owed : fresh ≡ true → m.owed ≡ true
-  pub ended_owed : m.ended ≡ true → m.owed ≡ true
+  pub ended_fresh : m.ended ≡ true → fresh ≡ true
   pub behind_fresh : fresh ≡ false → m.behind ≡ None
-  pub done_now : fresh ≡ true → m.ended ≡ false → (m.front.c ≡ m.now) × (m.taken ≡ None)
-  pub quiet : fresh ≡ false → m.ended ≡ false → (interrupt_due m ≡ None) × (rests m.state ≡ false)
-  pub taken : (i : ℕ) → m.taken ≡ Some i → interrupt m.state ≡ Some i
+  pub done_now : fresh ≡ true → m.ended ≡ false → m.front.c ≡ m.now
+  pub none_taken : fresh ≡ true → m.taken ≡ None
+  pub quiet : fresh ≡ false → (interrupt_due m ≡ None) × (rests m.state ≡ false)
+  pub unstarted : m.owed ≡ false → m.now ≡ 0 → IsUnstarted m
+
+-- a level as it is shown at a tick, by what is kept of it
+abbrev pub kept_shown : ℕ → Level → Plan → LevelView
+kept_shown tick level q = record {
+  address = level.prepared.place.address;
+  p = level.p;
+  index = option_map (λ c. c.number) level.prepared.index;
+  kept = kept_by level.prepared.index;
+  ready = nat_le q.r tick;
+}
+
+-- level k, counted from the oldest
+unfoldable pub kept_at : ℕ → List Level → List Plan → ℕ → Option LevelView
+kept_at tick [] plans k = None
+kept_at tick (level ∷ levels) [] k = None
+kept_at tick (level ∷ levels) (q ∷ qs) zero = Some (kept_shown tick level q)
+kept_at tick (level ∷ levels) (q ∷ qs) (suc k) = kept_at tick levels qs k

@@ -1,7 +1,6 @@
 -- What an overlapped machine stands for, and what is read off it.
-use Rattle.std.specs.Prelude.{ℕ, suc, ◌+◌, ◌-◌, ◌==◌, Bool, false, if◌then◌else◌, is_none, List, ◌++◌, length, replicate, Option, None, Some}
+use Rattle.std.specs.Prelude.{ℕ, suc, ◌-◌, Bool, false, if◌then◌else◌, is_none, List, ◌++◌, replicate, Option, None, Some}
 use Rattle.st_state.specs.Machine.{Machine}
-use Rattle.st_prep.specs.Plan.{plan}
 use Rattle.st_exec.specs.Completion.{guess}
 use Rattle.st_exec.specs.Step.{interrupt}
 use Rattle.st_banks.specs.declared.answers.LastAnswers.{LastAnswers}

@@ -7,9 +7,14 @@ mod going_laws;
 mod look;
 mod look_going;
 mod look_laws;
+mod look_shape;
 mod look_tick;
+mod machine;
 
 pub use events::{Event, LevelView, Row, Settled, View};
-pub use going_laws::{next_entries_are_known, open_levels_run_ahead};
+pub use going_laws::{
+    next_entries_are_known, open_levels_run_ahead, planned_entries_become_levels,
+};
 pub use look::Look;
 pub use look_laws::{looks_are_levels, openings_look, signals_leave_looks, the_banks_are_left};
+pub use machine::Machine;

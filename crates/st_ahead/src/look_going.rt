@@ -22,12 +22,13 @@ impl<const N: usize> Look<N> {
     ghost use Rattle.st_ahead.specs.Going.{IsGoing, Goes};
 
     /// The next entry is known as far as the tick `now` allows.
-    pub(crate) fn advance(&mut self, now: u64, state: &State, delays: &Delays)
+    fn advance(&mut self, now: u64, state: &State, delays: &Delays)
         requires some { 1 ≤ N }
         requires few { N ≤ 8 }
         requires early { now < 2 ^ 63 }
         requires going { Goes delays.now N now now state.now self.old }
-        ensures going { (t : Option ℕ) (f : FrontOf) → IsGoing delays.now N now now t state.now f self.old →
+        ensures going { (t : Option ℕ) (f : FrontOf) →
+            IsGoing delays.now N now now t state.now f self.old →
             IsGoing delays.now N now (now + 1) t state.now f self.new }
         ensures levels { self.new.levels ≡ self.old.levels }
         ensures front { self.new.front ≡ self.old.front }
@@ -49,7 +50,7 @@ impl<const N: usize> Look<N> {
     }
 
     /// The next entry becomes a level at the tick `now`, its P.
-    pub(crate) fn push(&mut self, now: u64, state: &State, delays: &Delays)
+    fn push(&mut self, now: u64, state: &State, delays: &Delays)
         requires some { 1 ≤ N }
         requires few { N ≤ 8 }
         requires early { now < 2 ^ 63 }
@@ -99,8 +100,8 @@ impl<const N: usize> Look<N> {
         self.advance(now, state, delays);
     }
 
-    /// Goes on at the tick `now`, which is below 2^63 and whose entry, if one is done at it, is executed: the next entry is known further, or becomes a
-    /// level, and a read is made.
+    /// Goes on at the tick `now`, below 2^63, once the entry that is done at it, if there is one, is executed: the next entry is known
+    /// further or becomes a level, and a read is made.
     pub fn go_on(&mut self, now: u64, state: &State, delays: &Delays)
         requires some { 1 ≤ N }
         requires few { N ≤ 8 }
@@ -116,8 +117,8 @@ impl<const N: usize> Look<N> {
     }
 }
 
-/// Asks for the operands and the following words of an entry that is prepared at this tick, where no read is left; `bus` is the one after its
-/// index-side word.
+/// Asks for the operands and the following words of an entry that is prepared at the tick `now`, where no read is left to be made;
+/// `bus` is the one after its index-side word.
 fn ask_data(port: &mut Port, past: &[Past; 8], entry: &Entry, bus: &Bus, now: u64)
     requires entry { IsEntry entry.now }
     requires made { port.old.reads ≡ [] }

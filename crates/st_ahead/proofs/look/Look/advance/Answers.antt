@@ -1,4 +1,4 @@
-use Rattle.std.proofs.Common.{◌≡◌, ℕ, ◌+◌, ◌<◌, ◌≤◌, true, List, Option, sym, subst, arith}
+use Rattle.std.proofs.Common.{◌≡◌, ℕ, ◌+◌, true, List, sym, subst, arith}
 use Rattle.st_next.specs.Progress.{IsKnown}
 use Rattle.st_next.specs.Going.{GoesOn}
 use Rattle.st_ahead.specs.Look.{LookView, is_open}

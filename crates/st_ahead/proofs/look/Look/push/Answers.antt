@@ -1,7 +1,6 @@
-use Rattle.std.proofs.Common.{◌≡◌, ℕ, ◌+◌, ◌<◌, ◌≤◌, true, List, Option, refl, sym, subst, ◌∙◌, ap, arith}
-use Rattle.st_prep.specs.declared.entries.Prepared.{Prepared}
+use Rattle.std.proofs.Common.{◌≡◌, ℕ, ◌+◌, ◌<◌, ◌≤◌, true, List, refl, sym, subst, ◌∙◌, ap, arith}
 use Rattle.st_prep.specs.Plan.{plan}
-use Rattle.st_rows.specs.Rows.{row, after, fills, tick_p}
+use Rattle.st_rows.specs.Rows.{row, after, fills}
 use Rattle.st_rows.specs.declared.entry.Entry.{Entry}
 use Rattle.st_rows.specs.declared.front.Front.{Front}
 use Rattle.st_rows.specs.declared.front.Row.{Row}

@@ -1,0 +1,149 @@
+-- What a machine keeps when a card comes.
+use Rattle.std.specs.Prelude.{IfSome, IsSome, take, drop, get_or}
+use Rattle.std.proofs.Common.{◌≡◌, ◌≢◌, ℕ, ◌+◌, ◌<◌, ◌≤◌, Bool, true, false, List, [], ◌∷◌, length, Option, None, Some, refl, sym, subst, ◌∙◌, ap, arith}
+use Rattle.std.proofs.lemmas.List.{length-take, length-drop, length-set, ext_get_or, get_or-take, get_or-drop, get_or-set_other}
+use Rattle.st_state.specs.Machine.{Machine, HasArea, word, stored}
+use Rattle.st_state.specs.Interrupts.{signalled}
+use Rattle.st_state.specs.declared.devices.Order.{Order}
+use Rattle.st_prep.specs.BesideOrders.{AreAlikeBesideOrders}
+use Rattle.st_prep.specs.declared.entries.Place.{Place}
+use Rattle.st_ahead.specs.Overlap.{Overlap}
+use Rattle.st_ahead.specs.Calls.{ended, read_in_by}
+use Rattle.st_prep.specs.Fetch.{index_words, place_of}
+use Rattle.st_exec.specs.Run.{all_stored, read_in}
+use Rattle.st_exec.proofs.Unchanged.{stored-other}
+use Rattle.st_rows.specs.Rows.{opening}
+use Rattle.st_rows.specs.declared.front.Front.{Front}
+use Rattle.st_ahead.specs.Look.{LookView, IsOpened}
+use Rattle.st_ahead.specs.Inside.{standing, IsBetween, IsInside}
+
+-- ---- states that agree below storage
+
+record AreAlikeBelow (s u : Machine) : Type 0 where
+  size : length u.words ≡ length s.words
+  words : (w : ℕ) → 16 ≤ w → w < 32 → word u w ≡ word s w
+  ic : u.ic ≡ s.ic
+
+index-below : (s t : Machine) → AreAlikeBelow s t → index_words t ≡ index_words s
+unfolding index_words
+index-below s t h =
+    let long : length (take 16 (drop 16 t.words)) ≡ length (take 16 (drop 16 s.words)) =
+    omega (arith, h.size, length-take 16 (drop 16 t.words), length-drop 16 t.words, length-take 16 (drop 16 s.words), length-drop 16 s.words) in
+    ext_get_or 0 (take 16 (drop 16 t.words)) (take 16 (drop 16 s.words)) long
+    (λ k few.
+    let near : k < 16 = omega (arith, length-take 16 (drop 16 t.words)) in
+    get_or-take 16 (drop 16 t.words) k 0 near
+    ∙ get_or-drop 16 t.words k 0
+    ∙ h.words (16 + k) (omega arith) (omega arith)
+    ∙ sym (get_or-take 16 (drop 16 s.words) k 0 near ∙ get_or-drop 16 s.words k 0))
+
+stored-below : (s : Machine) (w x : ℕ) → 32 ≤ w → AreAlikeBelow s (stored s w x)
+stored-below s w x above = record {
+  size = length-set s.words w _;
+  words = λ k low few. stored-other s w x k (λ same. absurd (omega (arith, same)));
+  ic = refl;
+}
+
+joined : (s t u : Machine) → AreAlikeBelow s t → AreAlikeBelow t u → AreAlikeBelow s u
+joined s t u a b = record {
+  size = b.size ∙ a.size;
+  words = λ k low few. b.words k low few ∙ a.words k low few;
+  ic = b.ic ∙ a.ic;
+}
+
+all-below : (s : Machine) (w : ℕ) (xs : List ℕ) → 32 ≤ w → AreAlikeBelow s (all_stored s w xs)
+unfolding all_stored
+all-below s w [] above = record { size = refl; words = λ k low few. refl; ic = refl }
+all-below s w (x ∷ xs) above = joined s (stored s w x) _ (stored-below s w x above) (all-below (stored s w x) (w + 1) xs (omega arith))
+
+signalled-below : (s : Machine) (i : ℕ) → AreAlikeBelow s (signalled s i)
+signalled-below s i = record {
+  size = length-set s.words 11 _;
+  words = λ k low few. get_or-set_other s.words 11 k _ 0 (λ same. absurd (omega (arith, same)));
+  ic = refl;
+}
+
+read-below : (s : Machine) (w : ℕ) (card : List ℕ) → 32 ≤ w → AreAlikeBelow s (read_in s w (Some card))
+read-below s w card above =
+    let free : Machine = record s { reader = None } in
+    joined s (all_stored free w card) _
+    (joined s free (all_stored free w card) (record { size = refl; words = λ k low few. refl; ic = refl }) (all-below free w card above))
+    (signalled-below (all_stored free w card) 12)
+
+-- ---- all of it
+
+card-opened : (s u : Machine) (f : Front) (v : LookView) → AreAlikeBelow s u → IsOpened None s f v → IsOpened None u f v
+unfolding place_of
+card-opened s u f v alike o = record {
+  ring = o.ring;
+  plans = o.plans;
+  index = o.index ∙ sym (index-below s u alike);
+  front = o.front;
+  port = o.port;
+  place = o.place ∙ ap (λ h. place-at h) (sym alike.ic);
+  own = o.own;
+  target = o.target;
+  planned = o.planned;
+  words = o.words;
+}
+  where
+    place-at : ℕ → Place
+    place-at h = record { counter = h; address = h; table = None }
+
+card-calm : (n : ℕ) (ds : List ℕ) (s u : Machine) (t b : Option ℕ) (now : ℕ) (owed over fresh : Bool) (v : LookView)
+    → IsInside (standing n ds s t b now owed over fresh v) fresh v → over ≡ true → AreAlikeBelow s u
+    → IsInside (standing n ds u t b now owed over fresh v) fresh v
+card-calm n ds s u t b now owed false fresh v is ends alike = absurd (cc ends)
+card-calm n ds s u t b now owed true false v is ends alike = absurd (cc (is.ended_fresh refl))
+card-calm n ds s u t b now false true true v is ends alike = absurd (cc (is.fresh_owed refl))
+card-calm n ds s u (Some i) b now true true true v is ends alike = absurd (cc (is.none_taken refl))
+card-calm n ds s u None b now true true true v is ends alike =
+    let between : IsBetween now None s v = is.looking in
+    record {
+      some = is.some;
+      few = is.few;
+      looking = record {
+        opened = card-opened s u (opening v.port.bus.banks v.front.c) v alike between.opened;
+        banks = between.banks;
+        later = between.later;
+        soon = between.soon;
+      };
+      indicator = tt;
+      in_time = is.in_time;
+      fresh_owed = λ e. refl;
+      ended_fresh = λ e. refl;
+      behind_fresh = λ e. absurd (cc e);
+      done_now = λ e g. absurd (cc g);
+      none_taken = λ e. refl;
+      quiet = λ e. absurd (cc e);
+      unstarted = λ e. absurd (cc e);
+    }
+
+pub card-inside : (n : ℕ) (ds : List ℕ) (s u : Machine) (t b : Option ℕ) (now : ℕ) (owed over fresh : Bool) (v : LookView) (order : Option Order) (card : List ℕ)
+    → IsInside (standing n ds s t b now owed over fresh v) fresh v → over ≡ true → HasArea order → IsSome order
+    → IfSome order (λ o. u ≡ read_in s o.word (Some card))
+    → IsInside (standing n ds u t b now owed over fresh v) fresh v
+card-inside n ds s u t b now owed over fresh v None card is ends area some h = absurd (cc some)
+card-inside n ds s u t b now owed over fresh v (Some o) card is ends area some h =
+    card-calm n ds s u t b now owed over fresh v is ends (subst (λ x. AreAlikeBelow s x) (sym h) (read-below s o.word card area.0))
+
+-- an order without a card
+pub no_card-alike : (s u : Machine) (order : Option Order) → ((w : ℕ) → AreAlikeBesideOrders s (read_in s w None)) → IsSome order
+    → IfSome order (λ o. u ≡ read_in s o.word None) → AreAlikeBesideOrders s u
+no_card-alike s u None alike some h = absurd (cc some)
+no_card-alike s u (Some o) alike some h = subst (λ x. AreAlikeBesideOrders s x) (sym h) (alike o.word)
+
+-- ---- what is made of the machine
+
+pub with-read : (order : Option Order) (card : Option (List ℕ)) (s u : Machine) (f : Machine → Overlap) → IfSome order (λ o. u ≡ read_in s o.word card)
+    → IfSome order (λ o. f u ≡ f (read_in s o.word card))
+with-read None card s u f h = h
+with-read (Some o) card s u f h = ap f h
+
+pub read-ended : (m e x : Overlap) (words : List ℕ) (card : Option (List ℕ)) → card ≡ Some words → e ≡ ended m → e.state ≡ m.state
+    → IfSome e.state.reader (λ o. x ≡ record e { state = read_in e.state o.word (Some words) })
+    → IfSome m.state.reader (λ o. x ≡ read_in_by o.word card m)
+read-ended m e x words card some ends state h =
+    let first = subst (λ (s : Machine). IfSome s.reader (λ o. x ≡ record e { state = read_in s o.word (Some words) })) state h in
+    let second = subst (λ (y : Overlap). IfSome m.state.reader (λ o. x ≡ record y { state = read_in m.state o.word (Some words) })) ends first in
+    subst (λ (k : Option (List ℕ)). IfSome m.state.reader (λ o. x ≡ read_in_by o.word k m)) (sym some) second

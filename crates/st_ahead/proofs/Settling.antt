@@ -1,0 +1,390 @@
+-- What a machine keeps when a tick is settled.
+use Rattle.std.specs.Prelude.{All, IfSome, IsSome, is_none, is_some, ◌&&◌, if◌then◌else◌}
+use Rattle.std.proofs.Common.{◌≡◌, ℕ, ◌+◌, ◌-◌, ◌<◌, ◌≤◌, ◌^◌, Bool, true, false, List, length, Option, None, Some, refl, sym, subst, ◌∙◌, ap, arith}
+use Rattle.std.proofs.lemmas.List.Elements.{All-weaker}
+use Rattle.st_state.specs.Machine.{Machine, IsMachine}
+use Rattle.st_state.specs.Interrupts.{pending}
+use Rattle.st_prep.specs.Fetch.{place_of, index_words}
+use Rattle.st_prep.specs.declared.entries.Place.{Place}
+use Rattle.st_exec.specs.Step.{interrupt, rests}
+use Rattle.st_banks.specs.declared.answers.LastAnswers.{LastAnswers}
+use Rattle.st_rows.specs.Rows.{opening}
+use Rattle.st_rows.specs.declared.front.Front.{Front}
+use Rattle.st_ring.specs.declared.level.Level.{Level}
+use Rattle.st_levels.specs.Levels.{oldest_front}
+use Rattle.st_levels.specs.declared.plans.Plan.{Plan}
+use Rattle.st_segment.specs.Ahead.{ahead, prepared_before}
+use Rattle.st_levels.proofs.LevelLemmas.{length-ahead}
+use Rattle.st_ahead.specs.Overlap.{Overlap, seen, with_counter, levels_of, interrupt_due, last_tick}
+use Rattle.st_ahead.specs.Calls.{dropped, ended, passed, settled, answer, settled_by, answer_by}
+use Rattle.st_ahead.specs.Look.{LookView, IsLook, IsOpened, count}
+use Rattle.st_ahead.specs.Going.{IsGoing}
+use Rattle.st_ahead.specs.Inside.{standing, IsBetween, IsInside, IsInTime}
+use Rattle.st_ahead.proofs.Openings.{opening-looks}
+use Rattle.st_ahead.specs.declared.events.Settled.{Settled}
+use Rattle.st_ahead.specs.declared.events.Settled.TheVariants.{Goes, Interrupt, Missed, Waits}
+use Rattle.st_ahead.proofs.Standing.{opened-front, same-fields, chosen, left_over}
+
+-- ---- what is due where no entry was done
+
+pub quiet-inside : (n : ℕ) (ds : List ℕ) (s : Machine) (t b : Option ℕ) (now : ℕ) (owed over fresh : Bool) (v : LookView)
+    → IsInside (standing n ds s t b now owed over fresh v) fresh v → (standing n ds s t b now owed over fresh v).closing ≡ None
+    → (interrupt_due (standing n ds s t b now owed over fresh v) ≡ None) × (rests s ≡ false) × (b ≡ None)
+quiet-inside n ds s t b now owed over false v is e = let quiet = is.quiet refl in (quiet.0, quiet.1, is.behind_fresh refl)
+quiet-inside n ds s t b now owed over true v is e = absurd (cc e)
+
+pub some-closing : (c : Option LastAnswers) → (c ≡ None → ⊥) → IsSome c
+some-closing (Some x) f = refl
+some-closing None f = absurd (f refl)
+
+pub counted-index : (c : Option ℕ) (s : Machine) → index_words (with_counter c s) ≡ index_words s
+unfolding index_words
+counted-index None s = refl
+counted-index (Some h) s = refl
+
+-- ---- the end of a segment
+
+-- what the end of a segment leaves
+pub record IsEnded (m e : Overlap) : Type 0 where
+  pub state : e.state ≡ m.state
+  pub taken : e.taken ≡ m.taken
+  pub owed : e.owed ≡ m.owed
+  pub ended : e.ended ≡ true
+
+pub ended-rest : (m e : Overlap) (b : Bool) → m.ended ≡ b → e ≡ ended m → IsEnded m e
+unfolding ended
+ended-rest m e true over is =
+    let same : e ≡ m = is ∙ chosen m.ended m _ over in
+    record {
+      state = ap (λ (x : Overlap). x.state) same;
+      taken = ap (λ (x : Overlap). x.taken) same;
+      owed = ap (λ (x : Overlap). x.owed) same;
+      ended = ap (λ (x : Overlap). x.ended) same ∙ over;
+    }
+ended-rest m e false over is =
+    let same = is ∙ left_over m.ended m _ over in
+    record {
+      state = ap (λ (x : Overlap). x.state) same;
+      taken = ap (λ (x : Overlap). x.taken) same;
+      owed = ap (λ (x : Overlap). x.owed) same;
+      ended = ap (λ (x : Overlap). x.ended) same;
+    }
+
+due-none : (t p : Option ℕ) (i : ℕ) → (if is_none t then p else None) ≡ Some i → (t ≡ None) × (p ≡ Some i)
+due-none None p i e = (refl, e)
+due-none (Some j) p i e = absurd (cc e)
+
+pub due-taken : (m : Overlap) (i : ℕ) → interrupt_due m ≡ Some i → (m.taken ≡ None) × (interrupt m.state ≡ Some i)
+due-taken m i e = due-none m.taken (interrupt m.state) i e
+
+-- ---- answers
+
+pub answer-interrupt : (m e : Overlap) (i d : ℕ) → e.state ≡ m.state → d ≡ dropped m → interrupt_due m ≡ Some i
+    → Interrupt i e.state.done e.state.ic d ≡ answer m
+unfolding answer
+answer-interrupt m e i d state count due = rw (due, state, count) refl
+
+pub settled-interrupt : (m e x : Overlap) (i : ℕ) → e ≡ ended m → interrupt_due m ≡ Some i → x ≡ passed (record e { taken = Some i }) → x ≡ settled m
+unfolding settled
+settled-interrupt m e x i ends due is = rw due (is ∙ ap (λ (y : Overlap). passed (record y { taken = Some i })) ends)
+
+pub answer-waits : (m : Overlap) → interrupt_due m ≡ None → rests m.state ≡ true → Waits ≡ answer m
+unfolding answer
+answer-waits m due waits = rw (due, waits) refl
+
+pub settled-waits : (m : Overlap) → interrupt_due m ≡ None → rests m.state ≡ true → ended m ≡ settled m
+unfolding settled
+settled-waits m due waits = rw (due, waits) refl
+
+answer-by-missed : (p : Option ℕ) (m : Overlap) → is_some p ≡ true → Missed (dropped m) ≡ answer_by None false p m
+answer-by-missed (Some h) m e = refl
+answer-by-missed None m e = absurd (cc e)
+
+settled-by-missed : (p : Option ℕ) (m : Overlap) → is_some p ≡ true → passed (ended m) ≡ settled_by None false p m
+settled-by-missed (Some h) m e = refl
+settled-by-missed None m e = absurd (cc e)
+
+pub answer-missed : (m : Overlap) (d : ℕ) → d ≡ dropped m → interrupt_due m ≡ None → rests m.state ≡ false → is_some m.behind ≡ true → Missed d ≡ answer m
+unfolding answer
+answer-missed m d count due goes missed = rw (due, goes, count) (answer-by-missed m.behind m missed)
+
+pub settled-missed : (m x : Overlap) → interrupt_due m ≡ None → rests m.state ≡ false → is_some m.behind ≡ true → x ≡ passed (ended m) → x ≡ settled m
+unfolding settled
+settled-missed m x due goes missed is = rw (due, goes) (is ∙ settled-by-missed m.behind m missed)
+
+pub none-behind : (p : Option ℕ) → is_some p ≡ false → p ≡ None
+none-behind None e = refl
+none-behind (Some h) e = absurd (cc e)
+
+pub answer-goes : (m : Overlap) → interrupt_due m ≡ None → rests m.state ≡ false → m.behind ≡ None → Goes ≡ answer m
+unfolding answer
+answer-goes m due goes right = rw (due, goes, right) refl
+
+pub settled-goes : (m x : Overlap) → interrupt_due m ≡ None → rests m.state ≡ false → m.behind ≡ None → x ≡ passed m → x ≡ settled m
+unfolding settled
+settled-goes m x due goes right is = rw (due, goes, right) is
+
+-- ---- the levels that are dropped
+
+pub levels-counted : (n : ℕ) (ds : List ℕ) (s : Machine) (t b : Option ℕ) (now : ℕ) (fresh : Bool) (v : LookView)
+    → prepared_before now (ahead ds n n t (with_counter b s) (oldest_front v.levels.plans v.front)) ≡ ahead ds n (count v) t (with_counter b s) (oldest_front v.levels.plans v.front)
+    → length (levels_of (standing n ds s t b now true false fresh v)) ≡ count v
+unfolding levels_of seen
+levels-counted n ds s t b now fresh v levels =
+    ap length levels ∙ length-ahead ds n (count v) t (with_counter b s) (oldest_front v.levels.plans v.front)
+
+pub end-calm : (n : ℕ) (ds : List ℕ) (s : Machine) (b : Option ℕ) (now : ℕ) (v w : LookView)
+    → IsInside (standing n ds s None b now true false true v) true v → count v ≤ n
+    → length (levels_of (standing n ds s None b now true false true v)) ≡ count v
+    → IsOpened None s (opening v.port.bus.banks (now + 1 + count v)) w
+    → All (λ x. x ≤ now + 1 + count v + 255) v.port.bus.banks.ticks
+    → IsInside (standing n ds s None b now true true true w) true w
+    × (count v ≡ dropped (standing n ds s None b now true false true v))
+    × (standing n ds s None b now true true true w ≡ ended (standing n ds s None b now true false true v))
+unfolding dropped ended
+end-calm n ds s b now v w is most levels opened early =
+    let banks : w.port.bus.banks ≡ v.port.bus.banks = ap (λ port. port.bus.banks) opened.port in
+    let start : w.front.c ≡ now + 1 + count v = ap (λ (f : Front). f.c) opened.front in
+    let few : n ≤ 8 = is.few in
+    let front = opened-front None s (opening v.port.bus.banks (now + 1 + count v)) w opened in
+    let between : IsBetween now None s w = record {
+      opened =
+          subst (λ (x : LastAnswers). IsOpened None s (opening x w.front.c) w) (sym banks)
+          (subst (λ (x : ℕ). IsOpened None s (opening v.port.bus.banks x) w) (sym start) opened);
+      banks = subst (λ (x : LastAnswers). All (λ y. y ≤ w.front.c + 255) x.ticks) (sym banks)
+          (subst (λ (x : ℕ). All (λ y. y ≤ x + 255) v.port.bus.banks.ticks) (sym start) early);
+      later = omega (arith, start);
+      soon = omega (arith, start, most, few);
+    } in (
+      record {
+        some = is.some;
+        few = few;
+        looking = between;
+        indicator = tt;
+        in_time = is.in_time;
+        fresh_owed = λ e. refl;
+        ended_fresh = λ e. refl;
+        behind_fresh = λ e. absurd (cc e);
+        done_now = λ e f. absurd (cc f);
+        none_taken = λ e. refl;
+        quiet = λ e. absurd (cc e);
+        unstarted = λ e. absurd (cc e);
+      },
+      sym levels,
+      same-fields ds n s s None b b _ _ now true true _ _ refl refl (front ∙ ap (λ k. opening v.port.bus.banks (now + 1 + k)) (sym levels)) (ap Some banks),
+    )
+
+-- where the segment has ended already
+pub end-again : (n : ℕ) (ds : List ℕ) (s : Machine) (t b : Option ℕ) (now : ℕ) (owed over fresh : Bool) (v : LookView) → over ≡ true
+    → (0 ≡ dropped (standing n ds s t b now owed over fresh v))
+    × (standing n ds s t b now owed over fresh v ≡ ended (standing n ds s t b now owed over fresh v))
+unfolding dropped ended
+end-again n ds s t b now owed true fresh v e = (refl, refl)
+end-again n ds s t b now owed false fresh v e = absurd (cc e)
+
+pub end-first : (n : ℕ) (ds : List ℕ) (s : Machine) (t b : Option ℕ) (now : ℕ) (owed over fresh : Bool) (v w : LookView)
+    → IsInside (standing n ds s t b now owed over fresh v) fresh v → owed ≡ true → over ≡ false → fresh ≡ true → count v ≤ n
+    → (IsLook ds n now now t (with_counter b s) (oldest_front v.levels.plans v.front) v
+    → prepared_before now (ahead ds n n t (with_counter b s) (oldest_front v.levels.plans v.front)) ≡ ahead ds n (count v) t (with_counter b s) (oldest_front v.levels.plans v.front))
+    → (IsLook ds n now now t (with_counter b s) (oldest_front v.levels.plans v.front) v → IsOpened None s (opening v.port.bus.banks (now + 1 + count v)) w)
+    → All (λ x. x ≤ now + 1 + count v + 255) v.port.bus.banks.ticks
+    → IsInside (standing n ds s t b now owed true fresh w) fresh w
+    × (count v ≡ dropped (standing n ds s t b now owed over fresh v))
+    × (standing n ds s t b now owed true fresh w ≡ ended (standing n ds s t b now owed over fresh v))
+unfolding seen
+end-first n ds s t b now false over fresh v w is owes ends done most levels opened early = absurd (cc owes)
+end-first n ds s t b now true true fresh v w is owes ends done most levels opened early = absurd (cc ends)
+end-first n ds s t b now true false false v w is owes ends done most levels opened early = absurd (cc done)
+end-first n ds s (Some i) b now true false true v w is owes ends done most levels opened early = absurd (cc (is.none_taken refl))
+end-first n ds s None b now true false true v w is owes ends done most levels opened early =
+    end-calm n ds s b now v w is most (levels-counted n ds s None b now true v (levels is.looking)) (opened is.looking) early
+
+-- what the end of one asks for
+pub record IsEnding (n : ℕ) (ds : List ℕ) (s : Machine) (t b : Option ℕ) (now : ℕ) (v : LookView) : Type 0 where
+  pub look : IsLook ds n now now t (with_counter b s) (oldest_front v.levels.plans v.front) v
+  pub done : (oldest_front v.levels.plans v.front).c ≡ now
+  pub early : now < 2 ^ 63
+
+pub ending : (n : ℕ) (ds : List ℕ) (s : Machine) (t b : Option ℕ) (now : ℕ) (owed over fresh : Bool) (v : LookView)
+    → IsInside (standing n ds s t b now owed over fresh v) fresh v → owed ≡ true → over ≡ false → fresh ≡ true
+    → IsEnding n ds s t b now v
+unfolding seen
+ending n ds s t b now false over fresh v is owes ends done = absurd (cc owes)
+ending n ds s t b now true true fresh v is owes ends done = absurd (cc ends)
+ending n ds s t b now true false false v is owes ends done = absurd (cc done)
+ending n ds s t b now true false true v is owes ends done = record { look = is.looking; done = is.done_now refl refl; early = is.in_time }
+
+pub fresh-closing : (n : ℕ) (ds : List ℕ) (s : Machine) (t b : Option ℕ) (now : ℕ) (owed over fresh : Bool) (v : LookView)
+    → IsSome (standing n ds s t b now owed over fresh v).closing → fresh ≡ true
+fresh-closing n ds s t b now owed over true v some = refl
+fresh-closing n ds s t b now owed over false v some = absurd (cc some)
+
+-- ---- the next tick
+
+pub owed-early : (owed : Bool) (now : ℕ) → owed ≡ true → IsInTime owed now → now < 2 ^ 63
+owed-early true now e early = early
+owed-early false now e early = absurd (cc e)
+
+-- the next segment is open
+pub pass-inside : (n : ℕ) (ds : List ℕ) (s : Machine) (t b : Option ℕ) (now : ℕ) (owed over fresh : Bool) (v : LookView)
+    → IsInside (standing n ds s t b now owed over fresh v) fresh v → IsMachine s → owed ≡ true → over ≡ true
+    → interrupt_due (standing n ds s t b now owed over fresh v) ≡ None → rests s ≡ false
+    → IsInside (standing n ds s t None (now + 1) false false false v) false v
+    × (standing n ds s t None (now + 1) false false false v ≡ passed (standing n ds s t b now owed over fresh v))
+unfolding seen
+pass-inside n ds s t b now false over fresh v is m owes ends due goes = absurd (cc owes)
+pass-inside n ds s t b now true false fresh v is m owes ends due goes = absurd (cc ends)
+pass-inside n ds s t b now true true fresh v is m owes ends due goes =
+    let between : IsBetween now t s v = is.looking in
+    let later : now + 1 ≤ v.front.c = between.later in
+    let soon : v.front.c ≤ now + 1 + 9 = omega (arith, between.soon) in
+    let look = opening-looks ds n (now + 1 - 1) (now + 1) v.front.c t s v.port.bus.banks v between.opened m is.indicator between.banks later soon in (
+      record {
+        some = is.some;
+        few = is.few;
+        looking =
+            subst (λ (f : Front). IsLook ds n (now + 1 - 1) (now + 1) t s f v) (sym (opened-front t s (opening v.port.bus.banks v.front.c) v between.opened)) look;
+        indicator = is.indicator;
+        in_time = let early : now < 2 ^ 63 = is.in_time in omega (arith, early);
+        fresh_owed = λ e. absurd (cc e);
+        ended_fresh = λ e. absurd (cc e);
+        behind_fresh = λ e. refl;
+        done_now = λ e. absurd (cc e);
+        none_taken = λ e. absurd (cc e);
+        quiet = λ e. (due, goes);
+        unstarted = λ e f. absurd (omega (arith, f));
+      },
+      refl,
+    )
+
+rest-not : (a : Bool) (p : Option ℕ) (i : ℕ) → p ≡ Some i → (a && is_none p) ≡ false
+rest-not true (Some j) i e = refl
+rest-not false (Some j) i e = refl
+rest-not a None i e = absurd (cc e)
+
+pending-of : (b : Bool) (p : Option ℕ) (i : ℕ) → (if b then p else None) ≡ Some i → p ≡ Some i
+pending-of true p i e = e
+pending-of false p i e = absurd (cc e)
+
+-- an interrupt is taken
+pub interrupt-inside : (n : ℕ) (ds : List ℕ) (s : Machine) (b : Option ℕ) (now : ℕ) (owed over fresh : Bool) (v : LookView) (i : ℕ)
+    → IsInside (standing n ds s None b now owed over fresh v) fresh v → IsMachine s → owed ≡ true → over ≡ true
+    → i < 64 → interrupt s ≡ Some i
+    → let w = record v { next = record v.next { place = place_of s (Some i) } } in
+    IsInside (standing n ds s (Some i) None (now + 1) false false false w) false w
+    × (standing n ds s (Some i) None (now + 1) false false false w ≡ passed (record (standing n ds s None b now owed over fresh v) { taken = Some i }))
+unfolding seen
+interrupt-inside n ds s b now false over fresh v i is m owes ends few due = absurd (cc owes)
+interrupt-inside n ds s b now true false fresh v i is m owes ends few due = absurd (cc ends)
+interrupt-inside n ds s b now true true fresh v i is m owes ends few due =
+    let w = record v { next = record v.next { place = place_of s (Some i) } } in
+    let between : IsBetween now None s v = is.looking in
+    let o = between.opened in
+    let opened : IsOpened (Some i) s (opening v.port.bus.banks v.front.c) w = record {
+      ring = o.ring;
+      plans = o.plans;
+      index = o.index;
+      front = o.front;
+      port = o.port;
+      place = refl;
+      own = o.own;
+      target = o.target;
+      planned = o.planned;
+      words = o.words;
+    } in
+    let later : now + 1 ≤ v.front.c = between.later in
+    let soon : v.front.c ≤ now + 1 + 9 = omega (arith, between.soon) in
+    let look = opening-looks ds n (now + 1 - 1) (now + 1) v.front.c (Some i) s v.port.bus.banks w opened m few between.banks later soon in (
+      record {
+        some = is.some;
+        few = is.few;
+        looking =
+            subst (λ (f : Front). IsLook ds n (now + 1 - 1) (now + 1) (Some i) s f w) (sym (opened-front (Some i) s (opening v.port.bus.banks v.front.c) w opened)) look;
+        indicator = few;
+        in_time = let early : now < 2 ^ 63 = is.in_time in omega (arith, early);
+        fresh_owed = λ e. absurd (cc e);
+        ended_fresh = λ e. absurd (cc e);
+        behind_fresh = λ e. refl;
+        done_now = λ e. absurd (cc e);
+        none_taken = λ e. absurd (cc e);
+        quiet = λ e. (refl, rest-not s.waiting (pending s) i (pending-of s.enabled (pending s) i due));
+        unstarted = λ e f. absurd (omega (arith, f));
+      },
+      refl,
+    )
+
+pub interrupt-taken : (n : ℕ) (ds : List ℕ) (s : Machine) (t b : Option ℕ) (now : ℕ) (owed over fresh : Bool) (v w : LookView) (i : ℕ) → t ≡ None
+    → IsInside (standing n ds s t b now owed over fresh v) fresh v → IsMachine s → owed ≡ true → over ≡ true
+    → i < 64 → interrupt s ≡ Some i
+    → {place : Place} → place ≡ place_of s (Some i) → w ≡ record v { next = record v.next { place = place } }
+    → IsInside (standing n ds s (Some i) None (now + 1) false false false w) false w
+    × (standing n ds s (Some i) None (now + 1) false false false w ≡ passed (record (standing n ds s t b now owed over fresh v) { taken = Some i }))
+interrupt-taken n ds s (Some j) b now owed over fresh v w i none is m owes ends few due at there = absurd (cc none)
+interrupt-taken n ds s None b now owed over fresh v w i none is m owes ends few due at there =
+    let P : LookView → Type 0 = λ x. IsInside (standing n ds s (Some i) None (now + 1) false false false x) false x
+    × (standing n ds s (Some i) None (now + 1) false false false x ≡ passed (record (standing n ds s None b now owed over fresh v) { taken = Some i })) in
+    subst P (sym (there ∙ ap (λ p. record v { next = record v.next { place = p } }) at))
+    (interrupt-inside n ds s b now owed over fresh v i is m owes ends few due)
+
+-- ---- what runs ahead goes on
+
+pub look-goes : (ds : List ℕ) (n now : ℕ) (t : Option ℕ) (s : Machine) (f : Front) (v : LookView) → IsLook ds n now now t s f v
+    → IsGoing ds n now now t s f v
+look-goes ds n now t s f v is = record {
+  machine = is.machine;
+  indicator = is.indicator;
+  ahead = is.ahead;
+  prepared = All-weaker (λ (level : Level). level.p < now) (λ level. level.p ≤ now) (λ level h. omega arith) v.levels.ring is.prepared;
+  not_done = is.not_done;
+  oldest = is.oldest;
+  tight = is.tight;
+  start = is.start;
+  early = is.early;
+  next = is.next;
+  late = is.late;
+  way = is.way;
+  room = is.room;
+  near = is.near;
+  free = is.free;
+}
+
+pub going-look : (n : ℕ) (ds : List ℕ) (s : Machine) (t b : Option ℕ) (now : ℕ) (owed over fresh : Bool) (v : LookView)
+    → IsInside (standing n ds s t b now owed over fresh v) fresh v → owed ≡ true → over ≡ false → b ≡ None
+    → IsLook ds n now now t s (oldest_front v.levels.plans v.front) v × (now < 2 ^ 63)
+unfolding seen
+going-look n ds s t b now false over fresh v is owes ends right = absurd (cc owes)
+going-look n ds s t b now true true fresh v is owes ends right = absurd (cc ends)
+going-look n ds s t (Some h) now true false fresh v is owes ends right = absurd (cc right)
+going-look n ds s t None now true false fresh v is owes ends right = (is.looking, is.in_time)
+
+pub go-inside : (n : ℕ) (ds : List ℕ) (s : Machine) (t b : Option ℕ) (now : ℕ) (owed over fresh : Bool) (v w : LookView)
+    → IsInside (standing n ds s t b now owed over fresh v) fresh v → owed ≡ true → over ≡ false → b ≡ None
+    → interrupt_due (standing n ds s t b now owed over fresh v) ≡ None → rests s ≡ false
+    → IsLook ds n now (now + 1) t s (oldest_front v.levels.plans v.front) w
+    → oldest_front w.levels.plans w.front ≡ oldest_front v.levels.plans v.front
+    → IsInside (standing n ds s t b (now + 1) false over false w) false w
+    × (standing n ds s t b (now + 1) false over false w ≡ passed (standing n ds s t b now owed over fresh v))
+unfolding seen
+go-inside n ds s t b now false over fresh v w is owes ends right due goes look front = absurd (cc owes)
+go-inside n ds s t b now true true fresh v w is owes ends right due goes look front = absurd (cc ends)
+go-inside n ds s t (Some h) now true false fresh v w is owes ends right due goes look front = absurd (cc right)
+go-inside n ds s t None now true false fresh v w is owes ends right due goes look front =
+    let last : now ≡ now + 1 - 1 = omega arith in (
+      record {
+        some = is.some;
+        few = is.few;
+        looking =
+            subst (λ (x : ℕ). IsLook ds n x (now + 1) t s (oldest_front w.levels.plans w.front) w) last
+            (subst (λ (f : Front). IsLook ds n now (now + 1) t s f w) (sym front) look);
+        indicator = is.indicator;
+        in_time = let early : now < 2 ^ 63 = is.in_time in omega (arith, early);
+        fresh_owed = λ e. absurd (cc e);
+        ended_fresh = λ e. absurd (cc e);
+        behind_fresh = λ e. refl;
+        done_now = λ e. absurd (cc e);
+        none_taken = λ e. absurd (cc e);
+        quiet = λ e. (due, goes);
+        unstarted = λ e f. absurd (omega (arith, f));
+      },
+      same-fields ds n s s t None None _ _ (now + 1) false false None None refl refl front refl,
+    )

@@ -1,0 +1,76 @@
+-- What is shown of a machine, and lent.
+use Rattle.std.specs.Prelude.{All, IfSome, ◌++◌, map, replicate, if◌then◌else◌, ◌-◌}
+use Rattle.std.specs.List.{AllZip}
+use Rattle.std.proofs.Common.{◌≡◌, ℕ, ◌+◌, ◌<◌, ◌≤◌, Bool, true, false, List, [], ◌∷◌, length, Option, None, Some, refl, sym, subst, ◌∙◌, ap, arith}
+use Rattle.st_state.specs.Machine.{Machine, IsMachine}
+use Rattle.st_exec.specs.Completion.{guess}
+use Rattle.st_rows.specs.Rows.{opening, after}
+use Rattle.st_rows.specs.declared.front.Front.{Front}
+use Rattle.st_ring.specs.declared.level.Level.{Level}
+use Rattle.st_segment.specs.Entries.{entry}
+use Rattle.st_segment.specs.Ahead.{Ahead, ahead, prepared_before}
+use Rattle.st_segment.specs.Guesses.{split_words}
+use Rattle.st_levels.specs.Levels.{oldest_front, AreLevels}
+use Rattle.st_levels.specs.declared.plans.Plan.{Plan}
+use Rattle.st_levels.proofs.LevelLemmas.{length-ahead}
+use Rattle.st_ahead.specs.Overlap.{Overlap, seen, levels_of, last_tick}
+use Rattle.st_ahead.specs.Shown.{IsLevelOf, AreLevelsOf, index_of}
+use Rattle.st_ahead.specs.Look.{LookView, IsLook, IsOpened, count}
+use Rattle.st_ahead.specs.Inside.{standing, IsBetween, IsInside}
+use Rattle.st_ahead.proofs.Openings.{opening-looks}
+use Rattle.st_ahead.proofs.Standing.{opened-front}
+
+-- ---- what runs ahead, at each moment
+
+-- it is there also where a segment has ended
+pub look-inside : (n : ℕ) (ds : List ℕ) (s : Machine) (t b : Option ℕ) (now : ℕ) (owed over fresh : Bool) (v : LookView)
+    → IsInside (standing n ds s t b now owed over fresh v) fresh v → IsMachine s
+    → IsLook ds n (last_tick (standing n ds s t b now owed over fresh v)) now t (seen (standing n ds s t b now owed over fresh v)) (oldest_front v.levels.plans v.front) v
+unfolding seen
+look-inside n ds s t b now owed false fresh v is m = is.looking
+look-inside n ds s t b now owed true fresh v is m =
+    let between : IsBetween now t s v = is.looking in
+    let later : now + 1 ≤ v.front.c = between.later in
+    let tick = last_tick (standing n ds s t b now owed true fresh v) in
+    let look = opening-looks ds n tick now v.front.c t s v.port.bus.banks v between.opened m is.indicator between.banks (omega (arith, later)) between.soon in
+    subst (λ (f : Front). IsLook ds n tick now t s f v) (sym (opened-front t s (opening v.port.bus.banks v.front.c) v between.opened)) look
+
+pub soon-last : (owed : Bool) (now : ℕ) → now ≤ (if owed then now else now - 1) + 1
+soon-last true now = omega arith
+soon-last false now = omega arith
+
+-- ---- levels
+
+pub levels-zip : (ds : List ℕ) (n tick : ℕ) (t : Option ℕ) (s : Machine) (f last : Front) (ring : List Level) (plans : List Plan)
+    → AreLevels ds n tick t s f last ring plans → AllZip (IsLevelOf ds n tick) ring (ahead ds n (length ring) t s f)
+unfolding AreLevels ahead
+levels-zip ds n tick t s f last [] [] is = tt
+levels-zip ds n tick t s f last [] (q ∷ qs) is = absurd is
+levels-zip ds n tick t s f last (level ∷ levels) [] is = absurd is
+levels-zip ds n tick t s f last (level ∷ levels) (q ∷ qs) is = (
+  record { prepared = is.0.prepared; p = is.0.p; have = is.0.have },
+  levels-zip ds n tick None (guess t s) (after ds n f (entry t s)) last levels qs is.1,
+)
+
+-- the levels are those that a machine stands for
+pub record IsShowing (m : Overlap) (v : LookView) : Type 0 where
+  pub look : IsLook m.delays m.levels (last_tick m) m.now m.taken (seen m) m.front v
+  pub levels : levels_of m ≡ ahead m.delays m.levels (count v) m.taken (seen m) m.front
+
+pub showing : (m : Overlap) (v : LookView) → IsLook m.delays m.levels (last_tick m) m.now m.taken (seen m) m.front v
+    → prepared_before m.now (ahead m.delays m.levels m.levels m.taken (seen m) m.front) ≡ ahead m.delays m.levels (count v) m.taken (seen m) m.front
+    → IsShowing m v
+unfolding levels_of
+showing m v look levels = record { look = look; levels = levels }
+
+pub showing-ring : (m : Overlap) (v : LookView) → IsShowing m v → AreLevelsOf m v.levels.ring
+showing-ring m v is =
+    subst (λ (levels : List Ahead). AllZip (IsLevelOf m.delays m.levels (last_tick m)) v.levels.ring levels) (sym is.levels)
+    (levels-zip m.delays m.levels (last_tick m) m.taken (seen m) m.front v.front v.levels.ring v.levels.plans is.look.ahead.levels)
+
+pub showing-count : (m : Overlap) (v : LookView) → IsShowing m v → length (levels_of m) ≡ count v
+showing-count m v is = ap length is.levels ∙ length-ahead m.delays m.levels (count v) m.taken (seen m) m.front
+
+pub showing-index : (m : Overlap) (v : LookView) → IsShowing m v → v.levels.x ≡ index_of m
+unfolding index_of
+showing-index m v is = is.look.ahead.index ∙ ap (λ k. split_words k m.taken (seen m)) (sym (showing-count m v is))

@@ -1,0 +1,137 @@
+-- What a machine keeps when a signal comes, or an order takes effect.
+use Rattle.std.specs.Prelude.{All, IfSome, IsSome, is_none, ◌&&◌, if◌then◌else◌}
+use Rattle.std.proofs.Common.{◌≡◌, ◌⊎◌, inl, inr, ℕ, ◌+◌, ◌-◌, ◌<◌, ◌≤◌, Bool, true, false, List, length, Option, None, Some, refl, sym, subst, ◌∙◌, ap, arith}
+use Rattle.st_state.specs.Machine.{Machine, IsMachine}
+use Rattle.st_state.specs.Interrupts.{pending}
+use Rattle.st_prep.specs.BesideOrders.{AreAlikeBesideOrders}
+use Rattle.st_exec.specs.Step.{interrupt, rests}
+use Rattle.st_rows.specs.Rows.{opening}
+use Rattle.st_rows.specs.declared.front.Front.{Front}
+use Rattle.st_levels.specs.Levels.{oldest_front, AreNotDone}
+use Rattle.st_ahead.specs.Overlap.{seen, with_counter}
+use Rattle.st_ahead.specs.Look.{LookView, IsLook, IsOpened}
+use Rattle.st_ahead.specs.Inside.{standing, IsBetween, IsInside, IsUnstarted}
+use Rattle.st_ahead.proofs.SameLook.{opened-same}
+use Rattle.st_ahead.proofs.Standing.{off-if, off-and}
+
+-- ---- the counter of a guess
+
+counted-alike : (c : Option ℕ) (s u : Machine) → AreAlikeBesideOrders s u → AreAlikeBesideOrders (with_counter c s) (with_counter c u)
+counted-alike None s u is = is
+counted-alike (Some h) s u is = record {
+  size = is.size;
+  words = is.words;
+  ic = refl;
+  enabled = is.enabled;
+  waiting = is.waiting;
+  done = is.done;
+}
+
+counted-machine : (c : Option ℕ) (s u : Machine) → IsMachine (with_counter c s) → IsMachine u → IsMachine (with_counter c u)
+counted-machine None s u was is = is
+counted-machine (Some h) s u was is = record {
+  size = is.size;
+  counter = was.counter;
+  below = is.below;
+  registers = is.registers;
+  reader_area = is.reader_area;
+  printer_area = is.printer_area;
+}
+
+-- ---- all of it
+
+abbrev LooksOn : List ℕ → ℕ → ℕ → LookView → Type 0
+LooksOn ds n now v = (x y : Machine) (f : Front) → IsLook ds n now now None x f v → AreNotDone now v.levels → f.c ≡ now
+    → IsMachine y → AreAlikeBesideOrders x y → IsLook ds n now now None y f v
+
+before-first : (n : ℕ) (ds : List ℕ) (s u : Machine) (t b : Option ℕ) (now : ℕ) (over fresh : Bool) (v : LookView)
+    → IsInside (standing n ds s t b now false over fresh v) fresh v → now ≡ 0 → IsMachine u → AreAlikeBesideOrders s u → LooksOn ds n now v
+    → IsInside (standing n ds u t b now false over fresh v) fresh v
+unfolding seen
+before-first n ds s u t b now true fresh v is start m alike on = absurd (cc (is.fresh_owed (is.ended_fresh refl)))
+before-first n ds s u t b now false true v is start m alike on = absurd (cc (is.fresh_owed refl))
+before-first n ds s u t (Some h) now false false v is start m alike on = absurd (cc (is.behind_fresh refl))
+before-first n ds s u (Some i) None now false false v is start m alike on = absurd (cc ((is.unstarted refl start).table))
+before-first n ds s u None None now false false v is start m alike on =
+    let f = oldest_front v.levels.plans v.front in
+    let un = is.unstarted refl start in
+    let last : now - 1 ≡ now = omega (arith, start) in
+    let look : IsLook ds n now now None s f v = subst (λ (x : ℕ). IsLook ds n x now None s f v) last is.looking in
+    let next = on s u f look look.not_done (un.start ∙ sym start) m alike in
+    let enabled : u.enabled ≡ false = alike.enabled ∙ un.enabled in
+    let waiting : u.waiting ≡ false = alike.waiting ∙ un.waiting in
+    record {
+      some = is.some;
+      few = is.few;
+      looking = subst (λ (x : ℕ). IsLook ds n x now None u f v) (sym last) next;
+      indicator = tt;
+      in_time = is.in_time;
+      fresh_owed = λ e. absurd (cc e);
+      ended_fresh = λ e. absurd (cc e);
+      behind_fresh = λ e. refl;
+      done_now = λ e. absurd (cc e);
+      none_taken = λ e. refl;
+      quiet = λ e. (off-if u.enabled (pending u) enabled, off-and u.waiting (is_none (pending u)) waiting);
+      unstarted = λ e g. record { enabled = enabled; waiting = waiting; table = refl; start = un.start };
+    }
+
+behind-done : (n : ℕ) (ds : List ℕ) (s u : Machine) (t b : Option ℕ) (now : ℕ) (over fresh : Bool) (v : LookView)
+    → IsInside (standing n ds s t b now true over fresh v) fresh v → fresh ≡ true → IsMachine u → AreAlikeBesideOrders s u → LooksOn ds n now v
+    → IsInside (standing n ds u t b now true over fresh v) fresh v
+unfolding seen
+behind-done n ds s u t b now over false v is done m alike on = absurd (cc done)
+behind-done n ds s u (Some i) b now over true v is done m alike on = absurd (cc (is.none_taken refl))
+behind-done n ds s u None b now true true v is done m alike on =
+    let between : IsBetween now None s v = is.looking in
+    record {
+      some = is.some;
+      few = is.few;
+      looking = record {
+        opened = opened-same None s u (opening v.port.bus.banks v.front.c) v between.opened alike;
+        banks = between.banks;
+        later = between.later;
+        soon = between.soon;
+      };
+      indicator = tt;
+      in_time = is.in_time;
+      fresh_owed = λ e. refl;
+      ended_fresh = λ e. refl;
+      behind_fresh = λ e. absurd (cc e);
+      done_now = λ e g. absurd (cc g);
+      none_taken = λ e. refl;
+      quiet = λ e. absurd (cc e);
+      unstarted = λ e. absurd (cc e);
+    }
+behind-done n ds s u None b now false true v is done m alike on =
+    let f = oldest_front v.levels.plans v.front in
+    let look : IsLook ds n now now None (with_counter b s) f v = is.looking in
+    let next = on (with_counter b s) (with_counter b u) f look look.not_done (is.done_now refl refl)
+    (counted-machine b s u look.machine m) (counted-alike b s u alike) in
+    record {
+      some = is.some;
+      few = is.few;
+      looking = next;
+      indicator = tt;
+      in_time = is.in_time;
+      fresh_owed = λ e. refl;
+      ended_fresh = λ e. absurd (cc e);
+      behind_fresh = λ e. absurd (cc e);
+      done_now = λ e g. is.done_now refl refl;
+      none_taken = λ e. refl;
+      quiet = λ e. absurd (cc e);
+      unstarted = λ e. absurd (cc e);
+    }
+
+done-fresh : (fresh : Bool) (v : LookView) → IsSome (if fresh then Some v.port.bus.banks else None) → fresh ≡ true
+done-fresh true v some = refl
+done-fresh false v some = absurd (cc some)
+
+pub signal-inside : (n : ℕ) (ds : List ℕ) (s u : Machine) (t b : Option ℕ) (now : ℕ) (owed over fresh : Bool) (v : LookView)
+    → IsInside (standing n ds s t b now owed over fresh v) fresh v
+    → ((owed ≡ false) × (now ≡ 0)) ⊎ ((owed ≡ true) × IsSome (standing n ds s t b now owed over fresh v).closing)
+    → IsMachine u → AreAlikeBesideOrders s u → LooksOn ds n now v
+    → IsInside (standing n ds u t b now owed over fresh v) fresh v
+signal-inside n ds s u t b now false over fresh v is (inl turn) m alike on = before-first n ds s u t b now over fresh v is turn.1 m alike on
+signal-inside n ds s u t b now true over fresh v is (inl turn) m alike on = absurd (cc turn.0)
+signal-inside n ds s u t b now true over fresh v is (inr turn) m alike on = behind-done n ds s u t b now over fresh v is (done-fresh fresh v turn.1) m alike on
+signal-inside n ds s u t b now false over fresh v is (inr turn) m alike on = absurd (cc turn.0)

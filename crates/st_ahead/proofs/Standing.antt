@@ -1,0 +1,285 @@
+-- What a machine keeps, from one of its moments to the next.
+use Rattle.std.specs.Prelude.{All, IfSome, IsSome, is_none, replicate, ◌&&◌, ◌==◌, if◌then◌else◌}
+use Rattle.std.proofs.Common.{◌≡◌, ℕ, ◌+◌, ◌-◌, ◌<◌, ◌≤◌, ◌^◌, zero, suc, Bool, true, false, List, [], ◌∷◌, ◌++◌, length, Option, None, Some, refl, sym, subst, ◌∙◌, ap, arith}
+use Rattle.std.proofs.lemmas.Bool.{eq-eqb, ne_eqb}
+use Rattle.std.proofs.lemmas.List.Elements.{All-head, All-replicate}
+use Rattle.st_state.specs.Machine.{Machine, IsMachine}
+use Rattle.st_state.specs.Interrupts.{pending}
+use Rattle.st_banks.specs.declared.answers.LastAnswers.{LastAnswers}
+use Rattle.st_banks.specs.declared.answers.TheConstants.{BANKS}
+use Rattle.st_prep.specs.Fetch.{place_of}
+use Rattle.st_prep.specs.Plan.{plan}
+use Rattle.st_exec.specs.Completion.{executed, guess, is_missed}
+use Rattle.st_exec.specs.Step.{interrupt, rests}
+use Rattle.st_rows.specs.Rows.{opening, row, after}
+use Rattle.st_rows.specs.declared.entry.Entry.{Entry}
+use Rattle.st_rows.specs.declared.front.Front.{Front}
+use Rattle.st_segment.specs.Entries.{entry}
+use Rattle.st_segment.specs.Ahead.{ahead, prepared_before, reads_before}
+use Rattle.st_rows.specs.Asked.{asked, made_before}
+use Rattle.st_rows.specs.declared.bus.Bus.{Bus}
+use Rattle.st_ahead.specs.declared.events.Row.{Row}
+use Rattle.st_levels.specs.Levels.{oldest_front}
+use Rattle.st_levels.specs.declared.levels.Completed.{Completed}
+use Rattle.st_levels.specs.declared.plans.Plan.{Plan}
+use Rattle.st_ring.specs.declared.level.Level.{Level}
+use Rattle.st_levels.proofs.LevelLemmas.{length-ahead}
+use Rattle.st_ahead.specs.Overlap.{Overlap, started, seen, with_counter, oldest, oldest_row, levels_of, banks_at_its_end, interrupt_due, last_tick}
+use Rattle.st_ahead.specs.Calls.{is_done, row_done, missed_counter, completed, ticked, dropped, ended, passed}
+use Rattle.st_ahead.specs.Look.{LookView, IsLook, IsOpened, count}
+use Rattle.st_ahead.specs.Ticked.{IsPassedBy, IsDoneAt}
+use Rattle.st_ahead.specs.Inside.{standing, IsBetween, IsInside, IsUnstarted}
+use Rattle.st_ahead.proofs.Openings.{opening-looks}
+
+-- ---- tests
+
+pub off-if : (b : Bool) (x : Option ℕ) → b ≡ false → (if b then x else None) ≡ None
+off-if false x e = refl
+off-if true x e = absurd (cc e)
+
+pub off-and : (b c : Bool) → b ≡ false → (b && c) ≡ false
+off-and false c e = refl
+off-and true c e = absurd (cc e)
+
+pub chosen : (b : Bool) (x y : Overlap) → b ≡ true → (if b then x else y) ≡ x
+chosen true x y e = refl
+chosen false x y e = absurd (cc e)
+
+pub left_over : (b : Bool) (x y : Overlap) → b ≡ false → (if b then x else y) ≡ y
+left_over false x y e = refl
+left_over true x y e = absurd (cc e)
+
+-- ---- machines that agree
+
+abbrev pub overlap : List ℕ → ℕ → Machine → Option ℕ → Option ℕ → Front → ℕ → Bool → Bool → Option LastAnswers → Overlap
+overlap ds n s t b f now owed ended closing = record {
+  delays = ds;
+  levels = n;
+  state = s;
+  taken = t;
+  behind = b;
+  front = f;
+  now = now;
+  owed = owed;
+  ended = ended;
+  closing = closing;
+}
+
+pub same-fields : (ds : List ℕ) (n : ℕ) (s u : Machine) (t : Option ℕ) (b c : Option ℕ) (f g : Front) (now : ℕ) (owed ended : Bool) (x y : Option LastAnswers)
+    → s ≡ u → b ≡ c → f ≡ g → x ≡ y → overlap ds n s t b f now owed ended x ≡ overlap ds n u t c g now owed ended y
+same-fields ds n s u t b c f g now owed ended x y state behind front closing = rw (state, behind, front, closing) refl
+
+-- a row that is told
+abbrev pub told : ℕ → ℕ → ℕ → ℕ → ℕ → Row
+told number address p r c = record { number = number; address = address; p = p; r = r; c = c }
+
+-- ---- fronts
+
+pub opened-front : (t : Option ℕ) (s : Machine) (f : Front) (v : LookView) → IsOpened t s f v → oldest_front v.levels.plans v.front ≡ f
+opened-front t s f v is = subst (λ (plans : List Plan). oldest_front plans v.front ≡ f) (sym is.plans) is.front
+
+after-c : (ds : List ℕ) (n : ℕ) (f : Front) (e : Entry) → (after ds n f e).c ≡ (row ds n f e).c
+unfolding row after
+after-c ds n f e = refl
+
+-- ---- before the first tick
+
+pub started-inside : (n : ℕ) (ds : List ℕ) (s : Machine) (v : LookView) → 1 ≤ n → n ≤ 8 → IsMachine s → s.enabled ≡ false → s.waiting ≡ false
+    → IsOpened None s (opening (record { ticks = replicate BANKS 0 }) 0) v
+    → IsInside (standing n ds s None None 0 false false false v) false v × (standing n ds s None None 0 false false false v ≡ started ds n s)
+unfolding seen
+started-inside n ds s v some few m enabled waiting is =
+    let banks : LastAnswers = record { ticks = replicate BANKS 0 } in
+    let front = opened-front None s (opening banks 0) v is in
+    let look = opening-looks ds n 0 0 0 None s banks v is m tt (All-replicate (λ (b : ℕ). b ≤ 0 + 255) BANKS 0 (omega arith)) (omega arith) (omega arith) in (
+      record {
+        some = some;
+        few = few;
+        looking = subst (λ (f : Front). IsLook ds n 0 0 None s f v) (sym front) look;
+        indicator = tt;
+        in_time = omega arith;
+        fresh_owed = λ e. absurd (cc e);
+        ended_fresh = λ e. absurd (cc e);
+        behind_fresh = λ e. refl;
+        done_now = λ e. absurd (cc e);
+        none_taken = λ e. refl;
+        quiet = λ e. (off-if s.enabled (pending s) enabled, off-and s.waiting (is_none (pending s)) waiting);
+        unstarted = λ e f. record { enabled = enabled; waiting = waiting; table = refl; start = ap (λ (g : Front). g.c) front };
+      },
+      same-fields ds n s s None None None _ _ 0 false false None None refl refl front refl,
+    )
+
+-- ---- between two ticks
+
+-- where nothing is owed
+pub record IsIdle (n : ℕ) (ds : List ℕ) (s : Machine) (t b : Option ℕ) (now : ℕ) (over done : Bool) (v : LookView) : Type 0 where
+  pub ended : over ≡ false
+  pub fresh : done ≡ false
+  pub behind : b ≡ None
+  pub look : IsLook ds n (now - 1) now t s (oldest_front v.levels.plans v.front) v
+
+pub idle : (n : ℕ) (ds : List ℕ) (s : Machine) (t b : Option ℕ) (now : ℕ) (owed ended fresh : Bool) (v : LookView)
+    → IsInside (standing n ds s t b now owed ended fresh v) fresh v → owed ≡ false → IsIdle n ds s t b now ended fresh v
+unfolding seen
+idle n ds s t b now true ended fresh v is e = absurd (cc e)
+idle n ds s t b now false true fresh v is e = absurd (cc (is.fresh_owed (is.ended_fresh refl)))
+idle n ds s t b now false false true v is e = absurd (cc (is.fresh_owed refl))
+idle n ds s t b now false false false v is e =
+    let behind = is.behind_fresh refl in
+    record {
+      ended = refl;
+      fresh = refl;
+      behind = behind;
+      look = subst (λ (c : Option ℕ). IsLook ds n (now - 1) now t (with_counter c s) (oldest_front v.levels.plans v.front) v) behind is.looking;
+    }
+
+-- a level was prepared at a tick before
+pub not-first : (now : ℕ) (ring : List Level) → All (λ level. level.p < now) ring → 1 ≤ length ring → now ≡ now - 1 + 1
+not-first now [] each some = absurd (omega (arith, some))
+not-first now (level ∷ levels) each some = let early : level.p < now = All-head (λ (l : Level). l.p < now) level levels each in omega (arith, early)
+
+-- ---- a tick
+
+pub passed-calm : (n : ℕ) (ds : List ℕ) (s u : Machine) (t : Option ℕ) (now : ℕ) (v w : LookView)
+    → IsInside (standing n ds s t None now false false false v) false v → now < 2 ^ 63
+    → IsPassedBy ds n now t s (oldest_front v.levels.plans v.front) v u w
+    → oldest_front w.levels.plans w.front ≡ oldest_front v.levels.plans v.front
+    → IsInside (standing n ds u t None now true false false w) false w
+    × (is_done (standing n ds s t None now false false false v) ≡ false)
+    × (standing n ds u t None now true false false w ≡ ticked (standing n ds s t None now false false false v))
+unfolding seen oldest_row ticked
+passed-calm n ds s u t now v w is early by front =
+    let f = oldest_front v.levels.plans v.front in
+    let late : is_done (standing n ds s t None now false false false v) ≡ false = ne_eqb (row ds n f (entry t s)).c now by.later in
+    let quiet = is.quiet refl in (
+      record {
+        some = is.some;
+        few = is.few;
+        looking =
+            subst (λ (x : Machine). IsLook ds n now now t x (oldest_front w.levels.plans w.front) w) (sym by.state)
+            (subst (λ (g : Front). IsLook ds n now now t s g w) (sym front) by.look);
+        indicator = is.indicator;
+        in_time = early;
+        fresh_owed = λ e. absurd (cc e);
+        ended_fresh = λ e. absurd (cc e);
+        behind_fresh = λ e. refl;
+        done_now = λ e. absurd (cc e);
+        none_taken = λ e. absurd (cc e);
+        quiet = λ e. (
+          subst (λ (x : Machine). (if is_none t then interrupt x else None) ≡ None) (sym by.state) quiet.0,
+          subst (λ (x : Machine). rests x ≡ false) (sym by.state) quiet.1,
+        );
+        unstarted = λ e. absurd (cc e);
+      },
+      late,
+      same-fields ds n u s t None None _ f now true false None None by.state refl front refl ∙ sym (left_over _ _ _ late),
+    )
+
+pub passed-tick : (n : ℕ) (ds : List ℕ) (s u : Machine) (t b : Option ℕ) (now : ℕ) (owed ended fresh : Bool) (v w : LookView)
+    → IsInside (standing n ds s t b now owed ended fresh v) fresh v → owed ≡ false → now < 2 ^ 63
+    → IsPassedBy ds n now t s (oldest_front v.levels.plans v.front) v u w
+    → oldest_front w.levels.plans w.front ≡ oldest_front v.levels.plans v.front
+    → IsInside (standing n ds u t b now true ended fresh w) fresh w
+    × (is_done (standing n ds s t b now owed ended fresh v) ≡ false)
+    × (standing n ds u t b now true ended fresh w ≡ ticked (standing n ds s t b now owed ended fresh v))
+passed-tick n ds s u t b now true ended fresh v w is e early by front = absurd (cc e)
+passed-tick n ds s u t b now false true fresh v w is e early by front = absurd (cc (is.fresh_owed (is.ended_fresh refl)))
+passed-tick n ds s u t b now false false true v w is e early by front = absurd (cc (is.fresh_owed refl))
+passed-tick n ds s u t (Some h) now false false false v w is e early by front = absurd (cc (is.behind_fresh refl))
+passed-tick n ds s u t None now false false false v w is e early by front = passed-calm n ds s u t now v w is early by front
+
+-- what runs ahead goes on by the guess
+pub guess-seen : (t : Option ℕ) (s u : Machine) (b : Bool) (missed : Option ℕ) → is_missed (plan s t) s ≡ b
+    → u ≡ executed t s → missed ≡ (if b then Some (plan s t).following else None)
+    → (is_missed (plan s t) s ≡ false → guess t s ≡ executed t s)
+    → (is_missed (plan s t) s ≡ true → guess t s ≡ record (executed t s) { ic = (plan s t).following })
+    → with_counter missed u ≡ guess t s
+guess-seen t s u true missed is state told right wrong = rw (told, state) (sym (wrong is))
+guess-seen t s u false missed is state told right wrong = rw (told, state) (sym (right is))
+
+pub done-calm : (n : ℕ) (ds : List ℕ) (s u : Machine) (t : Option ℕ) (now : ℕ) (v w : LookView) (done : Completed)
+    → IsInside (standing n ds s t None now false false false v) false v → now < 2 ^ 63
+    → IsDoneAt ds n now t s (oldest_front v.levels.plans v.front) v u w done
+    → oldest_front w.levels.plans w.front ≡ after ds n (oldest_front v.levels.plans v.front) (entry t s)
+    → banks_at_its_end (standing n ds s t None now false false false v) ≡ v.port.bus.banks
+    → with_counter done.missed u ≡ guess t s
+    → IsInside (standing n ds u None done.missed now true false true w) true w
+    × (is_done (standing n ds s t None now false false false v) ≡ true)
+    × (standing n ds u None done.missed now true false true w ≡ ticked (standing n ds s t None now false false false v))
+unfolding seen oldest_row ticked completed
+done-calm n ds s u t now v w done is early by front banks guessed =
+    let f = oldest_front v.levels.plans v.front in
+    let due : is_done (standing n ds s t None now false false false v) ≡ true = eq-eqb (row ds n f (entry t s)).c now by.due in
+    let left : Some w.port.bus.banks ≡ Some (banks_at_its_end (standing n ds s t None now false false false v)) =
+    ap (λ port. Some port.bus.banks) by.port ∙ ap Some (sym banks) in (
+      record {
+        some = is.some;
+        few = is.few;
+        looking =
+            subst (λ (x : Machine). IsLook ds n now now None x (oldest_front w.levels.plans w.front) w) (sym guessed)
+            (subst (λ (g : Front). IsLook ds n now now None (guess t s) g w) (sym front) by.look);
+        indicator = tt;
+        in_time = early;
+        fresh_owed = λ e. refl;
+        ended_fresh = λ e. refl;
+        behind_fresh = λ e. absurd (cc e);
+        done_now = λ e g. ap (λ (x : Front). x.c) front ∙ after-c ds n f (entry t s) ∙ by.due;
+        none_taken = λ e. refl;
+        quiet = λ e. absurd (cc e);
+        unstarted = λ e. absurd (cc e);
+      },
+      due,
+      same-fields ds n u (executed t s) None done.missed _ _ (after ds n f (entry t s)) now true false _ _ by.state by.told.missed front left
+          ∙ sym (chosen _ _ _ due),
+    )
+
+pub done-tick : (n : ℕ) (ds : List ℕ) (s u : Machine) (t b : Option ℕ) (now : ℕ) (owed ended fresh : Bool) (v w : LookView) (done : Completed)
+    → IsInside (standing n ds s t b now owed ended fresh v) fresh v → owed ≡ false → now < 2 ^ 63
+    → IsDoneAt ds n now t s (oldest_front v.levels.plans v.front) v u w done
+    → oldest_front w.levels.plans w.front ≡ after ds n (oldest_front v.levels.plans v.front) (entry t s)
+    → banks_at_its_end (standing n ds s t None now false false false v) ≡ v.port.bus.banks
+    → with_counter done.missed u ≡ guess t s
+    → IsInside (standing n ds u None done.missed now true ended true w) true w
+    × (is_done (standing n ds s t b now owed ended fresh v) ≡ true)
+    × (standing n ds u None done.missed now true ended true w ≡ ticked (standing n ds s t b now owed ended fresh v))
+done-tick n ds s u t b now true ended fresh v w done is e early by front banks guessed = absurd (cc e)
+done-tick n ds s u t b now false true fresh v w done is e early by front banks guessed = absurd (cc (is.fresh_owed (is.ended_fresh refl)))
+done-tick n ds s u t b now false false true v w done is e early by front banks guessed = absurd (cc (is.fresh_owed refl))
+done-tick n ds s u t (Some h) now false false false v w done is e early by front banks guessed = absurd (cc (is.behind_fresh refl))
+done-tick n ds s u t None now false false false v w done is e early by front banks guessed = done-calm n ds s u t now v w done is early by front banks guessed
+
+-- ---- what is told of an entry that is done
+
+same-row : (number address p r c number' address' p' r' : ℕ) → number ≡ number' → address ≡ address' → p ≡ p' → r ≡ r'
+    → told number address p r c ≡ told number' address' p' r' c
+same-row number address p r c number' address' p' r' a b d e = rw (a, b, d, e) refl
+
+row-calm : (n : ℕ) (ds : List ℕ) (s u : Machine) (t : Option ℕ) (now : ℕ) (v w : LookView) (done : Completed)
+    → IsDoneAt ds n now t s (oldest_front v.levels.plans v.front) v u w done → (executed t s).done ≡ s.done + 1
+    → told u.done done.address done.p done.r now ≡ row_done (standing n ds s t None now false false false v)
+unfolding seen oldest_row
+row-calm n ds s u t now v w done by number =
+    same-row u.done done.address done.p done.r now _ _ _ _ (ap (λ (x : Machine). x.done) by.state ∙ number) by.told.address by.told.p by.told.r
+
+pub row-tick : (n : ℕ) (ds : List ℕ) (s u : Machine) (t b : Option ℕ) (now : ℕ) (owed ended fresh : Bool) (v w : LookView) (done : Completed)
+    → IsInside (standing n ds s t b now owed ended fresh v) fresh v → owed ≡ false
+    → IsDoneAt ds n now t s (oldest_front v.levels.plans v.front) v u w done → (executed t s).done ≡ s.done + 1
+    → told u.done done.address done.p done.r now ≡ row_done (standing n ds s t b now owed ended fresh v)
+row-tick n ds s u t b now true ended fresh v w done is e by number = absurd (cc e)
+row-tick n ds s u t b now false true fresh v w done is e by number = absurd (cc (is.fresh_owed (is.ended_fresh refl)))
+row-tick n ds s u t b now false false true v w done is e by number = absurd (cc (is.fresh_owed refl))
+row-tick n ds s u t (Some h) now false false false v w done is e by number = absurd (cc (is.behind_fresh refl))
+row-tick n ds s u t None now false false false v w done is e by number = row-calm n ds s u t now v w done by number
+
+-- ---- the banks
+
+pub banks-at : (n : ℕ) (ds : List ℕ) (s : Machine) (t : Option ℕ) (now : ℕ) (v : LookView)
+    → (let f = oldest_front v.levels.plans v.front in
+    made_before ds now (asked ds n f (entry t s) ++ reads_before ds n now (ahead ds n (suc n) None (guess t s) (after ds n f (entry t s)))) f.bus ≡ v.port.bus)
+    → banks_at_its_end (standing n ds s t None now false false false v) ≡ v.port.bus.banks
+unfolding seen banks_at_its_end
+banks-at n ds s t now v h = ap (λ (bus : Bus). bus.banks) h
+
+pub some-due : (k : ℕ) → (k ≡ 0 → ⊥) → 1 ≤ k
+some-due zero f = absurd (f refl)
+some-due (suc k) f = omega arith

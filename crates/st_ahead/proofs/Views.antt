@@ -1,0 +1,141 @@
+-- What is shown of the levels.
+use Rattle.std.specs.Prelude.{◌++◌, map, replicate, get_or, slice_get, nat_le, option_map, ◌-◌}
+use Rattle.std.proofs.Common.{◌≡◌, ℕ, zero, suc, ◌+◌, ◌<◌, ◌≤◌, Bool, List, [], ◌∷◌, length, Option, None, Some, refl, sym, ◌∙◌, ap, arith}
+use Rattle.std.proofs.lemmas.List.{length-append, length-map, length-replicate}
+use Rattle.st_state.specs.Machine.{Machine}
+use Rattle.st_exec.specs.Completion.{guess}
+use Rattle.st_prep.specs.declared.entries.Prepared.{Prepared}
+use Rattle.st_prep.specs.Plan.{plan}
+use Rattle.st_rows.specs.Rows.{row, after}
+use Rattle.st_rows.specs.declared.front.Front.{Front}
+use Rattle.st_ring.specs.declared.level.Level.{Level}
+use Rattle.st_segment.specs.Entries.{entry}
+use Rattle.st_segment.specs.Ahead.{Ahead, ahead, next_ahead}
+use Rattle.st_levels.specs.Levels.{AreLevels, IsLevel}
+use Rattle.st_levels.specs.declared.plans.Plan.{Plan}
+use Rattle.st_ahead.specs.Overlap.{Overlap, seen, levels_of, last_tick}
+use Rattle.st_ahead.specs.Look.{LookView, count}
+use Rattle.st_ahead.specs.Shown.{kept_by, level_shown, shown, index_of}
+use Rattle.st_ahead.specs.Inside.{kept_shown, kept_at}
+use Rattle.st_ahead.specs.declared.events.LevelView.{LevelView}
+use Rattle.st_ahead.specs.declared.events.View.{View}
+use Rattle.st_ahead.proofs.Showing.{IsShowing, showing-count}
+
+-- ---- a level
+
+abbrev hidden : Option LevelView
+hidden = None
+
+abbrev pub view-of : ℕ → ℕ → List ℕ → List (Option LevelView) → View
+view-of tick done x levels = record { tick = tick; done = done; x = x; levels = levels }
+
+abbrev at : Prepared → ℕ → ℕ → ℕ → LevelView
+at prepared p r tick = record {
+  address = prepared.place.address;
+  p = p;
+  index = option_map (λ c. c.number) prepared.index;
+  kept = kept_by prepared.index;
+  ready = nat_le r tick;
+}
+
+same-shown : (a b : Prepared) (p q r x tick : ℕ) → a ≡ b → p ≡ q → r ≡ x → at a p r tick ≡ at b q x tick
+same-shown a b p q r x tick e g h = rw (e, g, h) refl
+
+one-shown : (ds : List ℕ) (n tick now : ℕ) (t : Option ℕ) (s : Machine) (f : Front) (level : Level) (q : Plan) → IsLevel ds n tick t s f level q
+    → kept_shown now level q ≡ level_shown now (next_ahead ds n t s f)
+one-shown ds n tick now t s f level q is =
+    same-shown level.prepared (plan s t) level.p (row ds n f (entry t s)).p q.r (row ds n f (entry t s)).r now is.prepared is.p is.r
+
+level-at : (ds : List ℕ) (n tick now k : ℕ) (t : Option ℕ) (s : Machine) (f last : Front) (ring : List Level) (plans : List Plan) (rest : List (Option LevelView))
+    → AreLevels ds n tick t s f last ring plans → ((j : ℕ) → get_or rest j None ≡ None)
+    → kept_at now ring plans k ≡ get_or (map (λ a. Some (level_shown now a)) (ahead ds n (length ring) t s f) ++ rest) k None
+unfolding AreLevels ahead kept_at
+level-at ds n tick now k t s f last [] [] rest is none = sym (none k)
+level-at ds n tick now k t s f last [] (p ∷ ps) rest is none = absurd is
+level-at ds n tick now k t s f last (l ∷ ls) [] rest is none = absurd is
+level-at ds n tick now zero t s f last (l ∷ ls) (p ∷ ps) rest is none = ap (λ x. Some x) (one-shown ds n tick now t s f l p is.0)
+level-at ds n tick now (suc k) t s f last (l ∷ ls) (p ∷ ps) rest is none =
+    level-at ds n tick now k None (guess t s) (after ds n f (entry t s)) last ls ps rest is.1 none
+
+none-at : (m k : ℕ) → get_or (replicate m hidden) k None ≡ None
+none-at zero k = refl
+none-at (suc m) zero = refl
+none-at (suc m) (suc k) = none-at m k
+
+-- ---- what is kept of level k
+
+pub kept-none : (tick k : ℕ) (ring : List Level) (plans : List Plan) → length ring ≤ k → None ≡ kept_at tick ring plans k
+unfolding kept_at
+kept-none tick k [] plans few = refl
+kept-none tick k (l ∷ ls) [] few = refl
+kept-none tick zero (l ∷ ls) (p ∷ ps) few = absurd (omega (arith, few))
+kept-none tick (suc k) (l ∷ ls) (p ∷ ps) few = kept-none tick k ls ps (omega (arith, few))
+
+kept-first : (tick : ℕ) (l level : Level) (p q : Plan) → Some l ≡ Some level → Some p ≡ Some q → Some (kept_shown tick level q) ≡ Some (kept_shown tick l p)
+kept-first tick l level p q a b = let same : l ≡ level = cc in let planned : p ≡ q = cc in rw (same, planned) refl
+
+pub kept-some : (tick k : ℕ) (ring : List Level) (plans : List Plan) (level : Level) (q : Plan) → slice_get ring k ≡ Some level → slice_get plans k ≡ Some q
+    → Some (kept_shown tick level q) ≡ kept_at tick ring plans k
+unfolding kept_at
+kept-some tick k [] plans level q there planned = absurd (cc there)
+kept-some tick k (l ∷ ls) [] level q there planned = absurd (cc planned)
+kept-some tick zero (l ∷ ls) (p ∷ ps) level q there planned = kept-first tick l level p q there planned
+kept-some tick (suc k) (l ∷ ls) (p ∷ ps) level q there planned = kept-some tick k ls ps level q there planned
+
+abbrev pub level-of : ℕ → ℕ → Option ℕ → ℕ → Bool → LevelView
+level-of address p index kept ready = record { address = address; p = p; index = index; kept = kept; ready = ready }
+
+pub some-kept : (address p : ℕ) (index number : Option ℕ) (kept word : ℕ) (ready : Bool) → index ≡ number → kept ≡ word
+    → Some (level-of address p index kept ready) ≡ Some (level-of address p number word ready)
+some-kept address p index number kept word ready a b = rw (a, b) refl
+
+-- ---- all of them
+
+pub showing-level : (m : Overlap) (v : LookView) (k : ℕ) → IsShowing m v
+    → kept_at (last_tick m) v.levels.ring v.levels.plans k ≡ get_or (shown m).levels k None
+unfolding shown
+showing-level m v k is =
+    let left = 8 - length (levels_of m) in
+    level-at m.delays m.levels (last_tick m) (last_tick m) k m.taken (seen m) m.front v.front v.levels.ring v.levels.plans (replicate left None) is.look.ahead.levels
+    (λ j. none-at left j)
+    ∙ ap (λ (levels : List Ahead). get_or (map (λ a. Some (level_shown (last_tick m) a)) levels ++ replicate left None) k None) (sym is.levels)
+
+pub showing-eight : (m : Overlap) (v : LookView) → IsShowing m v → count v ≤ 8 → length (shown m).levels ≡ 8
+unfolding shown
+showing-eight m v is few =
+    let shows = map (λ (a : Ahead). Some (level_shown (last_tick m) a)) (levels_of m) in
+    let left = 8 - length (levels_of m) in
+    let both = length-append shows (replicate left hidden) in
+    omega (arith, both, length-map (levels_of m) (λ (a : Ahead). Some (level_shown (last_tick m) a)), length-replicate left hidden, showing-count m v is, few)
+
+tabulated : ℕ → (ℕ → Option LevelView) → List (Option LevelView)
+tabulated zero f = []
+tabulated (suc n) f = f 0 ∷ tabulated n (λ k. f (suc k))
+
+listed : (n : ℕ) (xs : List (Option LevelView)) → length xs ≡ n → tabulated n (λ k. get_or xs k None) ≡ xs
+unfolding tabulated
+listed zero [] long = refl
+listed zero (x ∷ xs) long = absurd (omega (arith, long))
+listed (suc n) [] long = absurd (omega (arith, long))
+listed (suc n) (x ∷ xs) long = let rest : length xs ≡ n = omega (arith, long) in ap (λ ys. x ∷ ys) (listed n xs rest)
+
+pub eight : (xs : List (Option LevelView)) → length xs ≡ 8
+    → get_or xs 0 None ∷ get_or xs 1 None ∷ get_or xs 2 None ∷ get_or xs 3 None ∷ get_or xs 4 None ∷ get_or xs 5 None ∷ get_or xs 6 None ∷ get_or xs 7 None ∷ [] ≡ xs
+unfolding tabulated
+eight xs long = listed 8 xs long
+
+pub eight-shown : (xs : List (Option LevelView)) (a b c d e f g h : Option LevelView) → length xs ≡ 8
+    → a ≡ get_or xs 0 None → b ≡ get_or xs 1 None → c ≡ get_or xs 2 None → d ≡ get_or xs 3 None
+    → e ≡ get_or xs 4 None → f ≡ get_or xs 5 None → g ≡ get_or xs 6 None → h ≡ get_or xs 7 None
+    → a ∷ b ∷ c ∷ d ∷ e ∷ f ∷ g ∷ h ∷ [] ≡ xs
+eight-shown xs a b c d e f g h long a_is b_is c_is d_is e_is f_is g_is h_is =
+    rw (a_is, b_is, c_is, d_is, e_is, f_is, g_is, h_is) (eight xs long)
+
+same-view : (tick done : ℕ) (x : List ℕ) (levels : List (Option LevelView)) (tick' done' : ℕ) (x' : List ℕ) (levels' : List (Option LevelView))
+    → tick ≡ tick' → done ≡ done' → x ≡ x' → levels ≡ levels' → view-of tick done x levels ≡ view-of tick' done' x' levels'
+same-view tick done x levels tick' done' x' levels' a b c d = rw (a, b, c, d) refl
+
+pub view-shown : (m : Overlap) (tick done : ℕ) (x : List ℕ) (levels : List (Option LevelView)) → tick ≡ last_tick m → done ≡ m.state.done → x ≡ index_of m
+    → levels ≡ (shown m).levels → view-of tick done x levels ≡ shown m
+unfolding shown
+view-shown m tick done x levels a b c d = same-view tick done x levels _ _ _ _ a b c d

@@ -1,0 +1,72 @@
+use Rattle.std.proofs.Common.{◌≡◌, ◌+◌, ◌<◌, ◌^◌, true, false, None, sym, subst, arith}
+use Rattle.st_exec.specs.Step.{rests}
+use Rattle.st_levels.specs.Levels.{oldest_front}
+use Rattle.st_ahead.specs.Overlap.{Overlap, interrupt_due}
+use Rattle.st_ahead.specs.Calls.{passed}
+use Rattle.st_ahead.specs.Inside.{standing}
+use Rattle.st_ahead.proofs.Settling.{go-inside, going-look, look-goes}
+use Rattle.st_ahead.proofs.machine.Machine.go_on.Goals as goal
+
+pub pass-requires : goal.pass-requires
+pass-requires g c =
+    (omega arith, (c.requires.owed, (subst (λ (m : Overlap). m.ended ≡ true) c.self.view_is c.if-self.true, (c.requires.due, c.requires.goes))))
+
+pub go_on-requires : goal.go_on-requires
+go_on-requires g c =
+    let i = c.self.inside in
+    let owes = subst (λ (m : Overlap). m.owed ≡ true) (sym c.self.view_is) c.requires.owed in
+    let right = subst (λ (m : Overlap). m.behind ≡ None) (sym c.self.view_is) c.requires.right in
+    let both = going-look g.row.N i.delays i.state i.taken i.behind i.now i.owed i.ended i.fresh i.look c.self.invariant owes c.if-self.false right in
+    let f = oldest_front i.look.levels.plans i.look.front in (
+      omega arith,
+      (
+        c.self.invariant.some,
+        (
+          c.self.invariant.few,
+          (
+            both.1,
+            record { table = i.taken; front = f; going = look-goes i.delays g.row.N i.now i.taken i.state f i.look both.0 },
+          ),
+        ),
+      ),
+    )
+
+pub overflow_add-self : goal.overflow_add-self
+overflow_add-self g c =
+    let i = c.self.inside in
+    let owes = subst (λ (m : Overlap). m.owed ≡ true) (sym c.self.view_is) c.requires.owed in
+    let right = subst (λ (m : Overlap). m.behind ≡ None) (sym c.self.view_is) c.requires.right in
+    let both = going-look g.row.N i.delays i.state i.taken i.behind i.now i.owed i.ended i.fresh i.look c.self.invariant owes c.if-self.false right in
+    let early : i.now < 2 ^ 63 = both.1 in
+    omega (arith, early)
+
+pub invariant_of-self : goal.invariant_of-self
+invariant_of-self g c =
+    let n = g.row.N in
+    let i = c.self.inside in
+    let w = c.go_on.new.self in
+    let owes = subst (λ (m : Overlap). m.owed ≡ true) (sym c.self.view_is) c.requires.owed in
+    let right = subst (λ (m : Overlap). m.behind ≡ None) (sym c.self.view_is) c.requires.right in
+    let both = going-look n i.delays i.state i.taken i.behind i.now i.owed i.ended i.fresh i.look c.self.invariant owes c.if-self.false right in
+    let f = oldest_front i.look.levels.plans i.look.front in
+    let look = c.go_on.ensures i.taken f (look-goes i.delays n i.now i.taken i.state f i.look both.0) in
+    (go-inside n i.delays i.state i.taken i.behind i.now i.owed i.ended i.fresh i.look w c.self.invariant owes c.if-self.false right
+    (subst (λ (m : Overlap). interrupt_due m ≡ None) (sym c.self.view_is) c.requires.due)
+    (subst (λ (m : Overlap). rests m.state ≡ false) (sym c.self.view_is) c.requires.goes)
+    look (c.levels_are_the_entries_ahead.ensures.oldest i.delays n i.now i.taken i.state f w.front w.levels look.ahead)).0
+
+pub returns : goal.returns
+returns g c =
+    let n = g.row.N in
+    let i = c.self.inside in
+    let w = c.go_on.new.self in
+    let owes = subst (λ (m : Overlap). m.owed ≡ true) (sym c.self.view_is) c.requires.owed in
+    let right = subst (λ (m : Overlap). m.behind ≡ None) (sym c.self.view_is) c.requires.right in
+    let both = going-look n i.delays i.state i.taken i.behind i.now i.owed i.ended i.fresh i.look c.self.invariant owes c.if-self.false right in
+    let f = oldest_front i.look.levels.plans i.look.front in
+    let look = c.go_on.ensures i.taken f (look-goes i.delays n i.now i.taken i.state f i.look both.0) in
+    subst (λ (m : Overlap). standing n i.delays i.state i.taken i.behind (i.now + 1) false i.ended false w ≡ passed m) c.self.view_is
+    (go-inside n i.delays i.state i.taken i.behind i.now i.owed i.ended i.fresh i.look w c.self.invariant owes c.if-self.false right
+    (subst (λ (m : Overlap). interrupt_due m ≡ None) (sym c.self.view_is) c.requires.due)
+    (subst (λ (m : Overlap). rests m.state ≡ false) (sym c.self.view_is) c.requires.goes)
+    look (c.levels_are_the_entries_ahead.ensures.oldest i.delays n i.now i.taken i.state f w.front w.levels look.ahead)).1

@@ -1,0 +1,33 @@
+use Rattle.std.proofs.Common.{◌≡◌, ◌+◌, ◌<◌, ◌^◌, true, false, None, sym, subst, arith}
+use Rattle.st_exec.specs.Step.{rests}
+use Rattle.st_ahead.specs.Overlap.{Overlap, interrupt_due}
+use Rattle.st_ahead.specs.Calls.{passed}
+use Rattle.st_ahead.specs.Inside.{standing}
+use Rattle.st_ahead.proofs.Settling.{pass-inside, owed-early}
+use Rattle.st_ahead.proofs.machine.Machine.pass.Goals as goal
+
+pub overflow_add-self : goal.overflow_add-self
+overflow_add-self g c =
+    let i = c.self.inside in
+    let owes = subst (λ (m : Overlap). m.owed ≡ true) (sym c.self.view_is) c.requires.owed in
+    let early : i.now < 2 ^ 63 = owed-early i.owed i.now owes c.self.invariant.in_time in
+    omega (arith, early)
+
+pub invariant_of-self : goal.invariant_of-self
+invariant_of-self g c =
+    let i = c.self.inside in
+    (pass-inside g.row.N i.delays i.state i.taken i.behind i.now i.owed i.ended i.fresh i.look c.self.invariant c.shape.ensures
+    (subst (λ (m : Overlap). m.owed ≡ true) (sym c.self.view_is) c.requires.owed)
+    (subst (λ (m : Overlap). m.ended ≡ true) (sym c.self.view_is) c.requires.ended)
+    (subst (λ (m : Overlap). interrupt_due m ≡ None) (sym c.self.view_is) c.requires.due)
+    (subst (λ (m : Overlap). rests m.state ≡ false) (sym c.self.view_is) c.requires.goes)).0
+
+pub returns : goal.returns
+returns g c =
+    let i = c.self.inside in
+    subst (λ (m : Overlap). standing g.row.N i.delays i.state i.taken None (i.now + 1) false false false i.look ≡ passed m) c.self.view_is
+    (pass-inside g.row.N i.delays i.state i.taken i.behind i.now i.owed i.ended i.fresh i.look c.self.invariant c.shape.ensures
+    (subst (λ (m : Overlap). m.owed ≡ true) (sym c.self.view_is) c.requires.owed)
+    (subst (λ (m : Overlap). m.ended ≡ true) (sym c.self.view_is) c.requires.ended)
+    (subst (λ (m : Overlap). interrupt_due m ≡ None) (sym c.self.view_is) c.requires.due)
+    (subst (λ (m : Overlap). rests m.state ≡ false) (sym c.self.view_is) c.requires.goes)).1

@@ -1,0 +1,32 @@
+use Rattle.std.specs.Prelude.{IsSome, IfSome}
+use Rattle.std.proofs.Common.{◌≡◌, inr, ap, sym, subst}
+use Rattle.st_state.specs.Machine.{Machine}
+use Rattle.st_prep.specs.BesideOrders.{AreAlikeBesideOrders}
+use Rattle.st_exec.specs.Run.{words_from}
+use Rattle.st_rows.proofs.Within.{AreDelays-list}
+use Rattle.st_ahead.specs.Overlap.{Overlap}
+use Rattle.st_ahead.specs.Calls.{MayServe, printed_by}
+use Rattle.st_ahead.specs.Inside.{standing}
+use Rattle.st_ahead.proofs.Signals.{signal-inside}
+use Rattle.st_ahead.proofs.machine.Machine.print_out.Goals as goal
+
+pub invariant_of-self : goal.invariant_of-self
+invariant_of-self g c =
+    let n = g.row.N in
+    let i = c.self.inside in
+    signal-inside n i.delays i.state c.print_out-words.new.state i.taken i.behind i.now i.owed i.ended i.fresh i.look c.self.invariant
+    (inr (subst MayServe (sym c.self.view_is) c.requires.turn)) c.shape-2.ensures
+    (subst (λ (u : Machine). AreAlikeBesideOrders i.state u) (sym c.print_out-words.ensures.state) (c.orders_are_passed_over.ensures.printed i.state))
+    (λ x y f look late done m alike. c.signals_leave_looks.ensures.look i.delays n i.now i.now x y f i.look
+    c.self.invariant.some c.self.invariant.few (AreDelays-list i.delays c.shape.ensures) look late done m alike)
+
+pub returns-clause-words : goal.returns-clause-words
+returns-clause-words g c =
+    subst (λ (m : Overlap). IfSome m.state.printer (λ order. c.print_out-words.result ≡ words_from m.state order.word 8)) c.self.view_is c.print_out-words.ensures.words
+
+pub returns-clause-after : goal.returns-clause-after
+returns-clause-after g c =
+    let n = g.row.N in
+    let i = c.self.inside in
+    subst (λ (m : Overlap). standing n i.delays c.print_out-words.new.state i.taken i.behind i.now i.owed i.ended i.fresh i.look ≡ printed_by m) c.self.view_is
+    (ap (λ (u : Machine). standing n i.delays u i.taken i.behind i.now i.owed i.ended i.fresh i.look) c.print_out-words.ensures.state)

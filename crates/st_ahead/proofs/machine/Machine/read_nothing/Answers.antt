@@ -1,0 +1,29 @@
+use Rattle.std.specs.Prelude.{IsSome, IfSome}
+use Rattle.std.proofs.Common.{◌≡◌, inr, None, sym, subst}
+use Rattle.st_state.specs.Machine.{Machine}
+use Rattle.st_rows.proofs.Within.{AreDelays-list}
+use Rattle.st_ahead.specs.Overlap.{Overlap}
+use Rattle.st_ahead.specs.Calls.{MayServe, read_in_by}
+use Rattle.st_ahead.specs.Inside.{standing}
+use Rattle.st_ahead.proofs.Signals.{signal-inside}
+use Rattle.st_ahead.proofs.Cards.{no_card-alike, with-read}
+use Rattle.st_ahead.proofs.machine.Machine.read_nothing.Goals as goal
+
+pub invariant_of-self : goal.invariant_of-self
+invariant_of-self g c =
+    let n = g.row.N in
+    let i = c.self.inside in
+    let some = subst (λ (m : Overlap). IsSome m.state.reader) (sym c.self.view_is) c.requires.order in
+    signal-inside n i.delays i.state c.read_in.new.state i.taken i.behind i.now i.owed i.ended i.fresh i.look c.self.invariant
+    (inr (subst MayServe (sym c.self.view_is) c.requires.turn)) c.shape-2.ensures
+    (no_card-alike i.state c.read_in.new.state i.state.reader (c.orders_are_passed_over.ensures.no_card i.state) some c.read_in.ensures)
+    (λ x y f look late done m alike. c.signals_leave_looks.ensures.look i.delays n i.now i.now x y f i.look
+    c.self.invariant.some c.self.invariant.few (AreDelays-list i.delays c.shape.ensures) look late done m alike)
+
+pub returns : goal.returns
+returns g c =
+    let n = g.row.N in
+    let i = c.self.inside in
+    subst (λ (m : Overlap). IfSome m.state.reader (λ order. standing n i.delays c.read_in.new.state i.taken i.behind i.now i.owed i.ended i.fresh i.look ≡ read_in_by order.word None m))
+    c.self.view_is
+    (with-read i.state.reader None i.state c.read_in.new.state (λ (u : Machine). standing n i.delays u i.taken i.behind i.now i.owed i.ended i.fresh i.look) c.read_in.ensures)

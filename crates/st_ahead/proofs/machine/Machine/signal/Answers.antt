@@ -1,0 +1,27 @@
+use Rattle.std.specs.Prelude.{IsSome}
+use Rattle.std.proofs.Common.{◌≡◌, ◌⊎◌, ◌≤◌, true, false, ap, sym, subst, arith}
+use Rattle.st_prep.specs.BesideOrders.{AreAlikeBesideOrders}
+use Rattle.st_rows.proofs.Within.{AreDelays-list}
+use Rattle.st_ahead.specs.Overlap.{Overlap}
+use Rattle.st_ahead.specs.Calls.{MaySignal, signalled_by}
+use Rattle.st_ahead.specs.Inside.{standing}
+use Rattle.st_ahead.proofs.Signals.{signal-inside}
+use Rattle.st_ahead.proofs.machine.Machine.signal.Goals as goal
+
+pub invariant_of-self : goal.invariant_of-self
+invariant_of-self g c =
+    let n = g.row.N in
+    let i = c.self.inside in
+    let u = c.signal.new.self in
+    signal-inside n i.delays i.state u i.taken i.behind i.now i.owed i.ended i.fresh i.look c.self.invariant
+    (subst MaySignal (sym c.self.view_is) c.requires.turn) c.shape-2.ensures
+    (subst (λ x. AreAlikeBesideOrders i.state x) (sym c.signal.ensures) (c.orders_are_passed_over.ensures.signalled i.state c.args.i))
+    (λ x y f look late done m alike. c.signals_leave_looks.ensures.look i.delays n i.now i.now x y f i.look
+    c.self.invariant.some c.self.invariant.few (AreDelays-list i.delays c.shape.ensures) look late done m alike)
+
+pub returns : goal.returns
+returns g c =
+    let i = c.self.inside in
+    let u = c.signal.new.self in
+    subst (λ (m : Overlap). standing g.row.N i.delays u i.taken i.behind i.now i.owed i.ended i.fresh i.look ≡ signalled_by c.args.i m) c.self.view_is
+    (ap (λ x. standing g.row.N i.delays x i.taken i.behind i.now i.owed i.ended i.fresh i.look) c.signal.ensures)

@@ -1,0 +1,26 @@
+use Rattle.std.specs.Prelude.{IsSome, IfSome}
+use Rattle.std.proofs.Common.{◌≡◌, true, Some, sym, subst}
+use Rattle.st_state.specs.Machine.{Machine}
+use Rattle.st_exec.specs.Run.{read_in}
+use Rattle.st_ahead.specs.Overlap.{Overlap}
+use Rattle.st_ahead.specs.Inside.{standing}
+use Rattle.st_ahead.proofs.Cards.{card-inside, with-read}
+use Rattle.st_ahead.proofs.machine.Machine.store_card.Goals as goal
+
+pub invariant_of-self : goal.invariant_of-self
+invariant_of-self g c =
+    let n = g.row.N in
+    let i = c.self.inside in
+    let some = subst (λ (m : Overlap). IsSome m.state.reader) (sym c.self.view_is) c.requires.order in
+    let over = subst (λ (m : Overlap). m.ended ≡ true) (sym c.self.view_is) c.requires.ended in
+    card-inside n i.delays i.state c.read_in.new.state i.taken i.behind i.now i.owed i.ended i.fresh i.look i.state.reader c.args.card c.self.invariant over
+    c.shape.ensures.reader_area some c.read_in.ensures
+
+pub returns : goal.returns
+returns g c =
+    let n = g.row.N in
+    let i = c.self.inside in
+    subst (λ (m : Overlap). IfSome m.state.reader (λ order. standing n i.delays c.read_in.new.state i.taken i.behind i.now i.owed i.ended i.fresh i.look
+    ≡ record m { state = read_in m.state order.word (Some c.args.card) }))
+    c.self.view_is
+    (with-read i.state.reader (Some c.args.card) i.state c.read_in.new.state (λ (u : Machine). standing n i.delays u i.taken i.behind i.now i.owed i.ended i.fresh i.look) c.read_in.ensures)

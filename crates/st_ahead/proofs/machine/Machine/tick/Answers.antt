@@ -1,0 +1,186 @@
+use Rattle.std.proofs.Common.{◌≡◌, ℕ, ◌+◌, ◌-◌, ◌<◌, ◌≤◌, ◌^◌, true, false, Option, None, refl, ap, sym, subst, ◌∙◌, arith}
+use Rattle.st_prep.specs.Plan.{plan}
+use Rattle.st_exec.specs.Completion.{guess, is_missed, completed as completed_by}
+use Rattle.st_rows.specs.Rows.{after}
+use Rattle.st_rows.proofs.Within.{AreDelays-list}
+use Rattle.st_segment.specs.Entries.{entry}
+use Rattle.st_levels.specs.Levels.{oldest_front, is_due}
+use Rattle.st_levels.specs.declared.levels.Completed.{Completed}
+use Rattle.st_ahead.specs.Overlap.{Overlap}
+use Rattle.st_ahead.specs.Calls.{is_done, row_done, ticked}
+use Rattle.st_ahead.specs.Look.{count}
+use Rattle.st_ahead.specs.Ticked.{IsTicked}
+use Rattle.st_ahead.specs.Inside.{standing}
+use Rattle.st_ahead.proofs.Standing.{idle, not-first, passed-tick, done-tick, guess-seen, row-tick, banks-at, some-due, told}
+use Rattle.st_ahead.proofs.TickCases.{unprepared}
+use Rattle.st_ahead.proofs.machine.Machine.tick.Goals as goal
+
+pub tick-done-requires : goal.tick-done-requires
+tick-done-requires g c =
+    let n = g.row.N in
+    let i = c.self.inside in
+    let v = i.look in
+    let f = oldest_front v.levels.plans v.front in
+    let owes = subst (λ (m : Overlap). m.owed ≡ false) (sym c.self.view_is) c.requires.settled in
+    let early = subst (λ (m : Overlap). m.now < 2 ^ 63) (sym c.self.view_is) c.requires.tick in
+    let at = idle n i.delays i.state i.taken i.behind i.now i.owed i.ended i.fresh v c.self.invariant owes in
+    let few = subst (λ (m : Overlap). m.state.done < 2 ^ 63) (sym c.self.view_is) c.requires.done in (
+      omega arith,
+      (
+        λ due.
+            let oldest = c.levels_come_in_order.ensures.due i.delays n (i.now - 1) i.now i.taken i.state f v.front v.levels at.look.ahead due in
+            let next = not-first i.now v.levels.ring at.look.prepared oldest.0 in
+            c.levels_that_are_due_have_their_operands.ensures i.delays n (i.now - 1) 255 i.taken i.state f v.front v.levels at.look.machine at.look.indicator
+            at.look.oldest at.look.ahead (subst (λ (x : ℕ). is_due v.levels.plans x ≡ true) next due),
+        few,
+      ),
+    )
+
+pub invariant_of-self : goal.invariant_of-self
+invariant_of-self g c =
+    let n = g.row.N in
+    let i = c.self.inside in
+    let v = i.look in
+    let f = oldest_front v.levels.plans v.front in
+    let owes = subst (λ (m : Overlap). m.owed ≡ false) (sym c.self.view_is) c.requires.settled in
+    let early = subst (λ (m : Overlap). m.now < 2 ^ 63) (sym c.self.view_is) c.requires.tick in
+    let at = idle n i.delays i.state i.taken i.behind i.now i.owed i.ended i.fresh v c.self.invariant owes in
+    let w = c.tick-done.new.self in
+    let u = c.tick-done.new.state in
+    let are = AreDelays-list i.delays c.shape.ensures in
+    let by = subst (λ (x : Option Completed). IsTicked i.delays n i.now i.taken i.state f v u w x) c.in_default.is
+    (c.tick-done.ensures i.delays (i.now - 1) i.taken f c.self.invariant.some c.self.invariant.few are at.look (not-first i.now v.levels.ring at.look.prepared)) in
+    let all = passed-tick n i.delays i.state u i.taken i.behind i.now i.owed i.ended i.fresh v w c.self.invariant owes early by
+    (c.levels_are_the_entries_ahead.ensures.oldest i.delays n i.now i.taken i.state f w.front w.levels by.look.ahead) in
+    all.0
+
+pub returns-in_default-clause-event : goal.returns-in_default-clause-event
+returns-in_default-clause-event g c =
+    let n = g.row.N in
+    let i = c.self.inside in
+    let v = i.look in
+    let f = oldest_front v.levels.plans v.front in
+    let owes = subst (λ (m : Overlap). m.owed ≡ false) (sym c.self.view_is) c.requires.settled in
+    let early = subst (λ (m : Overlap). m.now < 2 ^ 63) (sym c.self.view_is) c.requires.tick in
+    let at = idle n i.delays i.state i.taken i.behind i.now i.owed i.ended i.fresh v c.self.invariant owes in
+    let w = c.tick-done.new.self in
+    let u = c.tick-done.new.state in
+    let are = AreDelays-list i.delays c.shape.ensures in
+    let by = subst (λ (x : Option Completed). IsTicked i.delays n i.now i.taken i.state f v u w x) c.in_default.is
+    (c.tick-done.ensures i.delays (i.now - 1) i.taken f c.self.invariant.some c.self.invariant.few are at.look (not-first i.now v.levels.ring at.look.prepared)) in
+    let all = passed-tick n i.delays i.state u i.taken i.behind i.now i.owed i.ended i.fresh v w c.self.invariant owes early by
+    (c.levels_are_the_entries_ahead.ensures.oldest i.delays n i.now i.taken i.state f w.front w.levels by.look.ahead) in
+    subst (λ (m : Overlap). is_done m ≡ false) c.self.view_is all.1
+
+pub returns-in_default-clause-after : goal.returns-in_default-clause-after
+returns-in_default-clause-after g c =
+    let n = g.row.N in
+    let i = c.self.inside in
+    let v = i.look in
+    let f = oldest_front v.levels.plans v.front in
+    let owes = subst (λ (m : Overlap). m.owed ≡ false) (sym c.self.view_is) c.requires.settled in
+    let early = subst (λ (m : Overlap). m.now < 2 ^ 63) (sym c.self.view_is) c.requires.tick in
+    let at = idle n i.delays i.state i.taken i.behind i.now i.owed i.ended i.fresh v c.self.invariant owes in
+    let w = c.tick-done.new.self in
+    let u = c.tick-done.new.state in
+    let are = AreDelays-list i.delays c.shape.ensures in
+    let by = subst (λ (x : Option Completed). IsTicked i.delays n i.now i.taken i.state f v u w x) c.in_default.is
+    (c.tick-done.ensures i.delays (i.now - 1) i.taken f c.self.invariant.some c.self.invariant.few are at.look (not-first i.now v.levels.ring at.look.prepared)) in
+    let all = passed-tick n i.delays i.state u i.taken i.behind i.now i.owed i.ended i.fresh v w c.self.invariant owes early by
+    (c.levels_are_the_entries_ahead.ensures.oldest i.delays n i.now i.taken i.state f w.front w.levels by.look.ahead) in
+    subst (λ (m : Overlap). standing n i.delays u i.taken i.behind i.now true i.ended i.fresh w ≡ ticked m) c.self.view_is all.2
+
+pub invariant_of-self-2 : goal.invariant_of-self-2
+invariant_of-self-2 g c =
+    let n = g.row.N in
+    let i = c.self.inside in
+    let v = i.look in
+    let f = oldest_front v.levels.plans v.front in
+    let owes = subst (λ (m : Overlap). m.owed ≡ false) (sym c.self.view_is) c.requires.settled in
+    let early = subst (λ (m : Overlap). m.now < 2 ^ 63) (sym c.self.view_is) c.requires.tick in
+    let at = idle n i.delays i.state i.taken i.behind i.now i.owed i.ended i.fresh v c.self.invariant owes in
+    let w = c.tick-done.new.self in
+    let u = c.tick-done.new.state in
+    let are = AreDelays-list i.delays c.shape.ensures in
+    let by = subst (λ (x : Option Completed). IsTicked i.delays n i.now i.taken i.state f v u w x) c.in-Some.is
+    (c.tick-done.ensures i.delays (i.now - 1) i.taken f c.self.invariant.some c.self.invariant.few are at.look (not-first i.now v.levels.ring at.look.prepared)) in
+    let done = c.in-Some.done in
+    let m = at.look.machine in
+    let t = at.look.indicator in
+    let most : count v ≤ n = c.shape-2.ensures in
+    let few : i.now ≤ i.now - 1 + 1 = omega arith in
+    let levels = c.looks_are_levels.ensures i.delays n (i.now - 1) i.now i.taken i.state f v c.self.invariant.some c.self.invariant.few are few most at.look in
+    let some = some-due (count v) (λ empty. unprepared i.delays n (count v) i.now i.taken i.state f c.self.invariant.some empty are
+    (c.entries_are_in_range.ensures.ranges i.taken i.state m t) at.look.oldest levels by.due) in
+    let next = not-first i.now v.levels.ring at.look.prepared some in
+    let banks = banks-at n i.delays i.state i.taken i.now v (c.the_banks_are_left.ensures i.delays n (i.now - 1) i.now i.taken i.state f v
+    c.self.invariant.some c.self.invariant.few are next most some at.look by.due) in
+    let guessed = guess-seen i.taken i.state u (is_missed (plan i.state i.taken) i.state) done.missed refl by.state by.told.missed
+    (c.steps_are_guesses.ensures.right i.taken i.state m t) (c.steps_are_guesses.ensures.missed i.taken i.state m t) in
+    let front = c.levels_are_the_entries_ahead.ensures.oldest i.delays n i.now None (guess i.taken i.state) (after i.delays n f (entry i.taken i.state)) w.front w.levels by.look.ahead in
+    let all = done-tick n i.delays i.state u i.taken i.behind i.now i.owed i.ended i.fresh v w done c.self.invariant owes early by front banks guessed in
+    all.0
+
+pub returns-clause-event : goal.returns-clause-event
+returns-clause-event g c =
+    let n = g.row.N in
+    let i = c.self.inside in
+    let v = i.look in
+    let f = oldest_front v.levels.plans v.front in
+    let owes = subst (λ (m : Overlap). m.owed ≡ false) (sym c.self.view_is) c.requires.settled in
+    let early = subst (λ (m : Overlap). m.now < 2 ^ 63) (sym c.self.view_is) c.requires.tick in
+    let at = idle n i.delays i.state i.taken i.behind i.now i.owed i.ended i.fresh v c.self.invariant owes in
+    let w = c.tick-done.new.self in
+    let u = c.tick-done.new.state in
+    let are = AreDelays-list i.delays c.shape.ensures in
+    let by = subst (λ (x : Option Completed). IsTicked i.delays n i.now i.taken i.state f v u w x) c.in-Some.is
+    (c.tick-done.ensures i.delays (i.now - 1) i.taken f c.self.invariant.some c.self.invariant.few are at.look (not-first i.now v.levels.ring at.look.prepared)) in
+    let done = c.in-Some.done in
+    let m = at.look.machine in
+    let t = at.look.indicator in
+    let most : count v ≤ n = c.shape-2.ensures in
+    let few : i.now ≤ i.now - 1 + 1 = omega arith in
+    let levels = c.looks_are_levels.ensures i.delays n (i.now - 1) i.now i.taken i.state f v c.self.invariant.some c.self.invariant.few are few most at.look in
+    let some = some-due (count v) (λ empty. unprepared i.delays n (count v) i.now i.taken i.state f c.self.invariant.some empty are
+    (c.entries_are_in_range.ensures.ranges i.taken i.state m t) at.look.oldest levels by.due) in
+    let next = not-first i.now v.levels.ring at.look.prepared some in
+    let banks = banks-at n i.delays i.state i.taken i.now v (c.the_banks_are_left.ensures i.delays n (i.now - 1) i.now i.taken i.state f v
+    c.self.invariant.some c.self.invariant.few are next most some at.look by.due) in
+    let guessed = guess-seen i.taken i.state u (is_missed (plan i.state i.taken) i.state) done.missed refl by.state by.told.missed
+    (c.steps_are_guesses.ensures.right i.taken i.state m t) (c.steps_are_guesses.ensures.missed i.taken i.state m t) in
+    let front = c.levels_are_the_entries_ahead.ensures.oldest i.delays n i.now None (guess i.taken i.state) (after i.delays n f (entry i.taken i.state)) w.front w.levels by.look.ahead in
+    let all = done-tick n i.delays i.state u i.taken i.behind i.now i.owed i.ended i.fresh v w done c.self.invariant owes early by front banks guessed in
+    let row = row-tick n i.delays i.state u i.taken i.behind i.now i.owed i.ended i.fresh v w done c.self.invariant owes by
+    (c.entries_count_as_one.ensures (plan i.state i.taken) i.state) in
+    subst (λ (m : Overlap). (is_done m ≡ true) × (told c.done_in-number.result done.address done.p done.r i.now ≡ row_done m)) c.self.view_is (all.1, ap (λ k. told k done.address done.p done.r i.now) c.done_in-number.ensures ∙ row)
+
+pub returns-clause-after : goal.returns-clause-after
+returns-clause-after g c =
+    let n = g.row.N in
+    let i = c.self.inside in
+    let v = i.look in
+    let f = oldest_front v.levels.plans v.front in
+    let owes = subst (λ (m : Overlap). m.owed ≡ false) (sym c.self.view_is) c.requires.settled in
+    let early = subst (λ (m : Overlap). m.now < 2 ^ 63) (sym c.self.view_is) c.requires.tick in
+    let at = idle n i.delays i.state i.taken i.behind i.now i.owed i.ended i.fresh v c.self.invariant owes in
+    let w = c.tick-done.new.self in
+    let u = c.tick-done.new.state in
+    let are = AreDelays-list i.delays c.shape.ensures in
+    let by = subst (λ (x : Option Completed). IsTicked i.delays n i.now i.taken i.state f v u w x) c.in-Some.is
+    (c.tick-done.ensures i.delays (i.now - 1) i.taken f c.self.invariant.some c.self.invariant.few are at.look (not-first i.now v.levels.ring at.look.prepared)) in
+    let done = c.in-Some.done in
+    let m = at.look.machine in
+    let t = at.look.indicator in
+    let most : count v ≤ n = c.shape-2.ensures in
+    let few : i.now ≤ i.now - 1 + 1 = omega arith in
+    let levels = c.looks_are_levels.ensures i.delays n (i.now - 1) i.now i.taken i.state f v c.self.invariant.some c.self.invariant.few are few most at.look in
+    let some = some-due (count v) (λ empty. unprepared i.delays n (count v) i.now i.taken i.state f c.self.invariant.some empty are
+    (c.entries_are_in_range.ensures.ranges i.taken i.state m t) at.look.oldest levels by.due) in
+    let next = not-first i.now v.levels.ring at.look.prepared some in
+    let banks = banks-at n i.delays i.state i.taken i.now v (c.the_banks_are_left.ensures i.delays n (i.now - 1) i.now i.taken i.state f v
+    c.self.invariant.some c.self.invariant.few are next most some at.look by.due) in
+    let guessed = guess-seen i.taken i.state u (is_missed (plan i.state i.taken) i.state) done.missed refl by.state by.told.missed
+    (c.steps_are_guesses.ensures.right i.taken i.state m t) (c.steps_are_guesses.ensures.missed i.taken i.state m t) in
+    let front = c.levels_are_the_entries_ahead.ensures.oldest i.delays n i.now None (guess i.taken i.state) (after i.delays n f (entry i.taken i.state)) w.front w.levels by.look.ahead in
+    let all = done-tick n i.delays i.state u i.taken i.behind i.now i.owed i.ended i.fresh v w done c.self.invariant owes early by front banks guessed in
+    subst (λ (m : Overlap). standing n i.delays u None done.missed i.now true i.ended true w ≡ ticked m) c.self.view_is all.2

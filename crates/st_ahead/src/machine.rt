@@ -1,0 +1,429 @@
+//! The overlapped machine, and the calls that drive it.
+ghost use Rattle.std.specs.Prelude.{◌≡◌, ℕ, ◌+◌, ◌<◌, ◌≤◌, ◌^◌, true, false, is_some, IsSome, IfSome, None, Some, get_or, length};
+
+use crate::events::{Event, LevelView, Row, Settled, View};
+use crate::look::Look;
+use crate::look_laws::{looks_are_levels, signals_leave_looks, the_banks_are_left};
+use st_banks::{Delays, LastAnswers};
+use st_exec::{entries_count_as_one, is_at_rest, orders_are_passed_over};
+use st_levels::{
+    levels_are_the_entries_ahead, levels_come_in_order, levels_that_are_due_have_their_operands,
+};
+use st_prep::place_of;
+use st_ring::SpecRing;
+use st_segment::{entries_are_in_range, steps_are_guesses};
+use st_state::State;
+use std::marker::Model;
+
+/// A machine with N levels, 1 to 8, over storage whose reads take the given delays. Its calls take turns: after each `tick` one `settle` or one
+/// `stop` is owed. None takes memory. `docs/timetable.md` has the rules.
+#[derive(Drop)]
+pub struct Machine<const N: usize> {
+    delays: Delays,
+    state: State,
+    taken: Option<u8>,
+    behind: Option<u32>,
+    now: u64,
+    owed: bool,
+    ended: bool,
+    fresh: bool,
+    look: Look<N>,
+}
+
+// Clauses see what it stands for.
+impl<const N: usize> Model for Machine<N> {
+    ghost use Rattle.st_ahead.specs.Overlap.{Overlap};
+    ghost use Rattle.st_ahead.specs.Inside.{standing, IsInside};
+
+    ghost Value = { Overlap };
+
+    ghost view = { λ a. standing N a.delays a.state a.taken a.behind a.now a.owed a.ended a.fresh a.look };
+
+    ghost invariant = { λ a. IsInside (standing N a.delays a.state a.taken a.behind a.now a.owed a.ended a.fresh a.look) a.fresh a.look };
+}
+
+impl<const N: usize> Machine<N> {
+    ghost use Rattle.st_exec.specs.Step.{rests};
+    ghost use Rattle.st_ahead.specs.Overlap.{started, interrupt_due as interrupt_due_of};
+    ghost use Rattle.st_ahead.specs.Calls.{IsEvent, ticked, dropped, ended, answer, settled, passed, signalled_by, MaySignal, MayServe, read_in_by, dropped_by, printed_by};
+    ghost use Rattle.st_exec.specs.Run.{read_in as read_in_of, words_from};
+    ghost use Rattle.st_ahead.specs.Overlap.{last_tick as last_tick_of};
+    ghost use Rattle.st_ahead.specs.Shown.{AreLevelsOf, index_of, shown};
+
+    /// A machine before its first tick; the state is neither enabled nor waiting.
+    pub fn new(state: State, delays: Delays) -> Machine<N>
+        requires some { 1 ≤ N }
+        requires few { N ≤ 8 }
+        requires enabled { state.enabled ≡ false }
+        requires waiting { state.waiting ≡ false }
+        ensures { result ≡ started delays N state }
+    {
+        state.shape();
+        let look = Look::new(&state, None, LastAnswers::new(), 0);
+        Machine {
+            delays,
+            state,
+            taken: None,
+            behind: None,
+            now: 0,
+            owed: false,
+            ended: false,
+            fresh: false,
+            look,
+        }
+    }
+
+    /// Makes one tick; the first one is tick 0: the oldest entry is done where that is its time, and operands arrive. No settle is owed; the
+    /// number of the tick and that of the instructions done are below 2^63.
+    pub fn tick(&mut self) -> Event
+        requires settled { self.old.owed ≡ false }
+        requires tick { self.old.now < 2 ^ 63 }
+        requires done { self.old.state.done < 2 ^ 63 }
+        ensures event { IsEvent self.old result }
+        ensures after { self.new ≡ ticked self.old }
+    {
+        the_banks_are_left();
+        looks_are_levels();
+        entries_are_in_range();
+        levels_that_are_due_have_their_operands();
+        levels_come_in_order();
+        levels_are_the_entries_ahead();
+        steps_are_guesses();
+        entries_count_as_one();
+        self.delays.shape();
+        self.look.shape();
+        let now = self.now;
+        let done = self.look.tick(&mut self.state, now);
+        let number = done_in(&self.state);
+        self.owed = true;
+        let Some(done) = done else {
+            return Event::Passed;
+        };
+        self.taken = None;
+        self.behind = done.missed;
+        self.fresh = true;
+        Event::Done(Row {
+            number,
+            address: done.address,
+            p: done.p,
+            r: done.r,
+            c: now,
+        })
+    }
+
+    /// Decides what comes behind the last tick: an interrupt is taken; or the machine waits, and the decision is still owed; or a missed branch ends
+    /// the segment; or it goes on. One is owed.
+    pub fn settle(&mut self) -> Settled
+        requires { self.old.owed ≡ true }
+        ensures answer { result ≡ answer self.old }
+        ensures after { self.new ≡ settled self.old }
+    {
+        self.quiet();
+        if let Some(indicator) = self.interrupt_due() {
+            return self.interrupt(indicator);
+        }
+        if self.is_resting() {
+            self.end();
+            return Settled::Waits;
+        }
+        if self.is_misled() {
+            let dropped = self.end();
+            self.pass();
+            return Settled::Missed { dropped };
+        }
+        self.go_on();
+        Settled::Goes
+    }
+
+    // Where no entry was done, no interrupt is due, the machine is not at rest, and no branch was missed.
+    fn quiet(&self)
+        ensures { self.entry.now.closing ≡ None → (interrupt_due_of self.entry.now ≡ None)
+            × (rests self.entry.now.state ≡ false) × (self.entry.now.behind ≡ None) }
+    {
+        let _ = &self.now;
+    }
+
+    /// The interrupt that is taken before the next entry.
+    fn interrupt_due(&self) -> Option<u8>
+        ensures value { result ≡ interrupt_due_of self.entry.now }
+        ensures bound { IfSome result (λ i. i < 64) }
+    {
+        if self.taken.is_some() {
+            return None;
+        }
+        st_exec::interrupt(&self.state)
+    }
+
+    /// Whether the machine waits, and nothing is pending.
+    fn is_resting(&self) -> bool
+        ensures { result ≡ rests self.entry.now.state }
+    {
+        is_at_rest(&self.state)
+    }
+
+    /// Whether a branch was missed at this tick.
+    fn is_misled(&self) -> bool
+        ensures { result ≡ is_some self.entry.now.behind }
+    {
+        self.behind.is_some()
+    }
+
+    /// The segment ends at this tick, at which an entry was done; where it has not ended already. The result is the number of levels dropped.
+    fn end(&mut self) -> u8
+        requires owed { self.old.owed ≡ true }
+        requires done { IsSome self.old.closing }
+        ensures dropped { result ≡ dropped self.old }
+        ensures after { self.new ≡ ended self.old }
+    {
+        looks_are_levels();
+        levels_are_the_entries_ahead();
+        self.delays.shape();
+        self.look.shape();
+        if self.ended {
+            return 0;
+        }
+        let now = self.now;
+        let dropped = self.look.end(&self.state, None, now);
+        self.ended = true;
+        dropped
+    }
+
+    /// The interrupt by this indicator, which is due, is taken.
+    fn interrupt(&mut self, indicator: u8) -> Settled
+        requires owed { self.old.owed ≡ true }
+        requires due { interrupt_due_of self.old ≡ Some indicator }
+        requires known { indicator < 64 }
+        ensures answer { result ≡ answer self.old }
+        ensures after { self.new ≡ settled self.old }
+    {
+        self.quiet();
+        let dropped = self.end();
+        self.state.shape();
+        let place = place_of(&self.state, Some(indicator));
+        let done = done_in(&self.state);
+        let ic = counter_of(&self.state);
+        self.look.stand(place);
+        self.taken = Some(indicator);
+        self.behind = None;
+        self.owed = false;
+        self.ended = false;
+        self.fresh = false;
+        self.now += 1;
+        Settled::Interrupt {
+            indicator,
+            done,
+            ic,
+            dropped,
+        }
+    }
+
+    /// The tick passes, where the segment has ended at it, no interrupt is due and the machine is not at rest.
+    fn pass(&mut self)
+        requires owed { self.old.owed ≡ true }
+        requires ended { self.old.ended ≡ true }
+        requires due { interrupt_due_of self.old ≡ None }
+        requires goes { rests self.old.state ≡ false }
+        ensures { self.new ≡ passed self.old }
+    {
+        self.state.shape();
+        self.behind = None;
+        self.owed = false;
+        self.ended = false;
+        self.fresh = false;
+        self.now += 1;
+    }
+
+    /// What runs ahead goes on, where nothing else comes.
+    fn go_on(&mut self)
+        requires owed { self.old.owed ≡ true }
+        requires due { interrupt_due_of self.old ≡ None }
+        requires goes { rests self.old.state ≡ false }
+        requires right { self.old.behind ≡ None }
+        ensures { self.new ≡ passed self.old }
+    {
+        if self.ended {
+            self.pass();
+            return;
+        }
+        levels_are_the_entries_ahead();
+        let now = self.now;
+        self.look.go_on(now, &self.state, &self.delays);
+        self.owed = false;
+        self.fresh = false;
+        self.now += 1;
+    }
+
+    /// Turns on the indicator i, 0 to 13, before the first tick, or while a settle is owed and an entry was done at the last tick.
+    pub fn signal(&mut self, i: u8)
+        requires known { i ≤ 13 }
+        requires turn { MaySignal self.old }
+        ensures { self.new ≡ signalled_by i self.old }
+    {
+        signals_leave_looks();
+        orders_are_passed_over();
+        levels_are_the_entries_ahead();
+        self.delays.shape();
+        self.state.signal(i);
+        self.state.shape();
+    }
+
+    /// Ends the segment at the end of a run, behind a tick at which an entry was done. The result is the number of levels dropped. After it only
+    /// `view`, `state`, `ring` and `index` are of use.
+    pub fn stop(&mut self) -> u8
+        requires owed { self.old.owed ≡ true }
+        requires done { IsSome self.old.closing }
+        ensures dropped { result ≡ dropped self.old }
+        ensures after { self.new ≡ ended self.old }
+    {
+        self.end()
+    }
+
+    /// The order of the reader takes effect with its next card, which ends the segment, or without one. The result is the number of levels dropped.
+    pub fn read_in(&mut self, card: Option<[u64; 8]>) -> u8
+        requires order { IsSome self.old.state.reader }
+        requires turn { MayServe self.old }
+        ensures dropped { result ≡ dropped_by card self.old }
+        ensures after { IfSome self.old.state.reader (λ order. self.new ≡ read_in_by order.word card self.old) }
+    {
+        let Some(words) = card else {
+            self.read_nothing();
+            return 0;
+        };
+        let dropped = self.end();
+        self.store_card(words);
+        dropped
+    }
+
+    /// The order of the reader takes effect without a card.
+    fn read_nothing(&mut self)
+        requires order { IsSome self.old.state.reader }
+        requires turn { MayServe self.old }
+        ensures { IfSome self.old.state.reader (λ order. self.new ≡ read_in_by order.word None self.old) }
+    {
+        signals_leave_looks();
+        orders_are_passed_over();
+        self.delays.shape();
+        st_exec::read_in(&mut self.state, None);
+        self.state.shape();
+    }
+
+    /// The order of the reader takes effect with a card, where the segment has ended.
+    fn store_card(&mut self, card: [u64; 8])
+        requires order { IsSome self.old.state.reader }
+        requires ended { self.old.ended ≡ true }
+        ensures { IfSome self.old.state.reader (λ order.
+            self.new ≡ record self.old { state = read_in_of self.old.state order.word (Some card) }) }
+    {
+        self.state.shape();
+        st_exec::read_in(&mut self.state, Some(card));
+    }
+
+    /// The order of the printer takes effect; its eight words are the result.
+    pub fn print_out(&mut self) -> [u64; 8]
+        requires order { IsSome self.old.state.printer }
+        requires turn { MayServe self.old }
+        ensures words { IfSome self.old.state.printer (λ order. result ≡ words_from self.old.state order.word 8) }
+        ensures after { self.new ≡ printed_by self.old }
+    {
+        signals_leave_looks();
+        orders_are_passed_over();
+        self.delays.shape();
+        let words = st_exec::print_out(&mut self.state);
+        self.state.shape();
+        words
+    }
+
+    /// The levels, oldest first.
+    pub fn ring(&self) -> &SpecRing<N>
+        ensures { AreLevelsOf self.entry.now result.now }
+    {
+        looks_are_levels();
+        self.delays.shape();
+        self.look.shape();
+        self.state.shape();
+        self.look.ring()
+    }
+
+    /// The index words as the levels have changed them.
+    pub fn index(&self) -> &[u64; 16]
+        ensures { result.now ≡ index_of self.entry.now }
+    {
+        looks_are_levels();
+        self.delays.shape();
+        self.look.shape();
+        self.state.shape();
+        self.look.index()
+    }
+
+    /// What is shown of the machine.
+    pub fn view(&self) -> View
+        ensures { result ≡ shown self.entry.now }
+    {
+        View {
+            tick: self.last_tick(),
+            done: self.done(),
+            x: *self.index(),
+            levels: [
+                self.level(0),
+                self.level(1),
+                self.level(2),
+                self.level(3),
+                self.level(4),
+                self.level(5),
+                self.level(6),
+                self.level(7),
+            ],
+        }
+    }
+
+    /// The number of the tick that was made last, 0 before the first one.
+    fn last_tick(&self) -> u64
+        ensures { result ≡ last_tick_of self.entry.now }
+    {
+        if self.owed {
+            return self.now;
+        }
+        if self.now == 0 { 0 } else { self.now - 1 }
+    }
+
+    /// The number of instructions done.
+    fn done(&self) -> u64
+        ensures { result ≡ self.entry.now.state.done }
+    {
+        done_in(&self.state)
+    }
+
+    /// Level k, counted from the oldest, as it is shown; none behind the last one. There is room for eight.
+    fn level(&self, k: usize) -> Option<LevelView>
+        ensures value { result ≡ get_or (shown self.entry.now).levels k None }
+        ensures eight { length (shown self.entry.now).levels ≡ 8 }
+    {
+        looks_are_levels();
+        let tick = self.last_tick();
+        self.delays.shape();
+        self.look.shape();
+        self.state.shape();
+        self.look.level(k, tick)
+    }
+
+    /// The committed state.
+    pub fn state(&self) -> &State
+        ensures { result.now ≡ self.entry.now.state }
+    {
+        &self.state
+    }
+}
+
+/// The number of instructions done.
+fn done_in(state: &State) -> u64
+    ensures { result ≡ state.now.done }
+{
+    state.done
+}
+
+/// The counter.
+fn counter_of(state: &State) -> u32
+    ensures { result ≡ state.now.ic }
+{
+    state.ic
+}
