@@ -1,0 +1,77 @@
+# Cuts a page for docs/run. In `room` it lays the files that the page shows (a fence with a word and a name, as ```deck one.txt)
+# and in `work` a script of its commands (the lines `$ ..` of each fence ```console, and those of comments <!-- lines of: .. -->
+# and <!-- all lines of: .. -->), and for each command what it has to write. A line a command goes to `list`: its number, its
+# line in the page, how it is compared (all, lines or every), and the command. What is wrong with the page goes to `faults`.
+function fault(text) { print page ":" NR ": " text >faults }
+function command(text, how) {
+    number++
+    kind = how
+    script = work "/script"
+    wanted = work "/" number ".wanted"
+    printf "" >wanted
+    left = (!chart && text ~ /\.\/chart/)
+    print number, NR, (left ? "left" : how), text >list
+    if (left) text = ":"
+    print "{\n" text "\n} >" work "/" number ".got 2>&1" >script
+}
+# A row of a table that follows a comment: the code of its first cell.
+function row(text,    at, cell, more) {
+    gsub(/\\\|/, "\001", text)
+    split(substr(text, 2), cells, "|")
+    cell = cells[1]
+    while ((at = index(cell, "`")) != 0) {
+        cell = substr(cell, at + 1)
+        at = index(cell, "`")
+        if (at == 0) { fault("a code without an end"); return }
+        more = substr(cell, 1, at - 1)
+        gsub(/\001/, "|", more)
+        print more >wanted
+        cell = substr(cell, at + 1)
+    }
+}
+function close_command() {
+    if (number) close(wanted)
+}
+fence == "" && /^```/ {
+    fence = $1
+    sub(/^```/, "", fence)
+    if (NF > 2 || (NF == 2 && fence == "")) fault("a fence with too many words")
+    if (fence == "") fence = "text"
+    file = NF == 2 ? room "/" $2 : ""
+    if (file != "") printf "" >file
+    given = 0
+    next
+}
+fence != "" && /^```/ {
+    if (file != "") close(file)
+    fence = ""
+    file = ""
+    next
+}
+fence == "console" && /^[$] / { close_command(); command(substr($0, 3), "all"); given = 1; next }
+fence == "console" { if (given) print >wanted; else fault("a console that begins with no command"); next }
+fence != "" && file != "" { print >file; next }
+fence != "" {
+    if (fence != "sh" && /^[ $]*\.\/(stretch|chart|delays|indicators)( |$)/) fault("a command that is not run")
+    if (/^.........END,/) fault("a deck without a name")
+    next
+}
+/^    .*\.\/(stretch|chart|delays|indicators) / { fault("a command that is not run") }
+/^    .....END,/ || /^    .........END,/ { fault("a deck without a name") }
+/^<!-- (all )?lines of: .* -->$/ {
+    close_command()
+    text = $0
+    how = text ~ /^<!-- all/ ? "every" : "lines"
+    sub(/^<!-- (all )?lines of: /, "", text)
+    sub(/ -->$/, "", text)
+    command(text, how)
+    table = 1
+    next
+}
+table && /^\|/ { table++; if (table > 3) row($0); next }
+table > 1 && !/^\|/ { table = 0 }
+length($0) > 120 && !wide { fault("a line of " length($0) " characters") }
+END {
+    if (fence != "") fault("a fence without an end")
+    if (table == 1) fault("a comment without a table")
+}
