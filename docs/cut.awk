@@ -10,7 +10,9 @@ function command(text, how) {
     wanted = work "/" number ".wanted"
     printf "" >wanted
     left = (!chart && text ~ /\.\/chart/)
-    print number, NR, (left ? "left" : how), text >list
+    shown = text
+    gsub(/\\\n */, "", shown)
+    print number, NR, (left ? "left" : how), shown >list
     if (left) text = ":"
     print "{\n" text "\n} >" work "/" number ".got 2>&1" >script
 }
@@ -32,6 +34,10 @@ function row(text,    at, cell, more) {
 function close_command() {
     if (number) close(wanted)
 }
+# A fence may stand in a list, three columns in.
+fence == "" && /^   ```/ { inset = 1; sub(/^   /, "") }
+fence != "" && inset { sub(/^   /, "") }
+length($0) > 120 && !wide { fault("a line of " length($0) " characters") }
 fence == "" && /^```/ {
     fence = $1
     sub(/^```/, "", fence)
@@ -46,9 +52,18 @@ fence != "" && /^```/ {
     if (file != "") close(file)
     fence = ""
     file = ""
+    inset = 0
+    more = 0
     next
 }
-fence == "console" && /^[$] / { close_command(); command(substr($0, 3), "all"); given = 1; next }
+fence == "console" && more { text = text "\n" $0; more = $0 ~ /\\$/; if (!more) { close_command(); command(text, "all") } next }
+fence == "console" && /^[$] / {
+    text = substr($0, 3)
+    given = 1
+    more = text ~ /\\$/
+    if (!more) { close_command(); command(text, "all") }
+    next
+}
 fence == "console" { if (given) print >wanted; else fault("a console that begins with no command"); next }
 fence != "" && file != "" { print >file; next }
 fence != "" {
@@ -70,7 +85,6 @@ fence != "" {
 }
 table && /^\|/ { table++; if (table > 3) row($0); next }
 table > 1 && !/^\|/ { table = 0 }
-length($0) > 120 && !wide { fault("a line of " length($0) " characters") }
 END {
     if (fence != "") fault("a fence without an end")
     if (table == 1) fault("a comment without a table")
