@@ -9,12 +9,12 @@ function command(text, how) {
     script = work "/script"
     wanted = work "/" number ".wanted"
     printf "" >wanted
-    left = (!chart && text ~ /\.\/chart/)
+    left = missing != "" && text ~ missing
     shown = text
     gsub(/\\\n */, "", shown)
     print number, NR, (left ? "left" : how), shown >list
     if (left) text = ":"
-    print "{\n" text "\n} >" work "/" number ".got 2>&1" >script
+    print "exec >" work "/" number ".got 2>&1\n(exit ${status-0})\n" text "\nstatus=$?" >script
 }
 # A row of a table that follows a comment: the code of its first cell.
 function row(text,    at, cell, more) {
