@@ -31,6 +31,41 @@ function row(text,    at, cell, more) {
         cell = substr(cell, at + 1)
     }
 }
+# A cell without its blanks and its code marks; a code that parts cards by `|` has line ends there.
+function plain(cell) {
+    gsub(/^ +| +$|`/, "", cell)
+    gsub(/\001/, "|", cell)
+    return cell
+}
+# The cards of an atlas: `_` is nine blanks, and `A:` a name.
+function lay(text, file,    n, k) {
+    n = split(text, some, / \| /)
+    for (k = 1; k <= n; k++) {
+        if (some[k] ~ /^_/) some[k] = "         " substr(some[k], 2)
+        else if (match(some[k], /^[A-Z0-9]+: ?/))
+            some[k] = sprintf(" %-8s%s", substr(some[k], 1, index(some[k], ":") - 1), substr(some[k], RLENGTH + 1))
+        print some[k] >file
+    }
+    return n
+}
+# A row of the atlas: its deck has the fault, and the card of the repair, where it is one, has none.
+function faulty(text,    k) {
+    gsub(/\\\|/, "\001", text)
+    k = split(substr(text, 2), cells, "|")
+    if (k < 4 || cells[2] !~ /^ `[^`]*` $/) return
+    lay(plain(cells[2]), room "/atlas." NR)
+    close_command()
+    command("./stretch run < atlas." NR " | sed 's/^CARD [0-9]* //'", "all")
+    print plain(cells[1]) >wanted
+    if (cells[4] !~ /^ `[^`]*` $/) return
+    text = plain(cells[4])
+    if (text ~ /^\//) print "         END,32.0" >(room "/repair." NR)
+    lay(text, room "/repair." NR)
+    if (text !~ /^\/|END,/) print "         END,32.0" >(room "/repair." NR)
+    close_command()
+    command("./stretch assemble < repair." NR " | head -n 1", "all")
+    print "OBJECT" >wanted
+}
 function close_command() {
     if (number) close(wanted)
 }
@@ -83,6 +118,9 @@ fence != "" {
     table = 1
     next
 }
+/^<!-- atlas -->$/ { atlas = 1; next }
+atlas && /^\|/ { if (++atlas > 3) faulty($0); next }
+atlas > 1 { atlas = 0 }
 table && /^\|/ { table++; if (table > 3) row($0); next }
 table > 1 && !/^\|/ { table = 0 }
 END {
