@@ -104,5 +104,5 @@ abbrev pub AreInTime : List Told → Type 0
 AreInTime = All (λ x. (x.tick < 2 ^ 63) × (x.done < 2 ^ 63))
 
 pub record IsRun (turn : Turn) (left tick now : ℕ) (snaps : List ℕ) (w : Waiting) (t : Together) : Type 0 where
-  pub turn : IsTurn turn now snaps t
+  pub stands : IsTurn turn now snaps t
   pub in_time : AreInTime (rest_of turn left tick snaps w t)

@@ -1,5 +1,6 @@
 //! Ticks up to the next entry that is done, or up to a snapshot.
-ghost use Rattle.std.specs.Prelude.{◌≡◌, ◌+◌, ◌-◌, ◌==◌, ◌<◌, ◌≤◌, ◌^◌, IfSome, option_map_or, false};
+ghost use Rattle.std.specs.Prelude.{◌≡◌, ◌+◌, ◌-◌, ◌==◌, ◌<◌, ◌≤◌, ◌^◌, IfSome, false};
+ghost use Rattle.std.specs.Option.{option_map_or};
 ghost use Rattle.st_ahead.specs.Overlap.{oldest_row};
 ghost use Rattle.st_run.specs.Together.{IsBefore};
 ghost use Rattle.st_run.specs.Ticking.{AreMade};
