@@ -8,3 +8,6 @@ pub mod EndLemmas
 pub mod SceneLemmas
 pub mod DoneLemmas
 pub mod Bounds
+pub mod EndedLemmas
+pub mod CameLemmas
+pub mod ChoiceLemmas

@@ -8,3 +8,4 @@ pub mod Together
 pub mod Telling
 pub mod Ticking
 pub mod Leaving
+pub mod Between
