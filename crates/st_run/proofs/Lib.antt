@@ -11,3 +11,4 @@ pub mod Bounds
 pub mod EndedLemmas
 pub mod CameLemmas
 pub mod ChoiceLemmas
+pub mod LevelLemmas

@@ -1,6 +1,6 @@
 //! What comes between two entries: signals, orders of the reader and the printer, what ends a wait, and the decision
 //! how the run goes on.
-ghost use Rattle.std.specs.Prelude.{◌≡◌, ◌||◌, ℕ, List, Bool, true, false, None, nat_lt, is_none, is_some, length, map, option_map};
+ghost use Rattle.std.specs.Prelude.{◌≡◌, ◌≤◌, ◌||◌, ℕ, List, Bool, true, false, None, nat_lt, is_none, is_some, length, map, option_map};
 ghost use Rattle.std.specs.List.{AllPass};
 ghost use Rattle.st_card.specs.Limits.{is_signal};
 ghost use Rattle.st_state.specs.Orders.{is_due as is_due_of};
@@ -21,6 +21,7 @@ use st_ahead::{Machine, Settled};
 use st_card::Signal;
 use st_exch::print_text;
 use st_exec::is_at_rest;
+use st_ring::SpecRing;
 use st_state::{Device, State, is_due};
 
 /// What was decided between two entries.
@@ -40,7 +41,26 @@ pub(crate) struct Decided {
 pub(crate) fn levels_ahead<const N: usize>(driven: &Driven<N>) -> ArrayVec<(u32, u64), 8>
     ensures { result.items ≡ map (λ a. (address_of a, a.row.p)) (levels_of driven.now.machine) }
 {
-    ArrayVec::new()
+    let ring = driven.machine.ring();
+    if ring.len() > 8 {
+        // A view has room for eight: there are no more.
+        let _view = driven.machine.view();
+        return ArrayVec::new();
+    }
+    levels_in(ring)
+}
+
+/// The half-word address of each level, oldest first, and the tick at which it was prepared. There are eight at most.
+fn levels_in<const N: usize>(ring: &SpecRing<N>) -> ArrayVec<(u32, u64), 8>
+    requires { length ring.now ≤ 8 }
+    ensures { result.items ≡ map (λ v. (v.prepared.place.address, v.p)) ring.now }
+{
+    let mut levels = ArrayVec::new();
+    'levels: for k in 0..ring.len() {
+        let level = ring.get(k);
+        levels.push((level.prepared.place.address, level.p));
+    }
+    levels
 }
 
 // ---- orders

@@ -1,4 +1,5 @@
-use Rattle.std.proofs.Common.{sym, ◌∙◌, ap}
+use Rattle.std.proofs.Common.{sym, ◌∙◌, ap, arith}
+use Rattle.st_ahead.specs.Calls.{MayServe}
 use Rattle.st_exec.specs.Step.{rests}
 use Rattle.st_run.specs.Together.{Together}
 use Rattle.st_run.proofs.CameLemmas.{came-text, settled-going, settled-waiting, over-going, over-waiting, ended-may}
@@ -18,8 +19,9 @@ returns-then-not-is_at_rest-clause-over g c =
 
 pub end_wait-later-requires : goal.end_wait-later-requires
 end_wait-later-requires g c =
-    let may = ended-may c.args.driven.now c.take_due_signals.new.driven c.serve_due-card.new.driven c.rest.new.driven _ _ c.take_due_signals.ensures
-    c.serve_due-card.ensures.came c.rest.ensures c.requires in ?
+    let may : MayServe c.rest.new.driven.machine = ended-may c.args.driven.now c.take_due_signals.new.driven c.serve_due-card.new.driven c.rest.new.driven _ _ c.take_due_signals.ensures
+    c.serve_due-card.ensures.came c.rest.ensures c.requires in
+    (omega arith, may)
 
 pub returns-clause-came : goal.returns-clause-came
 returns-clause-came g c =
