@@ -218,23 +218,10 @@ reader-came over old m k xs cards left card has_card view some next after is =
     (λ has. reader-by m.state.reader over m k xs cards left card has (next_first cards left card next) (next_after cards left card next) after)
     some)
 
-pub no-order : (o : Option Order) → is_none o ≡ true → o ≡ None
-no-order None e = refl
-no-order (Some order) e = absurd (cc e)
-
-pub reader-free : (over : Bool) (old : Together) → is_none old.machine.state.reader ≡ true
-    → Came (with_reader old.machine.state.reader (scene_of old)) None over (over || false) old old
-reader-free over old free =
-    subst (λ o. Came (with_reader o (scene_of old)) None over (over || false) old old) (sym (no-order old.machine.state.reader free))
-    (subst (λ x. Came (nothing (scene_of old)) None over x old old) (or-none over) (came-none over old))
-
 -- ---- orders that are due
 
 pub due_is : (done : ℕ) (o : Option Order) → is_due done o ≡ true → o ≡ if_due done o
 due_is done o h = sym (ap (λ b. if b then o else None) h)
-
-pub due_none : (done : ℕ) (o : Option Order) → is_due done o ≡ false → if_due done o ≡ None
-due_none done o h = ap (λ b. if b then o else None) h
 
 printer-cards : (o : Option Order) (c : Scene) → (with_printer o c).scene.cards ≡ c.cards
 printer-cards None c = refl

@@ -118,7 +118,7 @@ ends-by false false waited due = refl
 
 -- the moment, and the machine in the state behind all that comes
 module _ (b t : Together) (text : Option (List ℕ)) (over : Bool) (is : IsBehind b) (came : Came (settled (scene_of b)) text false over b t)
-  (over-is : over ≡ (has_card (moment_of b) || has_waited (moment_of b))) where
+    (over-is : over ≡ (has_card (moment_of b) || has_waited (moment_of b))) where
   abbrev m : Moment
   m = moment_of b
 

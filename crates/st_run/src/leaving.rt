@@ -1,13 +1,13 @@
 //! What comes between two entries: signals, orders of the reader and the printer, what ends a wait, and the decision
 //! how the run goes on.
-ghost use Rattle.std.specs.Prelude.{◌≡◌, ◌≤◌, ◌||◌, ℕ, List, Bool, true, false, None, nat_lt, is_none, is_some, length, map, option_map};
+ghost use Rattle.std.specs.Prelude.{◌≡◌, ◌≤◌, ◌||◌, ℕ, List, Bool, true, false, None, nat_lt, is_none, length, map, option_map};
 ghost use Rattle.std.specs.List.{AllPass};
 ghost use Rattle.st_card.specs.Limits.{is_signal};
 ghost use Rattle.st_state.specs.Orders.{is_due as is_due_of};
 ghost use Rattle.st_exec.specs.Step.{rests};
 ghost use Rattle.st_exec.specs.Run as run;
-ghost use Rattle.st_ahead.specs.Overlap.{levels_of, interrupt_due};
-ghost use Rattle.st_ahead.specs.Calls.{ended, answer, MayServe, MaySignal};
+ghost use Rattle.st_ahead.specs.Overlap.{levels_of};
+ghost use Rattle.st_ahead.specs.Calls.{ended, MayServe, MaySignal};
 ghost use Rattle.st_run.specs.Events.{address_of};
 ghost use Rattle.st_run.specs.Moments.{has_card, has_waited};
 ghost use Rattle.st_run.specs.Together.{IsBehind, moment_of, signals_of, scene_of, with_scene};
@@ -204,7 +204,10 @@ fn serve_at_rest<const N: usize>(driven: &mut Driven<N>) -> Option<ArrayString<6
 }
 
 /// Turns on signals, one at a time, as long as the machine rests, and gives those that are still to come.
-fn signals_at_rest<'a, const N: usize>(machine: &mut Machine<N>, signals: &'a [Signal]) -> &'a [Signal]
+fn signals_at_rest<'a, const N: usize>(
+    machine: &mut Machine<N>,
+    signals: &'a [Signal],
+) -> &'a [Signal]
     requires known { AllPass is_signal signals.now }
     requires turn { MaySignal machine.old }
     ensures rest { AllPass is_signal result.now }
@@ -233,7 +236,10 @@ fn take_signals_at_rest<const N: usize>(driven: &mut Driven<N>)
 }
 
 /// Of two texts the first one.
-fn first_text(first: Option<ArrayString<64>>, later: Option<ArrayString<64>>) -> Option<ArrayString<64>>
+fn first_text(
+    first: Option<ArrayString<64>>,
+    later: Option<ArrayString<64>>,
+) -> Option<ArrayString<64>>
     ensures { option_map (λ x. x.bytes) result
         ≡ first_text_of (option_map (λ x. x.bytes) first) (option_map (λ x. x.bytes) later) }
 {
@@ -288,7 +294,12 @@ fn choice(answer: Settled, over: bool) -> (bool, Option<u8>)
 }
 
 /// It is decided how the run goes on, in which so many entries may still be done, where the segment has ended or not.
-fn decide<const N: usize>(driven: &mut Driven<N>, left: u64, over: bool, text: Option<ArrayString<64>>) -> Decided
+fn decide<const N: usize>(
+    driven: &mut Driven<N>,
+    left: u64,
+    over: bool,
+    text: Option<ArrayString<64>>,
+) -> Decided
     requires { MayServe driven.old.machine }
     ensures rest { driven.new ≡ record driven.old { machine = driven.new.machine } }
     ensures text { result.text ≡ text }

@@ -1,4 +1,4 @@
-use Rattle.std.proofs.Common.{◌≡◌, ap}
+use Rattle.std.proofs.Common.{ap}
 use Rattle.std.specs.Prelude.{option_map}
 use Rattle.st_run.proofs.ChoiceLemmas.{decided}
 use Rattle.st_run.proofs.leaving.leave.Goals as goal

@@ -1,4 +1,4 @@
-use Rattle.std.proofs.Common.{◌≡◌, ℕ, List, length, sym, ◌∙◌, ap}
+use Rattle.std.proofs.Common.{ℕ, List, length, sym, ◌∙◌, ap}
 use Rattle.std.specs.Prelude.{nat_lt}
 use Rattle.st_run.proofs.CameLemmas.{due-orders, printer-leaves}
 use Rattle.st_run.proofs.leaving.serve_due.Goals as goal
@@ -11,6 +11,6 @@ returns-clause-came g c =
 pub returns-clause-card : goal.returns-clause-card
 returns-clause-card g c =
     let left = printer-leaves _ _ _ _ c.serve_due_reader-card.new.driven c.serve_due_printer-text.new.driven
-        (c.serve_due_printer-text.ensures c.serve_due_reader-card.result) in
+    (c.serve_due_printer-text.ensures c.serve_due_reader-card.result) in
     c.serve_due_reader-card.ensures.card
     ∙ ap (λ (xs : List (List ℕ)). nat_lt (length xs) (length c.args.driven.now.cards)) (sym left)

@@ -10,5 +10,5 @@ pub returns-then-reader_is_due-clause-came : goal.returns-then-reader_is_due-cla
 returns-then-reader_is_due-clause-came g c =
     let old = c.args.driven.now in
     let due = ap (λ (t : Together). is_due t.machine.state.done t.machine.state.reader) (sym c.driven.view_is)
-        ∙ (ap (λ (s : Machine). is_due s.done s.reader) (sym c.state.ensures) ∙ sym c.reader_is_due.ensures ∙ c.if-reader_is_due.true) in
+    ∙ (ap (λ (s : Machine). is_due s.done s.reader) (sym c.state.ensures) ∙ sym c.reader_is_due.ensures ∙ c.if-reader_is_due.true) in
     came-is _ _ _ _ _ _ _ (ap (λ o. with_reader o (scene_of old)) (due_is old.machine.state.done old.machine.state.reader due)) (c.serve_reader.ensures.came false)

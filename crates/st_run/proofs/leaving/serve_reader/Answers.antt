@@ -1,8 +1,8 @@
-use Rattle.std.proofs.Common.{sym, ◌∙◌, ap, true, false}
+use Rattle.std.proofs.Common.{sym, ◌∙◌, ap}
 use Rattle.std.specs.Prelude.{is_none}
 use Rattle.st_state.specs.Machine.{Machine}
 use Rattle.st_run.specs.Together.{Together}
-use Rattle.st_run.proofs.CameLemmas.{reader-came, reader-free}
+use Rattle.st_run.proofs.CameLemmas.{reader-came}
 use Rattle.st_run.proofs.leaving.serve_reader.Goals as goal
 
 pub returns-clause-came : goal.returns-clause-came
