@@ -1,6 +1,6 @@
 -- What comes between two entries, one thing after another: each thing, and two of them.
-use Rattle.std.specs.Prelude.{IfSome, IsSome, MatchOption, is_none, is_some, nat_lt, nat_le, if◌then◌else◌, map}
-use Rattle.std.proofs.Common.{◌≡◌, ◌⊎◌, inl, inr, ℕ, zero, suc, ◌+◌, ◌<◌, ◌≤◌, Bool, true, false, ◌||◌, ◌&&◌, List, [], ◌∷◌, ◌++◌, length, length-append, Option, None, Some, refl, sym, subst, ◌∙◌, ap, arith}
+use Rattle.std.specs.Prelude.{IfSome, MatchOption, is_none, is_some, nat_lt, nat_le, if◌then◌else◌}
+use Rattle.std.proofs.Common.{◌≡◌, ℕ, ◌≤◌, Bool, true, false, ◌||◌, ◌&&◌, List, [], ◌∷◌, ◌++◌, length, length-append, Option, None, Some, refl, sym, subst, ◌∙◌, ap, arith}
 use Rattle.st_state.specs.Machine.{Machine}
 use Rattle.st_state.specs.Interrupts.{signalled, pending}
 use Rattle.st_state.specs.Orders.{is_due, next_device}
@@ -9,13 +9,12 @@ use Rattle.st_state.specs.declared.devices.Device.{Device}
 use Rattle.st_prep.specs.BesideOrders.{AreAlikeBesideOrders}
 use Rattle.st_prep.proofs.Choices.{of_choice}
 use Rattle.st_exch.specs.Printer.{printed}
-use Rattle.st_exec.specs.Step.{rests, interrupt}
-use Rattle.st_exec.specs.Run.{Signal, Scene, Reached, Happening, with_due_signals, with_signals_at_rest, first_card, cards_after, words_from, read_in, printed_out, with_reader, with_printer, nothing, and_then, if_due, with_due_orders, with_device, with_order_at_rest, with_wait, settled}
+use Rattle.st_exec.specs.Step.{rests}
+use Rattle.st_exec.specs.Run.{Signal, Scene, Reached, Happening, with_due_signals, with_signals_at_rest, first_card, cards_after, words_from, read_in, with_reader, with_printer, nothing, and_then, if_due, with_due_orders, with_device, with_order_at_rest, with_wait, settled}
 use Rattle.st_exec.proofs.BesideEntries.{beside-printed, beside-no_card, beside-signalled, beside-same, beside-then}
 use Rattle.st_ahead.specs.Overlap.{Overlap, interrupt_due}
 use Rattle.st_ahead.specs.Calls.{ended, settled as settled_of, read_in_by, printed_by, MayServe}
 use Rattle.st_ahead.proofs.Settling.{settled-waits}
-use Rattle.st_run.specs.Told.{what_happens}
 use Rattle.st_run.specs.Moments.{has_card, has_waited}
 use Rattle.st_run.specs.Together.{Together, scene_of, moment_of, with_scene, text_told, AreTexts, IsBehind, IsSince, closed_if}
 use Rattle.st_run.specs.Between.{Came, first_text}

@@ -1,6 +1,6 @@
 -- What is decided between two entries.
-use Rattle.std.specs.Prelude.{IfSome, IsSome, is_none, is_some, if◌then◌else◌, map, option_map}
-use Rattle.std.proofs.Common.{◌≡◌, ◌≢◌, ℕ, suc, ◌+◌, ◌<◌, ◌≤◌, Bool, true, false, ◌||◌, List, [], length, Option, None, Some, refl, sym, subst, ◌∙◌, ap, arith}
+use Rattle.std.specs.Prelude.{IfSome, is_none, is_some, if◌then◌else◌, option_map}
+use Rattle.std.proofs.Common.{◌≡◌, ◌≢◌, ℕ, ◌+◌, ◌<◌, ◌≤◌, Bool, true, false, ◌||◌, List, Option, None, Some, refl, sym, subst, ◌∙◌, ap, arith}
 use Rattle.st_state.specs.Machine.{Machine, IsMachine}
 use Rattle.st_prep.proofs.Choices.{of_choice}
 use Rattle.st_exec.proofs.BesideEntries.{beside-same}
@@ -13,7 +13,7 @@ use Rattle.st_rows.specs.declared.front.Front.{Front}
 use Rattle.st_segment.specs.Entries.{entry}
 use Rattle.st_segment.proofs.EntryRanges.{entry-ranges}
 use Rattle.st_ahead.specs.Overlap.{Overlap, seen, levels_of, interrupt_due, oldest_row}
-use Rattle.st_ahead.specs.Calls.{ended, settled as settled_of, settled_by, passed, answer, answer_by, MayServe}
+use Rattle.st_ahead.specs.Calls.{ended, settled as settled_of, settled_by, passed, answer, answer_by}
 use Rattle.st_ahead.specs.declared.events.Settled.{Settled}
 use Rattle.st_run.specs.Moments.{Moment, next_scene, next_state, ends_segment, next_front, next_segment, has_card, has_waited}
 use Rattle.st_run.specs.Scenes.{IsScene}

@@ -1,6 +1,6 @@
 -- The end of a segment is the same before and after signals and orders without a card.
-use Rattle.std.specs.Prelude.{IfSome, IsSome, if◌then◌else◌, nat_lt}
-use Rattle.std.proofs.Common.{◌≡◌, ℕ, zero, suc, ◌+◌, ◌<◌, ◌≤◌, ◌^◌, Bool, true, false, ◌||◌, List, [], ◌∷◌, length, Option, None, Some, refl, sym, subst, ◌∙◌, ap, arith}
+use Rattle.std.specs.Prelude.{IfSome, if◌then◌else◌, nat_lt}
+use Rattle.std.proofs.Common.{◌≡◌, ℕ, zero, suc, ◌+◌, ◌<◌, ◌≤◌, ◌^◌, Bool, true, false, List, [], ◌∷◌, length, Option, None, Some, refl, sym, ◌∙◌, ap, arith}
 use Rattle.std.proofs.lemmas.Bool.{ltb-true, le-ltb}
 use Rattle.st_state.specs.Machine.{Machine, IsMachine}
 use Rattle.st_prep.specs.BesideOrders.{AreAlikeBesideOrders}
@@ -19,7 +19,7 @@ use Rattle.st_segment.proofs.GuessLemmas.{guess-machine}
 use Rattle.st_segment.proofs.PassedOver.{entry-same, passed-over}
 use Rattle.st_ahead.specs.Overlap.{Overlap, seen, with_counter, levels_of}
 use Rattle.st_ahead.specs.Calls.{ended, banks_left, missed_counter, MayServe}
-use Rattle.st_run.specs.Together.{Together, IsBehind, IsSince, closed_if}
+use Rattle.st_run.specs.Together.{Together, IsBehind, IsSince}
 
 -- ---- entries that are prepared before the last one is done
 
