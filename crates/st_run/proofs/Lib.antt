@@ -8,3 +8,7 @@ pub mod EndLemmas
 pub mod SceneLemmas
 pub mod DoneLemmas
 pub mod Bounds
+pub mod TickLemmas
+pub mod WaitingLemmas
+pub mod ToldLemmas
+pub mod SeenLemmas
