@@ -12,3 +12,4 @@ pub mod TickLemmas
 pub mod WaitingLemmas
 pub mod ToldLemmas
 pub mod SeenLemmas
+pub mod MomentLemmas

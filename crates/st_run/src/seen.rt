@@ -77,10 +77,13 @@ fn word_with(state: &State, index: &[u64; 16], w: u32) -> u64
     ensures { result ≡ word_of (with_index_words index.now state.now) w }
 {
     state.shape();
-    if w < 16 || 32 <= w {
+    if w < 16 {
         return state.word(w);
     }
-    index[w as usize - 16]
+    if w < 32 {
+        return index[w as usize - 16];
+    }
+    state.word(w)
 }
 
 /// The counter of a state.
