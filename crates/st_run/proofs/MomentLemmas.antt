@@ -1,11 +1,14 @@
 -- The moment at which the next entry of a machine is done.
-use Rattle.std.specs.Prelude.{is_some, if◌then◌else◌, IsSome}
-use Rattle.std.proofs.Common.{◌≡◌, ℕ, ◌+◌, ◌-◌, ◌<◌, ◌≤◌, Bool, true, false, List, [], Option, None, Some, refl, sym, ◌∙◌, ap, subst, arith}
+use Rattle.std.specs.Prelude.{is_some, if◌then◌else◌, IsSome, IfSome}
+use Rattle.std.proofs.Common.{◌≡◌, ℕ, ◌+◌, ◌-◌, ◌<◌, ◌≤◌, ◌^◌, Bool, true, false, List, [], Option, None, Some, refl, sym, ◌∙◌, ap, subst, arith}
 use Rattle.st_state.specs.Machine.{Machine}
 use Rattle.st_prep.specs.Plan.{plan}
+use Rattle.st_prep.proofs.Choices.{of_choice}
+use Rattle.st_prep.proofs.PlanLemmas.{plan-prepared}
 use Rattle.st_exec.specs.Completion.{executed, is_missed, guess}
 use Rattle.st_exec.specs.Step.{interrupt, rests, step}
 use Rattle.st_exec.specs.Run.{Scene, Signal, stepped}
+use Rattle.st_rows.specs.Ranges.{AreDelays}
 use Rattle.st_rows.specs.Rows.{row, after}
 use Rattle.st_rows.specs.declared.front.Front.{Front}
 use Rattle.st_segment.specs.Ahead.{Ahead, ahead, prepared_before}
@@ -16,7 +19,7 @@ use Rattle.st_run.specs.Scenes.{IsScene}
 use Rattle.st_run.specs.Moments.{Moment, Standing, taken, next_row, front_after, entries_behind, reads_until, next_moment}
 use Rattle.st_run.specs.Together.{Together, scene_of, IsBefore, IsBehind, standing_of, moment_of}
 use Rattle.st_run.specs.Ticking.{IsReady, at_completion}
-use Rattle.st_run.proofs.SceneLemmas.{stepped-scene}
+use Rattle.st_run.proofs.SceneLemmas.{interrupt-below, stepped-scene}
 use Rattle.st_run.proofs.GuessLemmas.{behind-right, behind-missed}
 use Rattle.st_run.proofs.TickLemmas.{calm, ready-calm}
 
@@ -83,5 +86,45 @@ module _ (ds : List ℕ) (n : ℕ) (c : Scene) (f : Front) (tick now : ℕ) wher
       ap (λ (b : Bool). record (moment_of (together done)) { missed = b }) (missed-same (is_missed p s) p.following)
       ∙ ap (λ (xs : List Ahead). record m { dropped = xs }) dropped
 
-  pub behind-done : 1 ≤ n → n ≤ 8 → Unit {0} → Unit {0}
-  behind-done some few u = u
+-- once it is done, that moment stands
+pub moment-next : (t : Together) (tick : ℕ) → IsBefore t
+    → moment_of (record t { machine = completed (at_completion t.machine) })
+    ≡ next_moment t.machine.delays t.machine.levels (standing_of tick t)
+moment-next t tick h =
+    let o = t.machine in
+    ap {A = Overlap} (λ q. moment_of (record t { machine = completed (at_completion q) })) (ready-still o (ready-before t h))
+    ∙ moment-done o.delays o.levels (scene_of t) o.front tick o.now h.scene
+
+-- nothing has come from outside since
+behind-done : (t : Together) (f : Front) (now : ℕ) → 1 ≤ t.machine.levels → t.machine.levels ≤ 8 → AreDelays 255 t.machine.delays
+    → IsScene (scene_of t)
+    → IsBehind (record t { machine = completed (at_completion (still t.machine.delays t.machine.levels t.machine.state f now)) })
+unfolding completed oldest_row seen step row after
+behind-done t f now some few delays is = record {
+  some = some;
+  few = few;
+  delays = delays;
+  scene = stepped-scene (scene_of t) is;
+  owed = refl;
+  going = refl;
+  done = refl;
+  table = refl;
+  counter =
+      let s = t.machine.state in
+      let p = plan s (interrupt s) in
+      of_choice (λ (o : Option ℕ). IfSome o (λ h. h < 2 ^ 19)) (is_missed p s) (Some p.following) None
+      (plan-prepared s (interrupt s) is.machine (interrupt-below s)).following tt;
+  last = refl;
+}
+
+pub behind-next : (t : Together) → IsBefore t → IsBehind (record t { machine = completed (at_completion t.machine) })
+behind-next t h =
+    subst {A = Overlap} (λ q. IsBehind (record t { machine = completed (at_completion q) })) (sym (ready-still t.machine (ready-before t h)))
+    (behind-done t t.machine.front t.machine.now h.some h.few h.delays h.scene)
+
+-- its row
+pub row-before : (t : Together) (tick : ℕ) → IsBefore t
+    → oldest_row t.machine ≡ next_row t.machine.delays t.machine.levels (standing_of tick t)
+row-before t tick h =
+    let o = t.machine in
+    ap oldest_row (ready-still o (ready-before t h)) ∙ row-still o.delays o.levels (scene_of t) o.front tick o.now

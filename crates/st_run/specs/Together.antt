@@ -1,5 +1,5 @@
 -- An overlapped machine with the signals and the reader's cards that are still to come.
-use Rattle.std.specs.Prelude.{ℕ, ◌≡◌, ◌+◌, ◌≤◌, Bool, true, false, if◌then◌else◌, is_some, List, [], ◌∷◌, ◌++◌, length, map, Option, None, Some, IsSome}
+use Rattle.std.specs.Prelude.{ℕ, ◌≡◌, ◌+◌, ◌≤◌, Bool, true, false, if◌then◌else◌, is_some, List, [], ◌∷◌, ◌++◌, length, map, Option, None, Some, IsSome, IfSome, ◌<◌, ◌^◌}
 use Rattle.st_card.specs.declared.control_cards.Signal.{Signal as SignalCard}
 use Rattle.st_state.specs.Machine.{Machine}
 use Rattle.st_prep.specs.BesideOrders.{AreAlikeBesideOrders}
@@ -66,6 +66,7 @@ pub record IsBehind (t : Together) : Type 0 where
   pub going : t.machine.ended ≡ false
   pub done : IsSome t.machine.closing
   pub table : t.machine.taken ≡ None
+  pub counter : IfSome t.machine.behind (λ h. h < 2 ^ 19)
   pub last : t.machine.front.c ≡ t.machine.now
 
 abbrev pub moment_of : Together → Moment

@@ -33,7 +33,8 @@ pub(crate) fn levels_ahead<const N: usize>(driven: &Driven<N>) -> ArrayVec<(u32,
 /// What comes between two entries comes, of which so many may still be done; and it is decided how the run goes on.
 pub(crate) fn leave<const N: usize>(driven: &mut Driven<N>, left: u64) -> Decided
     requires { IsBehind driven.old }
-    ensures { IsDecided left (moment_of driven.old) result driven.new }
+    ensures decided { IsDecided left (moment_of driven.old) result driven.new }
+    ensures delays { driven.new.machine.delays ≡ driven.old.machine.delays }
 {
     Decided {
         ends: true,

@@ -1,0 +1,7 @@
+use Rattle.st_run.proofs.leaving.leave.Goals as goal
+
+pub returns-clause-decided : goal.returns-clause-decided
+returns-clause-decided g c = ?
+
+pub returns-clause-delays : goal.returns-clause-delays
+returns-clause-delays g c = ?
