@@ -13,3 +13,4 @@ pub mod WaitingLemmas
 pub mod ToldLemmas
 pub mod SeenLemmas
 pub mod MomentLemmas
+pub mod ProgressLemmas

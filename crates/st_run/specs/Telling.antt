@@ -102,7 +102,7 @@ pub record AreLevels (shown : List (Option LevelView)) (levels : List Level) : T
 abbrev pub IsTurn : Turn → ℕ → List ℕ → Together → Type 0
 IsTurn turns.Before now snaps t = IsBefore t × (now ≡ t.machine.now) × AreRising (now - 1) snaps
 IsTurn (turns.AtEnd rests) now snaps t = levels_of t.machine ≡ []
-IsTurn turns.Over now snaps t = Unit {0}
+IsTurn turns.Over now snaps t = levels_of t.machine ≡ []
 
 -- all that is still to be told comes in time
 abbrev pub AreInTime : List Told → Type 0
