@@ -14,3 +14,7 @@ pub mod ToldLemmas
 pub mod SeenLemmas
 pub mod MomentLemmas
 pub mod ProgressLemmas
+pub mod LeftLemmas
+pub mod GoLemmas
+pub mod NextLemmas
+pub mod StartLemmas

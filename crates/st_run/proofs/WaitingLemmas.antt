@@ -38,3 +38,13 @@ whats-none w s none empty same = rw (none, empty, same) refl
 pub no-items : (xs : List (ℕ × ℕ)) → (0 < length xs → false ≡ true) → xs ≡ []
 no-items [] none = refl
 no-items (x ∷ xs) none = let some : 0 < length (x ∷ xs) = omega arith in absurd (cc (none some))
+
+-- it is the same where each part of it is
+pub waiting-same : (v w : Waiting) → v.drops ≡ w.drops → v.text ≡ w.text → v.taken ≡ w.taken → v ≡ w
+waiting-same v w drops text taken =
+    ap {A = List (ℕ × ℕ)} (λ xs. record v { drops = xs }) drops
+    ∙ ap {A = Option (List ℕ)} (λ o. record w { text = o; taken = v.taken }) text
+    ∙ ap {A = Option ℕ} (λ o. record w { taken = o }) taken
+
+pub text-same : {A : Type 0} (f : A → List ℕ) (o p : Option A) → o ≡ None → None ≡ p → option_map f o ≡ option_map f p
+text-same f o p empty same = ap (option_map f) (empty ∙ same)

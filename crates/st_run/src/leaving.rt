@@ -35,6 +35,7 @@ pub(crate) fn leave<const N: usize>(driven: &mut Driven<N>, left: u64) -> Decide
     requires { IsBehind driven.old }
     ensures decided { IsDecided left (moment_of driven.old) result driven.new }
     ensures delays { driven.new.machine.delays ≡ driven.old.machine.delays }
+    ensures levels { driven.new.machine.levels ≡ driven.old.machine.levels }
 {
     Decided {
         ends: true,

@@ -1,5 +1,6 @@
 //! What is told between two entries.
 ghost use Rattle.std.specs.Prelude.{◌≡◌, ◌++◌, ◌≤◌, [], ◌∷◌, None, MatchOption, IfSome, IsSome, List};
+ghost use Rattle.std.specs.Option.{IfNone};
 ghost use Rattle.st_state.specs.Machine.{Machine};
 ghost use Rattle.st_run.specs.Events.{Level};
 ghost use Rattle.st_run.specs.Telling.{what_told, whats as whats_of};
@@ -47,6 +48,7 @@ impl Waiting {
         ensures shown { (s t : Machine) (levels : List Level) → (IsSome self.old.taken → s ≡ t) →
             IfSome result (λ what. what_told what s [] ≡ what_told what t levels) }
         ensures taken { IsSome self.new.taken → IsSome self.old.taken }
+        ensures none { IfNone result (self.new ≡ self.old) }
     {
         if let Some((address, p)) = self.drops.pop() {
             return Some(What::Dropped { address, p });

@@ -5,3 +5,6 @@ returns-clause-decided g c = ?
 
 pub returns-clause-delays : goal.returns-clause-delays
 returns-clause-delays g c = ?
+
+pub returns-clause-levels : goal.returns-clause-levels
+returns-clause-levels g c = ?

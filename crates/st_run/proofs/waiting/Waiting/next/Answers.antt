@@ -1,6 +1,6 @@
 use Rattle.std.proofs.Common.{refl, sym, ◌∙◌, ap}
 use Rattle.st_run.specs.Telling.{Waiting, whats}
-use Rattle.st_run.proofs.WaitingLemmas.{whats-drop, whats-text, whats-taken, whats-none, no-items}
+use Rattle.st_run.proofs.WaitingLemmas.{whats-drop, whats-text, whats-taken, whats-none, no-items, waiting-same, text-same}
 use Rattle.st_run.proofs.waiting.Waiting.next.Goals as goal
 
 pub returns-in-Some-clause-told : goal.returns-in-Some-clause-told
@@ -29,3 +29,10 @@ returns-clause-told c s =
     ap (λ (w : Waiting). whats w s) (sym c.self.view_is)
     ∙ whats-taken _ _ c.in-Some-take-2.indicator s none (rw (← c.in_default-take.ensures.value) refl) (sym c.in-Some-take-2.ensures.value)
     (rw (same, none, c.in_default-take.ensures.after, c.in-Some-take-2.ensures.after) refl)
+
+pub returns-in_default-take-2-clause-none : goal.returns-in_default-take-2-clause-none
+returns-in_default-take-2-clause-none c =
+    waiting-same _ _ (ap (λ q. q.items) c.in_default.ensures.empty)
+    (text-same _ _ _ c.in_default-take.ensures.after c.in_default-take.ensures.value)
+    (c.in_default-take-2.ensures.after ∙ c.in_default-take-2.ensures.value)
+    ∙ c.self.view_is
