@@ -18,3 +18,4 @@ pub mod LeftLemmas
 pub mod GoLemmas
 pub mod NextLemmas
 pub mod StartLemmas
+pub mod ViewLemmas

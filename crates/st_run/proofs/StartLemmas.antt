@@ -243,10 +243,13 @@ run-in_time ds n budget c snaps are levels is none few =
 
 rising-from : (t : ℕ) (xs : List ℕ) → IsStrictlyIncreasing xs → (0 < length xs → t ≤ slice_index xs 0) → AreRising t xs
 unfolding AreRising
-rising-from t [] up first = tt
-rising-from t (x ∷ xs) up first =
-    (first (omega arith),
-    rising-from (x + 1) xs (λ k inside. up (suc k) (omega arith)) (λ some. let later = up 0 (omega arith) in omega (arith, later)))
+rising-from t [] up low = tt
+rising-from t (x ∷ xs) up low =
+    let same : (k : ℕ) → suc k + 1 ≡ suc (k + 1) = λ k. omega arith in
+    (low (omega arith),
+    rising-from (x + 1) xs
+    (λ k inside. subst {A = ℕ} (λ j. slice_index xs k < slice_index (x ∷ xs) j) (same k) (up (suc k) (omega arith)))
+    (λ some. let later = up 0 (omega arith) in omega (arith, later)))
 
 pub increasing-rises : (xs : List ℕ) → IsStrictlyIncreasing xs → AreRising 0 xs
 increasing-rises xs up = rising-from 0 xs up (λ some. omega arith)

@@ -81,6 +81,8 @@ impl<'a, const N: usize> Run<'a, N> {
         ensures { result.rest ≡ told_events (timed_run delays N budget
             (record { machine = state; signals = signals_of signals.now; cards = cards }) snaps.now) }
     {
+        state.shape();
+        delays.shape();
         let mut driven = Driven {
             machine: Machine::new(state, delays),
             signals,
