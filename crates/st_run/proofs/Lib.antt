@@ -12,3 +12,15 @@ pub mod EndedLemmas
 pub mod CameLemmas
 pub mod ChoiceLemmas
 pub mod LevelLemmas
+pub mod TickLemmas
+pub mod WaitingLemmas
+pub mod ToldLemmas
+pub mod SeenLemmas
+pub mod MomentLemmas
+pub mod ProgressLemmas
+pub mod LeftLemmas
+pub mod GoLemmas
+pub mod NextLemmas
+pub mod StartLemmas
+pub mod ViewLemmas
+pub mod SameLemmas

@@ -327,7 +327,9 @@ fn decide<const N: usize>(
 /// What comes between two entries comes, of which so many may still be done; and it is decided how the run goes on.
 pub(crate) fn leave<const N: usize>(driven: &mut Driven<N>, left: u64) -> Decided
     requires { IsBehind driven.old }
-    ensures { IsDecided left (moment_of driven.old) result driven.new }
+    ensures decided { IsDecided left (moment_of driven.old) result driven.new }
+    ensures delays { driven.new.machine.delays ≡ driven.old.machine.delays }
+    ensures levels { driven.new.machine.levels ≡ driven.old.machine.levels }
 {
     let (over, text) = come(driven);
     decide(driven, left, over, text)

@@ -5,6 +5,7 @@
 mod driven;
 mod laws;
 mod leaving;
+mod progress;
 mod run;
 mod seen;
 mod ticking;
