@@ -41,8 +41,8 @@ unfolding settled
 settled-same o = settled_by-same (interrupt_due o) (rests o.state) o.behind o
 
 choice-same : (turn : Turn) (left : ℕ) (over : Bool) (old : Overlap) (d : Decided) (new : Overlap) → IsChoice turn left over old d new → IsSame old new
-choice-same Before left over old d new c = same-is old (settled old) new c.1.1.0 (settled-same old)
-choice-same (AtEnd resting) left over old d new c = same-is old (ended old) new c.1.1.1.1 (ended-same old)
+choice-same Before left over old d new c = same-is old (settled old) new c.2 (settled-same old)
+choice-same (AtEnd resting) left over old d new c = same-is old (ended old) new c.4 (ended-same old)
 choice-same Over left over old d new c = absurd c
 
 closed-same : (over : Bool) (o : Overlap) → IsSame o (closed_if over o)
