@@ -259,6 +259,10 @@ increasing-rises xs up = rising-from 0 xs up (λ some. omega arith)
 abbrev pub opened : List ℕ → ℕ → Scene → Together
 opened ds n c = record { machine = started ds n c.machine; signals = c.signals; cards = c.cards }
 
+-- nothing waits
+abbrev pub none : Waiting
+none = record { drops = []; text = None; taken = None }
+
 module _ (ds : List ℕ) (n : ℕ) (c : Scene) (idle : IsIdle c.machine) (is : IsScene c) where
   pub opened-before : 1 ≤ n → n ≤ 8 → AreDelays 255 ds → IsBefore (with_scene (opened ds n c) (due c idle))
   opened-before some few are = record {
@@ -274,9 +278,6 @@ module _ (ds : List ℕ) (n : ℕ) (c : Scene) (idle : IsIdle c.machine) (is : I
     awake = idle-rests (due c idle).machine (due-idle c idle);
     early = omega arith;
   }
-
-  abbrev pub none : Waiting
-  none = record { drops = []; text = None; taken = None }
 
   pub none-quiet : Quiet none
   unfolding whats

@@ -30,7 +30,9 @@ use Rattle.st_ahead.specs.Overlap.{Overlap, seen, levels_of, last_tick}
 use Rattle.st_ahead.specs.Shown.{kept_by, level_shown, shown}
 use Rattle.st_ahead.specs.declared.events.LevelView.{LevelView}
 use Rattle.st_run.specs.Events.{Level, Changed, changed_by, level_at}
-use Rattle.st_run.specs.Telling.{IsLevel, AreLevels, ahead_of}
+use Rattle.st_run.specs.Telling.{Waiting, IsLevel, AreLevels, IsRun, ahead_of}
+use Rattle.st_run.specs.declared.turn.Turn.{Turn}
+use Rattle.st_run.specs.declared.turn.Turn.TheVariants as turns
 use Rattle.st_run.specs.Together.{Together, IsBefore}
 use Rattle.st_run.proofs.SceneLemmas.{interrupt-below}
 use Rattle.st_run.proofs.MomentLemmas.{ready-before, ready-still, still}
@@ -176,3 +178,9 @@ view-none o none = record {
   room = rw none refl;
   same = rw none tt;
 }
+
+pub view-run : (turn : Turn) (left tick now : ℕ) (snaps : List ℕ) (w : Waiting) (t : Together) → IsRun turn left tick now snaps w t
+    → AreLevels (shown t.machine).levels (ahead_of t.machine)
+view-run turns.Before left tick now snaps w t is = view-before t is.stands.0
+view-run (turns.AtEnd rests) left tick now snaps w t is = view-none t.machine is.stands
+view-run turns.Over left tick now snaps w t is = view-none t.machine is.stands
