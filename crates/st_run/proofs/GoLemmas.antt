@@ -140,7 +140,7 @@ module _ (left tick : ℕ) (snaps : List ℕ) (t new : Together) (before : IsBef
         let s = o.state in
         let rows : oldest_row o ≡ next_row o.delays o.levels p = row-before t tick before in
         let place : (plan s o.taken).place.address ≡ address s =
-            ap {A = Option ℕ} (λ k. (plan s k).place.address) before.table ∙ plan-address s (interrupt s) in
+        ap {A = Option ℕ} (λ k. (plan s k).place.address) before.table ∙ plan-address s (interrupt s) in
         ap {A = FrontRow} (λ r. once (s.done + 1) (oldest_row o).c (Done (plan s o.taken).place.address r.p r.r (oldest_row o).c)) (row-same o (oldest_row o).c)
         ∙ ap {A = FrontRow} (λ r. once (s.done + 1) r.c (Done (plan s o.taken).place.address r.p r.r r.c)) rows
         ∙ ap {A = ℕ} (λ k. once (s.done + 1) (next_row o.delays o.levels p).c (Done k (next_row o.delays o.levels p).p
@@ -157,9 +157,9 @@ module _ (left tick : ℕ) (snaps : List ℕ) (t new : Together) (before : IsBef
     unfolding completed
     go-tells rest same =
         let behind : told (timed_from o.delays o.levels left next snaps) ≡ rest =
-            ap {A = Moment} (λ m. told (timed_from o.delays o.levels left m snaps)) (sym moment-is)
-            ∙ ap {A = Together} (λ u. told (timed_from u.machine.delays u.machine.levels left (moment_of u) snaps)) (sym new-done)
-            ∙ same in
+        ap {A = Moment} (λ m. told (timed_from o.delays o.levels left m snaps)) (sym moment-is)
+        ∙ ap {A = Together} (λ u. told (timed_from u.machine.delays u.machine.levels left (moment_of u) snaps)) (sym new-done)
+        ∙ same in
         all-told
         ∙ ap {A = List Told} (λ xs. told_of (completion o.delays o.levels p) ∷ xs) behind
         ∙ ap {A = Told} (λ y. y ∷ rest) (sym row-told ∙ ap told_row (sym made.ticked.2))

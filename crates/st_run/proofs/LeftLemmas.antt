@@ -66,13 +66,13 @@ module _ (ds : List ℕ) (n left tick : ℕ) (m : Moment) (snaps : List ℕ) (d 
       let rest = told (timed_behind ds n k p snaps) in
       let state : s ≡ t.machine.state = ap {A = Scene} (λ c. c.machine) (sym g.scene) in
       let waiting : waits (dropped_if (ends_segment m) m) printed (interrupt s) ≡ waits drops printed d.taken =
-          ap {A = Bool} (λ b. waits (dropped_if b m) printed (interrupt s)) (sym g.ends)
-          ∙ ap {A = List (ℕ × ℕ)} (λ xs. waits xs printed (interrupt s)) (sym dropped)
-          ∙ ap {A = Option ℕ} (λ o. waits drops printed o) (sym g.taken) in
+      ap {A = Bool} (λ b. waits (dropped_if b m) printed (interrupt s)) (sym g.ends)
+      ∙ ap {A = List (ℕ × ℕ)} (λ xs. waits xs printed (interrupt s)) (sym dropped)
+      ∙ ap {A = Option ℕ} (λ o. waits drops printed o) (sym g.taken) in
       let stand : p ≡ standing_of tick t =
-          ap {A = Scene} (λ c. record { scene = c; tick = m.tick; front = next_front m }) (sym g.scene)
-          ∙ ap {A = ℕ} (λ x. record { scene = scene_of t; tick = x; front = next_front m }) (sym tick_is)
-          ∙ ap {A = Front} (λ f. record { scene = scene_of t; tick = tick; front = f }) (sym g.front) in
+      ap {A = Scene} (λ c. record { scene = c; tick = m.tick; front = next_front m }) (sym g.scene)
+      ∙ ap {A = ℕ} (λ x. record { scene = scene_of t; tick = x; front = next_front m }) (sym tick_is)
+      ∙ ap {A = Front} (λ f. record { scene = scene_of t; tick = tick; front = f }) (sym g.front) in
       ap told (timed-goes_on ds n left m snaps some awake)
       ∙ told-append (between m) (timed_behind ds n k p snaps)
       ∙ ap {A = List Told} (λ xs. xs ++ rest) (told-between m printed text)
@@ -92,9 +92,9 @@ module _ (ds : List ℕ) (n left tick : ℕ) (m : Moment) (snaps : List ℕ) (d 
       let s = next_state m in
       let state : s ≡ t.machine.state = ap {A = Scene} (λ c. c.machine) (sym g.scene) in
       let waiting : waits (map dropped_at m.dropped) printed None ≡ waits drops printed d.taken =
-          ap {A = Bool} (λ b. waits (dropped_if b m) printed None) (sym ends)
-          ∙ ap {A = List (ℕ × ℕ)} (λ xs. waits xs printed None) (sym dropped)
-          ∙ ap {A = Option ℕ} (λ o. waits drops printed o) (sym void) in
+      ap {A = Bool} (λ b. waits (dropped_if b m) printed None) (sym ends)
+      ∙ ap {A = List (ℕ × ℕ)} (λ xs. waits xs printed None) (sym dropped)
+      ∙ ap {A = Option ℕ} (λ o. waits drops printed o) (sym void) in
       ap told (ends-here ds n left m snaps resting same none)
       ∙ told-last m printed snaps text
       ∙ ap {A = Waiting} (λ w. map (at_once m.tick s) (whats w s) ++ told_at_end (rests s) m.tick snaps s) waiting
@@ -129,8 +129,8 @@ module _ (ds : List ℕ) (n left tick : ℕ) (m : Moment) (snaps : List ℕ) (d 
   none-ahead g some =
       let o = t.machine in
       let stand : standing_of m.tick t ≡ standing m =
-          ap {A = Scene} (λ c. record { scene = c; tick = m.tick; front = o.front }) g.scene
-          ∙ ap {A = Front} (λ f. record (standing m) { front = f }) g.front in
+      ap {A = Scene} (λ c. record { scene = c; tick = m.tick; front = o.front }) g.scene
+      ∙ ap {A = Front} (λ f. record (standing m) { front = f }) g.front in
       let taken : is_some (interrupt (next_state m)) ≡ true = ap is_some (sym g.taken) ∙ some in
       ap levels_of (ready-still o (ready-before t g.before))
       ∙ levels-still o.delays o.levels (scene_of t) o.front m.tick o.now

@@ -80,9 +80,9 @@ module _ (ds : List ℕ) (n : ℕ) (c : Scene) (f : Front) (tick now : ℕ) wher
       let tick = (row ds n f (entry (interrupt s) s)).c in
       let m : Moment = next_moment ds n here in
       let dropped : prepared_before tick
-          (ahead ds n n None (with_counter (if is_missed p s then Some p.following else None) (executed (interrupt s) s))
-          (front_after ds n here))
-          ≡ m.dropped = ap (prepared_before tick) (behind-same is (is_missed p s) refl) in
+      (ahead ds n n None (with_counter (if is_missed p s then Some p.following else None) (executed (interrupt s) s))
+      (front_after ds n here))
+      ≡ m.dropped = ap (prepared_before tick) (behind-same is (is_missed p s) refl) in
       ap (λ (b : Bool). record (moment_of (together done)) { missed = b }) (missed-same (is_missed p s) p.following)
       ∙ ap (λ (xs : List Ahead). record m { dropped = xs }) dropped
 

@@ -110,7 +110,7 @@ show-told left tick x xs t h now =
     let row : oldest_row o ≡ next_row ds n p = row-before t tick h in
     let early : x < (next_moment ds n p).tick = omega (arith, h.early, now, ap (λ r. r.c) row) in
     let machine : o ≡ still ds n o.state o.front (x + 1) =
-        ready-still o (ready-before t h) ∙ ap {A = ℕ} (λ k. still ds n o.state o.front k) now in
+    ready-still o (ready-before t h) ∙ ap {A = ℕ} (λ k. still ds n o.state o.front k) now in
     ap told (behind-snapshot ds n left p x xs early)
     ∙ ap (λ (y : Told). y ∷ told (timed_behind ds n left p xs))
     (shown-still ds n (scene_of t) o.front tick x

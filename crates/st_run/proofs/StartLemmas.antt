@@ -235,9 +235,9 @@ run-in_time ds n budget c snaps are levels is none few =
     let less = run-few 10000000 ds n budget (start c) snaps (omega arith) in
     told-all (λ (y : Told). (y.tick < 2 ^ 63) × (y.done < 2 ^ 63)) (timed_run ds n budget c snaps)
     (λ k d inside.
-        let early = timely k d inside in
-        let low = less k d inside in
-        (omega (arith, early, low), omega (arith, low)))
+    let early = timely k d inside in
+    let low = less k d inside in
+    (omega (arith, early, low), omega (arith, low)))
 
 -- ---- rising ticks
 
@@ -245,11 +245,12 @@ rising-from : (t : ℕ) (xs : List ℕ) → IsStrictlyIncreasing xs → (0 < len
 unfolding AreRising
 rising-from t [] up low = tt
 rising-from t (x ∷ xs) up low =
-    let same : (k : ℕ) → suc k + 1 ≡ suc (k + 1) = λ k. omega arith in
-    (low (omega arith),
-    rising-from (x + 1) xs
-    (λ k inside. subst {A = ℕ} (λ j. slice_index xs k < slice_index (x ∷ xs) j) (same k) (up (suc k) (omega arith)))
-    (λ some. let later = up 0 (omega arith) in omega (arith, later)))
+    let same : (k : ℕ) → suc k + 1 ≡ suc (k + 1) = λ k. omega arith in (
+      low (omega arith),
+      rising-from (x + 1) xs
+          (λ k inside. subst {A = ℕ} (λ j. slice_index xs k < slice_index (x ∷ xs) j) (same k) (up (suc k) (omega arith)))
+          (λ some. let later = up 0 (omega arith) in omega (arith, later)),
+    )
 
 pub increasing-rises : (xs : List ℕ) → IsStrictlyIncreasing xs → AreRising 0 xs
 increasing-rises xs up = rising-from 0 xs up (λ some. omega arith)

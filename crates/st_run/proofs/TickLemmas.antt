@@ -54,7 +54,7 @@ pub tick-passes : (o m : Overlap) (at : ℕ) → IsReady o → m ≡ record o { 
     → settled (ticked m) ≡ record o { now = at + 1 }
 tick-passes o m at h same late =
     let calm_at : (k : ℕ) → record o { now = k } ≡ calm o.delays o.levels o.state o.taken o.front k =
-        λ k. ap {A = Overlap} (λ q. record q { now = k }) (ready-calm o h) in
+    λ k. ap {A = Overlap} (λ q. record q { now = k }) (ready-calm o h) in
     let is : m ≡ calm o.delays o.levels o.state o.taken o.front at = same ∙ calm_at at in
     ap {A = Overlap} (λ q. settled (ticked q)) is
     ∙ calm-passes o.delays o.levels o.state o.taken o.front at h.table h.awake (ap is_done (sym is) ∙ late)
@@ -106,7 +106,8 @@ pub tick-answers : (o m new : Overlap) (row : Row) (at : ℕ) (snap : Option ℕ
     → is_done m ≡ true → new ≡ ticked m → row ≡ row_done m → AreTicked (Some row) snap o new
 tick-answers o m new row at snap same test from done after is =
     let last : at ≡ (oldest_row o).c = tick-done o m at same done in
-    let at_end : m ≡ at_completion o = same ∙ ap {A = ℕ} (λ k. record o { now = k }) last in
-    (subst (λ k. IfSome snap (λ x. k ≤ x)) last (not-last at snap test from),
-    after ∙ done-completed o m at same done ∙ ap completed at_end,
-    is ∙ ap row_done at_end)
+    let at_end : m ≡ at_completion o = same ∙ ap {A = ℕ} (λ k. record o { now = k }) last in (
+      subst (λ k. IfSome snap (λ x. k ≤ x)) last (not-last at snap test from),
+      after ∙ done-completed o m at same done ∙ ap completed at_end,
+      is ∙ ap row_done at_end,
+    )

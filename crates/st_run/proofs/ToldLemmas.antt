@@ -169,7 +169,7 @@ told-completion P ds n left p snaps all =
     let last = completion ds n p in
     let rest = timed_from ds n left (next_moment ds n p) (ticks_from (next_moment ds n p).tick snaps) in
     let joined : told (timed_behind ds n left p snaps) ≡ told shows ++ (told_of last ∷ told rest) =
-        told-append (shows ++ last ∷ []) rest
-        ∙ ap (λ (xs : List Told). xs ++ told rest) (told-append shows (last ∷ []))
-        ∙ append_assoc (told shows) (told_of last ∷ []) (told rest) in
+    told-append (shows ++ last ∷ []) rest
+    ∙ ap (λ (xs : List Told). xs ++ told rest) (told-append shows (last ∷ []))
+    ∙ append_assoc (told shows) (told_of last ∷ []) (told rest) in
     All-head P (told_of last) (told rest) (all-behind P (told shows) (told_of last ∷ told rest) (rw joined at all))

@@ -40,8 +40,8 @@ pub(crate) fn tell_next<const N: usize>(run: &mut Progress<N>) -> Option<Told>
     ensures told { MatchOption result
         (rest_of run.old.turn run.old.left run.old.tick run.old.snaps.now run.old.waiting run.old.driven ≡ [])
         (λ t. rest_of run.old.turn run.old.left run.old.tick run.old.snaps.now run.old.waiting run.old.driven
-            ≡ told_with t run.new.driven.machine
-            ∷ rest_of run.new.turn run.new.left run.new.tick run.new.snaps.now run.new.waiting run.new.driven) }
+        ≡ told_with t run.new.driven.machine
+        ∷ rest_of run.new.turn run.new.left run.new.tick run.new.snaps.now run.new.waiting run.new.driven) }
 {
     if let Some(what) = run.waiting.next() {
         return Some(at_once(&run.driven, run.tick, what));
@@ -60,7 +60,7 @@ fn go<const N: usize>(run: &mut Progress<N>) -> Told
     requires waits { (s : Machine) → whats run.old.waiting s ≡ [] }
     ensures kept { IsRun run.new.turn run.new.left run.new.tick run.new.now run.new.snaps.now run.new.waiting run.new.driven }
     ensures told { told_events (timed_behind run.old.driven.machine.delays run.old.driven.machine.levels run.old.left
-            (standing_of run.old.tick run.old.driven) run.old.snaps.now)
+        (standing_of run.old.tick run.old.driven) run.old.snaps.now)
         ≡ told_with result run.new.driven.machine
         ∷ rest_of run.new.turn run.new.left run.new.tick run.new.snaps.now run.new.waiting run.new.driven }
 {
@@ -83,7 +83,7 @@ fn show<const N: usize>(run: &mut Progress<N>) -> Told
     requires waits { (s : Machine) → whats run.old.waiting s ≡ [] }
     ensures kept { IsRun run.new.turn run.new.left run.new.tick run.new.now run.new.snaps.now run.new.waiting run.new.driven }
     ensures told { told_events (timed_behind run.old.driven.machine.delays run.old.driven.machine.levels run.old.left
-            (standing_of run.old.tick run.old.driven) run.old.snaps.now)
+        (standing_of run.old.tick run.old.driven) run.old.snaps.now)
         ≡ told_with result run.new.driven.machine
         ∷ rest_of run.new.turn run.new.left run.new.tick run.new.snaps.now run.new.waiting run.new.driven }
 {
@@ -100,7 +100,7 @@ fn leave_entry<const N: usize>(run: &mut Progress<N>, tick: u64)
     requires left { IsLeft run.old.left run.old.snaps.now tick run.old.driven }
     ensures kept { IsRun run.new.turn run.new.left run.new.tick run.new.now run.new.snaps.now run.new.waiting run.new.driven }
     ensures told { told_events (timed_from run.old.driven.machine.delays run.old.driven.machine.levels run.old.left
-            (moment_of run.old.driven) run.old.snaps.now)
+        (moment_of run.old.driven) run.old.snaps.now)
         ≡ rest_of run.new.turn run.new.left run.new.tick run.new.snaps.now run.new.waiting run.new.driven }
 {
     let mut drops = levels_ahead(&run.driven);
@@ -180,7 +180,11 @@ fn split_due(snaps: &[u64], tick: u64) -> Option<(u64, &[u64])>
         (λ r. (snaps.now ≡ r.0 ∷ r.1.now) × (r.0 ≤ tick)) }
 {
     let (first, after) = split_first(snaps)?;
-    if first <= tick { Some((first, after)) } else { None }
+    if first <= tick {
+        Some((first, after))
+    } else {
+        None
+    }
 }
 
 /// Keeps the entries that are dropped where the segment ends.

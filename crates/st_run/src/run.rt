@@ -10,7 +10,7 @@ ghost use Rattle.st_run.specs.Told.{told as told_events};
 ghost use Rattle.st_run.specs.TimedRun.{timed_run};
 ghost use Rattle.st_run.specs.Telling.{what_told, AreLevels};
 
-use crate::driven::{Driven, take_due_signals};
+use crate::driven::{Driven, take_due_signals, view_of};
 use crate::progress::{Progress, tell_next};
 use crate::seen::Seen;
 use crate::told::Told;
@@ -114,13 +114,16 @@ impl<'a, const N: usize> Run<'a, N> {
     pub fn seen(&self) -> Seen<'_>
         ensures { result ≡ self.entry.now.seen }
     {
-        Seen::with_index(self.progress.driven.machine.state(), self.progress.driven.machine.index())
+        Seen::with_index(
+            self.progress.driven.machine.state(),
+            self.progress.driven.machine.index(),
+        )
     }
 
     /// What is shown of the machine: the levels.
     pub fn view(&self) -> View
         ensures { AreLevels result.levels self.entry.now.ahead }
     {
-        self.progress.driven.machine.view()
+        view_of(&self.progress.driven)
     }
 }

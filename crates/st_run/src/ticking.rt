@@ -26,11 +26,7 @@ pub(crate) fn run_until<const N: usize>(
 }
 
 /// Makes the same ticks of a machine.
-fn make_ticks<const N: usize>(
-    machine: &mut Machine<N>,
-    now: u64,
-    snap: Option<u64>,
-) -> Option<Row>
+fn make_ticks<const N: usize>(machine: &mut Machine<N>, now: u64, snap: Option<u64>) -> Option<Row>
     requires ready { IsReady machine.old }
     requires now { now ≡ machine.old.now }
     requires in_time { (oldest_row machine.old).c < 2 ^ 63 }

@@ -1,4 +1,4 @@
-use Rattle.std.proofs.Common.{◌∷◌, List, ◌∙◌, sym, ap}
+use Rattle.std.proofs.Common.{◌∷◌, ◌∙◌, sym, ap}
 use Rattle.st_run.specs.Telling.{told_with, rest_of}
 use Rattle.st_run.specs.declared.told.Told.{Told}
 use Rattle.st_run.proofs.ProgressLemmas.{show-tells, show-keeps}

@@ -27,19 +27,30 @@ returns-in-Some-clause-told g c =
 pub go-requires : goal.go-requires
 go-requires g c =
     let run = c.args.run.now in
-    let e = c.in_default.ensures in
-    (omega arith,
-    (turn-run run.turn run.left run.tick run.now run.snaps.now run.waiting c.next.new.self run.driven e.told e.none c.requires turns.Before c.in-Before.is,
-    (c.in-Before.is, still-quiet run.turn run.left run.tick run.now run.snaps.now run.waiting c.next.new.self run.driven e.told e.none c.requires)))
+    let e = c.in_default.ensures in (
+      omega arith,
+      (
+        turn-run run.turn run.left run.tick run.now run.snaps.now run.waiting c.next.new.self run.driven e.told e.none c.requires turns.Before c.in-Before.is,
+        (c.in-Before.is, still-quiet run.turn run.left run.tick run.now run.snaps.now run.waiting c.next.new.self run.driven e.told e.none c.requires),
+      ),
+    )
 
 pub finish-requires : goal.finish-requires
 finish-requires g c =
     let run = c.args.run.now in
-    let e = c.in_default.ensures in
-    (omega arith, (c.in-AtEnd.is,
-    (end-levels run.turn run.left run.tick run.now run.snaps.now run.waiting c.next.new.self run.driven e.told e.none c.requires c.in-AtEnd.rests c.in-AtEnd.is,
-    (end-in_time run.turn run.left run.tick run.now run.snaps.now run.waiting c.next.new.self run.driven e.told e.none c.requires c.in-AtEnd.rests c.in-AtEnd.is,
-    still-quiet run.turn run.left run.tick run.now run.snaps.now run.waiting c.next.new.self run.driven e.told e.none c.requires))))
+    let e = c.in_default.ensures in (
+      omega arith,
+      (
+        c.in-AtEnd.is,
+        (
+          end-levels run.turn run.left run.tick run.now run.snaps.now run.waiting c.next.new.self run.driven e.told e.none c.requires c.in-AtEnd.rests c.in-AtEnd.is,
+          (
+            end-in_time run.turn run.left run.tick run.now run.snaps.now run.waiting c.next.new.self run.driven e.told e.none c.requires c.in-AtEnd.rests c.in-AtEnd.is,
+            still-quiet run.turn run.left run.tick run.now run.snaps.now run.waiting c.next.new.self run.driven e.told e.none c.requires,
+          ),
+        ),
+      ),
+    )
 
 pub returns-in-Before-clause-told : goal.returns-in-Before-clause-told
 returns-in-Before-clause-told g c =

@@ -1,4 +1,4 @@
-use Rattle.std.proofs.Common.{ℕ, List, ◌∙◌, ap}
+use Rattle.std.proofs.Common.{◌∙◌, ap}
 use Rattle.st_state.specs.Machine.{Machine}
 use Rattle.st_run.proofs.SeenLemmas.{counter-seen}
 use Rattle.st_run.proofs.seen.Seen.ic.Goals as goal
