@@ -1,0 +1,2 @@
+pub mod Calmness
+pub mod Segment
