@@ -1,2 +1,4 @@
 pub mod Calmness
 pub mod Segment
+pub mod Stages
+pub mod MarkLemmas

@@ -2,5 +2,7 @@
 #![tactic(auto, using(st_bits::specs::Storage::words_of_storage_is))]
 
 mod laws;
+mod settling;
+mod written;
 
 pub use laws::more_levels_are_no_slower;
