@@ -2,3 +2,4 @@ pub mod Calmness
 pub mod Segment
 pub mod Stages
 pub mod MarkLemmas
+pub mod PlainRun

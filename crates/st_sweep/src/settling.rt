@@ -126,6 +126,7 @@ fn end_wait<'a>(state: &mut State, signals: &'a [Signal]) -> &'a [Signal]
 }
 
 /// What comes between two entries.
+#[derive(Drop)]
 pub(crate) struct Settled<'a> {
     /// The signals that are still to come.
     pub signals: &'a [Signal],
