@@ -3,3 +3,5 @@ pub mod Segment
 pub mod Stages
 pub mod MarkLemmas
 pub mod PlainRun
+pub mod ToldTicks
+pub mod Falling

@@ -73,7 +73,7 @@ fn step(state: &mut State, written: &mut Written) -> bool
 }
 
 /// Whether both are so.
-fn both(one: bool, two: bool) -> bool
+pub(crate) fn both(one: bool, two: bool) -> bool
     ensures { result ≡ (one && two) }
 {
     one && two

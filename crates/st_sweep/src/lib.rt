@@ -4,6 +4,9 @@
 mod calm;
 mod laws;
 mod settling;
+mod start;
+mod sweeping;
 mod written;
 
 pub use laws::more_levels_are_no_slower;
+pub use sweeping::{Swept, sweep};
