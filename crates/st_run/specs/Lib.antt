@@ -3,3 +3,9 @@ pub mod Moments
 pub mod TimedRun
 pub mod Scenes
 pub mod Order
+pub mod Told
+pub mod Together
+pub mod Telling
+pub mod Ticking
+pub mod Leaving
+pub mod Between

@@ -1,0 +1,20 @@
+-- What was decided between two entries.
+use Rattle.std.specs.Prelude.{ℕ, ◌≡◌, ◌≢◌, true, false, None, option_map}
+use Rattle.st_exec.specs.Step.{rests}
+use Rattle.st_exec.specs.Run.{settled}
+use Rattle.st_run.specs.Moments.{Moment, next_state}
+use Rattle.st_run.specs.Together.{Together, AreTexts, GoesOn, Stops}
+use Rattle.st_run.specs.declared.turn.Turn.{Turn}
+use Rattle.st_run.specs.declared.turn.Turn.TheVariants.{Before, AtEnd, Over}
+use Rattle.st_run.specs.declared.leaving.Decided.{Decided}
+
+-- the run goes on; or it ends, at rest or where no more may be done
+abbrev pub IsWay : Turn → ℕ → Moment → Decided → Together → Type 0
+IsWay Before left m d t = (left ≢ 0) × (rests (next_state m) ≡ false) × GoesOn m d.ends d.taken t
+IsWay (AtEnd resting) left m d t =
+    (resting ≡ rests (next_state m)) × (resting ≡ false → left ≡ 0) × (d.ends ≡ true) × (d.taken ≡ None) × Stops m t
+IsWay Over left m d t = ⊥
+
+pub record IsDecided (left : ℕ) (m : Moment) (d : Decided) (t : Together) : Type 0 where
+  pub text : AreTexts (option_map (λ x. x.bytes) d.text) (settled m.scene).happened
+  pub way : IsWay d.turn left m d t

@@ -1,0 +1,142 @@
+-- What a run still has to tell, and what it shows.
+use Rattle.std.specs.Prelude.{ℕ, ◌≡◌, ◌+◌, ◌-◌, ◌<◌, ◌^◌, Bool, false, if◌then◌else◌, List, [], ◌∷◌, ◌++◌, map, reverse, replicate, length, All, Option, None, Some, option_map, IsSome, ◌≤◌}
+use Rattle.std.specs.List.{AllZip}
+use Rattle.st_state.specs.Machine.{Machine}
+use Rattle.st_exec.specs.Step.{rests}
+use Rattle.st_ahead.specs.Overlap.{Overlap, levels_of, last_tick}
+use Rattle.st_ahead.specs.Shown.{index_of}
+use Rattle.st_ahead.specs.declared.events.LevelView.{LevelView}
+use Rattle.st_run.specs.Events.{Changed, Level, level_at, with_index_words}
+use Rattle.st_run.specs.TimedRun.{ticks_before, timed_from, timed_behind}
+use Rattle.st_run.specs.Order.{AreRising}
+use Rattle.st_run.specs.Told.{What, Done, Dropped, Printed, Interrupted, Shown, Ended, Told, told}
+use Rattle.st_run.specs.Together.{Together, IsBefore, IsBehind, standing_of, moment_of, text_told}
+use Rattle.st_run.specs.declared.told.Told.{Told as ToldNext}
+use Rattle.st_run.specs.declared.told.What.{What as WhatTold}
+use Rattle.st_run.specs.declared.told.What.TheVariants as tells
+use Rattle.st_run.specs.declared.turn.Turn.{Turn}
+use Rattle.st_run.specs.declared.turn.Turn.TheVariants as turns
+
+-- what is still to be told, and the state and the levels that are shown
+pub record Telling : Type 0 where
+  pub rest : List Told
+  pub seen : Machine
+  pub ahead : List Level
+
+-- ---- what is told next
+
+-- what an answer tells where this state and these levels are shown
+abbrev pub what_told : WhatTold → Machine → List Level → What
+what_told (tells.Done row) s levels = Done row.address row.p row.r row.c
+what_told (tells.Dropped address p) s levels = Dropped address p
+what_told (tells.Printed text) s levels = Printed text.bytes
+what_told (tells.Interrupted i) s levels = Interrupted i s
+what_told (tells.Shown tick) s levels = Shown tick s levels
+what_told (tells.Ended rests) s levels = Ended rests s
+
+-- ---- what is told between two entries
+
+-- the entries that are dropped, oldest first; the text that is printed; the interrupt that is taken
+pub record Waiting : Type 0 where
+  pub drops : List (ℕ × ℕ)
+  pub text : Option (List ℕ)
+  pub taken : Option ℕ
+
+abbrev pub taken_told : Option ℕ → Machine → List What
+taken_told None s = []
+taken_told (Some i) s = Interrupted i s ∷ []
+
+unfoldable pub whats : Waiting → Machine → List What
+whats w s = map (λ d. Dropped d.0 d.1) (reverse w.drops) ++ text_told w.text ++ taken_told w.taken s
+
+-- told in a state whose last entry was done at a tick
+abbrev pub at_once : ℕ → Machine → What → Told
+at_once tick s what = record { done = s.done; tick = tick; what = what }
+
+-- ---- all that is still to be told
+
+-- at the end of the run: snapshots up to the last tick, and the end
+unfoldable pub told_at_end : Bool → ℕ → List ℕ → Machine → List Told
+told_at_end rests tick snaps s =
+    map (λ x. at_once tick s (Shown x s [])) (ticks_before (tick + 1) snaps) ++ at_once tick s (Ended rests s) ∷ []
+
+-- by the turn: before the next entry, behind which so many more may be done; at the end, or behind it
+abbrev pub rest_by : Turn → ℕ → ℕ → List ℕ → Together → List Told
+rest_by turns.Before left tick snaps t =
+    told (timed_behind t.machine.delays t.machine.levels left (standing_of tick t) snaps)
+rest_by (turns.AtEnd rests) left tick snaps t = told_at_end rests tick snaps t.machine.state
+rest_by turns.Over left tick snaps t = []
+
+unfoldable pub rest_of : Turn → ℕ → ℕ → List ℕ → Waiting → Together → List Told
+rest_of turn left tick snaps w t =
+    map (at_once tick t.machine.state) (whats w t.machine.state) ++ rest_by turn left tick snaps t
+
+-- ---- what is shown
+
+-- the state with the index words of what runs ahead
+abbrev pub seen_of : Overlap → Machine
+seen_of m = with_index_words (index_of m) m.state
+
+-- what runs ahead, after the last tick
+abbrev pub ahead_of : Overlap → List Level
+ahead_of m = map (level_at (last_tick m)) (levels_of m)
+
+-- an answer, where a machine is shown
+abbrev pub told_with : ToldNext → Overlap → Told
+told_with t m = record { done = t.done; tick = t.tick; what = what_told t.what (seen_of m) (ahead_of m) }
+
+-- a level as the machine shows it
+pub record IsLevel (v : LevelView) (level : Level) : Type 0 where
+  pub address : v.address ≡ level.address
+  pub changed : option_map (λ i. record { number = i; before = v.kept }) v.index ≡ level.changed
+  pub ready : v.ready ≡ level.ready
+
+-- the levels that are shown, with room for eight
+pub record AreLevels (shown : List (Option LevelView)) (levels : List Level) : Type 0 where
+  pub views : List LevelView
+  pub room : shown ≡ map (λ v. Some v) views ++ replicate (8 - length views) None
+  pub same : AllZip IsLevel views levels
+
+-- ---- what a run keeps
+
+abbrev pub IsTurn : Turn → ℕ → List ℕ → Together → Type 0
+IsTurn turns.Before now snaps t = IsBefore t × (now ≡ t.machine.now) × AreRising (now - 1) snaps
+IsTurn (turns.AtEnd rests) now snaps t = levels_of t.machine ≡ []
+IsTurn turns.Over now snaps t = levels_of t.machine ≡ []
+
+-- all that is still to be told comes in time
+abbrev pub AreInTime : List Told → Type 0
+AreInTime = All (λ x. (x.tick < 2 ^ 63) × (x.done < 2 ^ 63))
+
+-- where an interrupt waits to be told nothing is ahead, so that the state is shown in which it is taken
+pub record IsRun (turn : Turn) (left tick now : ℕ) (snaps : List ℕ) (w : Waiting) (t : Together) : Type 0 where
+  pub stands : IsTurn turn now snaps t
+  pub taken : IsSome w.taken → levels_of t.machine ≡ []
+  pub in_time : AreInTime (rest_of turn left tick snaps w t)
+
+-- ---- on the way from one thing that is told to the next
+
+-- the tick of the next snapshot
+abbrev pub first_tick : List ℕ → Option ℕ
+first_tick [] = None
+first_tick (x ∷ xs) = Some x
+
+-- the tick before was that of the first snapshot
+abbrev pub IsAtFirst : ℕ → List ℕ → Type 0
+IsAtFirst now [] = ⊥
+IsAtFirst now (x ∷ xs) = (now ≡ x + 1) × AreRising (x + 1) xs
+
+-- the tick of a snapshot was made last
+pub record IsShown (left tick : ℕ) (snaps : List ℕ) (t : Together) : Type 0 where
+  pub before : IsBefore t
+  pub first : IsAtFirst t.machine.now snaps
+  pub soon : t.machine.now ≤ 2 ^ 63
+  pub in_time : AreInTime (told (timed_behind t.machine.delays t.machine.levels left (standing_of tick t) snaps))
+
+-- an entry has just been done at a tick
+pub record IsLeft (left : ℕ) (snaps : List ℕ) (tick : ℕ) (t : Together) : Type 0 where
+  pub behind : IsBehind t
+  pub tick_is : tick ≡ t.machine.now
+  pub soon : tick < 2 ^ 63
+  pub rising : AreRising tick snaps
+  pub in_time : AreInTime (told (timed_from t.machine.delays t.machine.levels left (moment_of t) snaps))

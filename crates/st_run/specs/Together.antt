@@ -1,0 +1,114 @@
+-- An overlapped machine with the signals and the reader's cards that are still to come.
+use Rattle.std.specs.Prelude.{ℕ, ◌≡◌, ◌+◌, ◌≤◌, Bool, true, false, if◌then◌else◌, is_some, List, [], ◌∷◌, map, Option, None, Some, IsSome, IfSome, ◌<◌, ◌^◌}
+use Rattle.st_card.specs.declared.control_cards.Signal.{Signal as SignalCard}
+use Rattle.st_prep.specs.BesideOrders.{AreAlikeBesideOrders}
+use Rattle.st_exec.specs.Step.{interrupt, rests}
+use Rattle.st_exec.specs.Run.{Scene, Signal, Happening}
+use Rattle.st_rows.specs.Ranges.{AreDelays}
+use Rattle.st_ahead.specs.Overlap.{Overlap, oldest_row, levels_of}
+use Rattle.st_ahead.specs.Calls.{ended, banks_left}
+use Rattle.st_run.specs.Moments.{Moment, Standing, next_scene, next_state, ends_segment, next_front}
+use Rattle.st_run.specs.Scenes.{IsScene}
+use Rattle.st_run.specs.Told.{What, Printed, what_happens}
+
+-- signals, as control cards ask for them
+abbrev pub signal_of : SignalCard → Signal
+signal_of x = record { count = x.count; indicator = x.indicator }
+
+abbrev pub signals_of : List SignalCard → List Signal
+signals_of xs = map signal_of xs
+
+pub record Together : Type 0 where
+  pub machine : Overlap
+  pub signals : List Signal
+  pub cards : List (List ℕ)
+
+abbrev pub scene_of : Together → Scene
+scene_of t = record { machine = t.machine.state; signals = t.signals; cards = t.cards }
+
+-- the same at another scene
+abbrev pub with_scene : Together → Scene → Together
+with_scene t c = record { machine = record t.machine { state = c.machine }; signals = c.signals; cards = c.cards }
+
+-- ---- between two ticks, before an entry is done
+
+pub record IsBefore (t : Together) : Type 0 where
+  pub some : 1 ≤ t.machine.levels
+  pub few : t.machine.levels ≤ 8
+  pub delays : AreDelays 255 t.machine.delays
+  pub scene : IsScene (scene_of t)
+  pub settled : t.machine.owed ≡ false
+  pub going : t.machine.ended ≡ false
+  pub guessed : t.machine.behind ≡ None
+  pub closed : t.machine.closing ≡ None
+  pub table : t.machine.taken ≡ interrupt t.machine.state
+  pub awake : rests t.machine.state ≡ false
+  pub early : t.machine.now ≤ (oldest_row t.machine).c
+
+abbrev pub standing_of : ℕ → Together → Standing
+standing_of tick t = record { scene = scene_of t; tick = tick; front = t.machine.front }
+
+-- the machine so many ticks later, at none of which an entry is done
+abbrev pub at_tick : ℕ → Together → Together
+at_tick now t = record t { machine = record t.machine { now = now } }
+
+-- ---- an entry has just been done, and nothing has come from outside since
+
+pub record IsBehind (t : Together) : Type 0 where
+  pub some : 1 ≤ t.machine.levels
+  pub few : t.machine.levels ≤ 8
+  pub delays : AreDelays 255 t.machine.delays
+  pub scene : IsScene (scene_of t)
+  pub owed : t.machine.owed ≡ true
+  pub going : t.machine.ended ≡ false
+  pub done : IsSome t.machine.closing
+  pub table : t.machine.taken ≡ None
+  pub counter : IfSome t.machine.behind (λ h. h < 2 ^ 19)
+  pub last : t.machine.front.c ≡ t.machine.now
+
+abbrev pub moment_of : Together → Moment
+moment_of t = record {
+  scene = scene_of t;
+  tick = t.machine.now;
+  front = t.machine.front;
+  missed = is_some t.machine.behind;
+  dropped = levels_of t.machine;
+  banks = banks_left t.machine t.machine.closing;
+}
+
+-- ---- what comes between two entries has come in part
+
+-- the segment has ended, or not
+abbrev pub closed_if : Bool → Overlap → Overlap
+closed_if over o = if over then ended o else o
+
+-- since the machine was o the state alone has changed, and the segment has ended or not; as long as it has not, a
+-- signal or an order without a card has changed it
+pub record IsSince (o : Overlap) (over : Bool) (t : Together) : Type 0 where
+  pub machine : t.machine ≡ record (closed_if over o) { state = t.machine.state }
+  pub alike : over ≡ false → AreAlikeBesideOrders o.state t.machine.state
+
+-- ---- what comes between two entries is over
+
+-- a text that was printed
+abbrev pub text_told : Option (List ℕ) → List What
+text_told None = []
+text_told (Some text) = Printed text ∷ []
+
+-- what was printed in between
+abbrev pub AreTexts : Option (List ℕ) → List Happening → Type 0
+AreTexts text happened = text_told text ≡ map what_happens happened
+
+-- before the next entry
+pub record GoesOn (m : Moment) (over : Bool) (table : Option ℕ) (t : Together) : Type 0 where
+  pub before : IsBefore t
+  pub scene : scene_of t ≡ next_scene m
+  pub front : t.machine.front ≡ next_front m
+  pub ends : over ≡ ends_segment m
+  pub taken : table ≡ interrupt (next_state m)
+  pub now : t.machine.now ≡ m.tick + 1
+
+-- at the end of the run
+pub record Stops (m : Moment) (t : Together) : Type 0 where
+  pub scene : scene_of t ≡ next_scene m
+  pub none : levels_of t.machine ≡ []

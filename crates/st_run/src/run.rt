@@ -1,0 +1,129 @@
+//! A whole run, one thing after another.
+ghost use Rattle.std.specs.Prelude.{◌≡◌, ℕ, ◌+◌, ◌-◌, ◌<◌, ◌≤◌, ◌^◌, false, None, [], ◌∷◌, MatchOption, All};
+ghost use Rattle.std.specs.List.{AllPass};
+ghost use Rattle.std.specs.List.Sorted.{IsStrictlyIncreasing};
+ghost use Rattle.st_bits.specs.declared.limits.TheConstants.{MOST_INSTRUCTIONS};
+ghost use Rattle.st_card.specs.Limits.{is_signal};
+ghost use Rattle.st_run.specs.Scenes.{IsCard};
+ghost use Rattle.st_run.specs.Together.{signals_of};
+ghost use Rattle.st_run.specs.Told.{told as told_events};
+ghost use Rattle.st_run.specs.TimedRun.{timed_run};
+ghost use Rattle.st_run.specs.Telling.{what_told, AreLevels};
+
+use crate::driven::{Driven, take_due_signals, view_of};
+use crate::progress::{Progress, tell_next};
+use crate::seen::Seen;
+use crate::told::Told;
+use crate::turn::Turn;
+use crate::waiting::Waiting;
+use st_ahead::{Machine, View};
+use st_banks::Delays;
+use st_card::Signal;
+use st_exch::Hopper;
+use st_state::State;
+use std::marker::Model;
+
+/// A run on a machine with N levels, 1 to 8. It tells one thing after another: entries that are done or dropped, texts
+/// that are printed, interrupts, snapshots, and its end. No call takes memory. `docs/timetable.md` has the rules.
+#[derive(Drop)]
+pub struct Run<'a, const N: usize> {
+    progress: Progress<'a, N>,
+}
+
+// Clauses see what is still to be told, and what is shown.
+impl<'a, const N: usize> Model for Run<'a, N> {
+    ghost use Rattle.st_run.specs.Telling.{Telling, rest_of, seen_of, ahead_of, IsRun};
+
+    ghost Value = { Telling };
+
+    ghost view = { λ r. record {
+      rest = rest_of r.progress.turn r.progress.left r.progress.tick r.progress.snaps.now r.progress.waiting r.progress.driven;
+      seen = seen_of r.progress.driven.machine;
+      ahead = ahead_of r.progress.driven.machine;
+    } };
+
+    ghost invariant = { λ r. IsRun r.progress.turn r.progress.left r.progress.tick r.progress.now r.progress.snaps.now
+        r.progress.waiting r.progress.driven };
+}
+
+impl<'a, const N: usize> Run<'a, N> {
+    ghost use Rattle.std.specs.List.{AllPass};
+    ghost use Rattle.std.specs.List.Sorted.{IsStrictlyIncreasing};
+    ghost use Rattle.st_card.specs.Limits.{is_signal};
+    ghost use Rattle.st_run.specs.Scenes.{IsCard};
+    ghost use Rattle.st_run.specs.Together.{signals_of};
+    ghost use Rattle.st_run.specs.Told.{told as told_events};
+    ghost use Rattle.st_run.specs.TimedRun.{timed_run};
+    ghost use Rattle.st_run.specs.Telling.{what_told, AreLevels};
+
+    /// A run from a state that nothing has happened in, with the signals and the reader's cards that come to it, the ticks
+    /// of the snapshots, and how many instructions may be done, at most 10,000,000.
+    pub fn new(
+        state: State,
+        delays: Delays,
+        signals: &'a [Signal],
+        cards: Hopper,
+        snaps: &'a [u64],
+        budget: u64,
+    ) -> Run<'a, N>
+        requires some { 1 ≤ N }
+        requires few { N ≤ 8 }
+        requires done { state.done ≡ 0 }
+        requires enabled { state.enabled ≡ false }
+        requires waiting { state.waiting ≡ false }
+        requires reader { state.reader ≡ None }
+        requires printer { state.printer ≡ None }
+        requires cards { All IsCard cards }
+        requires signals { AllPass is_signal signals.now }
+        requires snaps { IsStrictlyIncreasing snaps.now }
+        requires some_done { 1 ≤ budget }
+        requires few_done { budget ≤ MOST_INSTRUCTIONS }
+        ensures { result.rest ≡ told_events (timed_run delays N budget
+            (record { machine = state; signals = signals_of signals.now; cards = cards }) snaps.now) }
+    {
+        state.shape();
+        delays.shape();
+        let mut driven = Driven {
+            machine: Machine::new(state, delays),
+            signals,
+            cards,
+        };
+        take_due_signals(&mut driven);
+        Run {
+            progress: Progress {
+                driven,
+                snaps,
+                left: budget - 1,
+                tick: 0,
+                now: 0,
+                waiting: Waiting::new(),
+                turn: Turn::Before,
+            },
+        }
+    }
+
+    /// The next thing that is told; `None` exactly where all is told.
+    pub fn next(&mut self) -> Option<Told>
+        ensures { MatchOption result (self.old.rest ≡ []) (λ t. self.old.rest
+            ≡ record { done = t.done; tick = t.tick; what = what_told t.what self.new.seen self.new.ahead } ∷ self.new.rest) }
+    {
+        tell_next(&mut self.progress)
+    }
+
+    /// The state that is shown.
+    pub fn seen(&self) -> Seen<'_>
+        ensures { result ≡ self.entry.now.seen }
+    {
+        Seen::with_index(
+            self.progress.driven.machine.state(),
+            self.progress.driven.machine.index(),
+        )
+    }
+
+    /// What is shown of the machine: the levels.
+    pub fn view(&self) -> View
+        ensures { AreLevels result.levels self.entry.now.ahead }
+    {
+        view_of(&self.progress.driven)
+    }
+}

@@ -1,0 +1,102 @@
+//! A state as it is seen of a machine that runs ahead.
+ghost use Rattle.std.specs.Prelude.{◌≡◌, ◌<◌, ◌^◌};
+ghost use Rattle.st_bits.specs.declared.limits.TheConstants.{WORDS};
+ghost use Rattle.st_state.specs.Machine.{word as word_of};
+ghost use Rattle.st_run.specs.Events.{with_index_words};
+
+use st_state::State;
+use std::marker::Model;
+
+/// A state, with the index words of what runs ahead of it.
+#[derive(Drop)]
+pub struct Seen<'a> {
+    state: &'a State,
+    index: Option<&'a [u64; 16]>,
+}
+
+impl<'a> Model for Seen<'a> {
+    ghost use Rattle.std.specs.Option.{option_map_or};
+    ghost use Rattle.st_state.specs.Machine.{Machine};
+    ghost use Rattle.st_run.specs.Events.{with_index_words};
+
+    ghost Value = { Machine };
+
+    ghost view = { λ s. option_map_or (λ xs. with_index_words xs.now s.state.now) s.index s.state.now };
+}
+
+impl<'a> Seen<'a> {
+    ghost use Rattle.st_run.specs.Events.{with_index_words};
+
+    /// A state of which nothing runs ahead.
+    pub fn new(state: &'a State) -> Seen<'a>
+        ensures { result ≡ state.now }
+    {
+        Seen { state, index: None }
+    }
+
+    /// A state with these index words.
+    pub fn with_index(state: &'a State, index: &'a [u64; 16]) -> Seen<'a>
+        ensures { result ≡ with_index_words index.now state.now }
+    {
+        Seen {
+            state,
+            index: Some(index),
+        }
+    }
+
+    /// The word at `w`, below 98,304.
+    pub fn word(&self, w: u32) -> u64
+        requires { w < WORDS }
+        ensures { result ≡ word_of self.now w }
+    {
+        match self.index {
+            Some(index) => word_with(self.state, index, w),
+            None => self.state.word(w),
+        }
+    }
+
+    /// The counter.
+    pub fn ic(&self) -> u32
+        ensures value { result ≡ self.now.ic }
+        ensures bound { result < 2 ^ 19 }
+    {
+        counter_in(self.state)
+    }
+
+    /// Whether interrupts are enabled.
+    pub fn enabled(&self) -> bool
+        ensures { result ≡ self.now.enabled }
+    {
+        is_enabled(self.state)
+    }
+}
+
+/// The word at `w` of a state with these index words.
+fn word_with(state: &State, index: &[u64; 16], w: u32) -> u64
+    requires { w < WORDS }
+    ensures { result ≡ word_of (with_index_words index.now state.now) w }
+{
+    state.shape();
+    if w < 16 {
+        return state.word(w);
+    }
+    if w < 32 {
+        return index[w as usize - 16];
+    }
+    state.word(w)
+}
+
+/// The counter of a state.
+fn counter_in(state: &State) -> u32
+    ensures value { result ≡ state.now.ic }
+    ensures bound { result < 2 ^ 19 }
+{
+    state.ic
+}
+
+/// Whether interrupts are enabled in a state.
+fn is_enabled(state: &State) -> bool
+    ensures { result ≡ state.now.enabled }
+{
+    state.enabled
+}

@@ -1,0 +1,33 @@
+//! What is told of a run.
+ghost use Rattle.std.specs.Prelude.{◌≡◌};
+
+use arrayvec::ArrayString;
+use st_ahead::Row;
+
+/// What a run tells next.
+#[derive(Clone, Copy, Debug)]
+pub enum What {
+    /// An entry is done, with its row.
+    Done(Row),
+    /// An entry that ran ahead, at this half-word address and prepared at this tick, is dropped.
+    Dropped { address: u32, p: u64 },
+    /// A text is printed.
+    Printed(ArrayString<64>),
+    /// An interrupt by this indicator is taken. The run shows the state in which it is.
+    Interrupted(u8),
+    /// A snapshot at this tick. The run shows the state and the levels.
+    Shown(u64),
+    /// The run ends, at rest or with its budget used up. The run shows the last state.
+    Ended(bool),
+}
+
+/// What is told, and when.
+#[derive(Clone, Copy, Debug)]
+pub struct Told {
+    /// The number of instructions done by then.
+    pub done: u64,
+    /// The tick at which the last of them was done, 0 before the first.
+    pub tick: u64,
+    /// What is told.
+    pub what: What,
+}

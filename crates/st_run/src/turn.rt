@@ -1,0 +1,13 @@
+//! Where a run stands between two things that it tells.
+ghost use Rattle.std.specs.Prelude.{◌≡◌};
+
+/// Where a run stands.
+#[derive(Clone, Copy, Debug, PartialEq, Eq)]
+pub(crate) enum Turn {
+    /// Before the next entry.
+    Before,
+    /// At its end, at rest or with its budget used up.
+    AtEnd(bool),
+    /// All is told.
+    Over,
+}

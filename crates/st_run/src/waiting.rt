@@ -1,0 +1,64 @@
+//! What is told between two entries.
+ghost use Rattle.std.specs.Prelude.{◌≡◌, ◌++◌, ◌≤◌, [], ◌∷◌, None, MatchOption, IfSome, IsSome, List};
+ghost use Rattle.std.specs.Option.{IfNone};
+ghost use Rattle.st_state.specs.Machine.{Machine};
+ghost use Rattle.st_run.specs.Events.{Level};
+ghost use Rattle.st_run.specs.Telling.{what_told, whats as whats_of};
+
+use crate::told::What;
+use arrayvec::{ArrayString, ArrayVec};
+use std::marker::Model;
+
+/// What waits to be told: the entries that are dropped, each with its half-word address and the tick at which it was
+/// prepared, oldest first; the text that is printed; the interrupt that is taken.
+#[derive(Drop)]
+pub(crate) struct Waiting {
+    pub drops: ArrayVec<(u32, u64), 8>,
+    pub text: Option<ArrayString<64>>,
+    pub taken: Option<u8>,
+}
+
+impl Model for Waiting {
+    ghost use Rattle.std.specs.Prelude.{option_map};
+    ghost use Rattle.st_run.specs.Telling.{Waiting};
+
+    ghost Value = { Waiting };
+
+    ghost view = { λ w. record { drops = w.drops.items; text = option_map (λ t. t.bytes) w.text; taken = w.taken } };
+}
+
+impl Waiting {
+    ghost use Rattle.st_run.specs.Telling.{Waiting};
+
+    /// Nothing waits.
+    pub fn new() -> Waiting
+        ensures { result ≡ record { drops = []; text = None; taken = None } }
+    {
+        Waiting {
+            drops: ArrayVec::new(),
+            text: None,
+            taken: None,
+        }
+    }
+
+    /// What is told next, and no longer waits: the youngest entry that is dropped, the text, or the interrupt.
+    pub fn next(&mut self) -> Option<What>
+        ensures told { (s : Machine) → MatchOption result (whats_of self.old s ≡ [])
+            (λ what. whats_of self.old s ≡ what_told what s [] ∷ whats_of self.new s) }
+        ensures shown { (s t : Machine) (levels : List Level) → (IsSome self.old.taken → s ≡ t) →
+            IfSome result (λ what. what_told what s [] ≡ what_told what t levels) }
+        ensures taken { IsSome self.new.taken → IsSome self.old.taken }
+        ensures none { IfNone result (self.new ≡ self.old) }
+    {
+        if let Some((address, p)) = self.drops.pop() {
+            return Some(What::Dropped { address, p });
+        }
+        if let Some(text) = self.text.take() {
+            return Some(What::Printed(text));
+        }
+        let Some(indicator) = self.taken.take() else {
+            return None;
+        };
+        Some(What::Interrupted(indicator))
+    }
+}
