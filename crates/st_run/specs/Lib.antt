@@ -5,6 +5,3 @@ pub mod Scenes
 pub mod Order
 pub mod Told
 pub mod Together
-pub mod Telling
-pub mod Ticking
-pub mod Leaving
