@@ -1,5 +1,5 @@
 -- An overlapped machine with the signals and the reader's cards that are still to come.
-use Rattle.std.specs.Prelude.{ℕ, ◌≡◌, ◌+◌, ◌≤◌, Bool, true, false, if◌then◌else◌, is_some, List, [], ◌++◌, length, map, Option, None, Some, IsSome}
+use Rattle.std.specs.Prelude.{ℕ, ◌≡◌, ◌+◌, ◌≤◌, Bool, true, false, if◌then◌else◌, is_some, List, [], ◌∷◌, ◌++◌, length, map, Option, None, Some, IsSome}
 use Rattle.st_card.specs.declared.control_cards.Signal.{Signal as SignalCard}
 use Rattle.st_state.specs.Machine.{Machine}
 use Rattle.st_prep.specs.BesideOrders.{AreAlikeBesideOrders}
@@ -103,12 +103,12 @@ abbrev pub AreTexts : Option (List ℕ) → List Happening → Type 0
 AreTexts text happened = text_told text ≡ map what_happens happened
 
 -- before the next entry
-pub record GoesOn (m : Moment) (ends : Bool) (taken : Option ℕ) (t : Together) : Type 0 where
+pub record GoesOn (m : Moment) (over : Bool) (table : Option ℕ) (t : Together) : Type 0 where
   pub before : IsBefore t
   pub scene : scene_of t ≡ next_scene m
   pub front : t.machine.front ≡ next_front m
-  pub ends : ends ≡ ends_segment m
-  pub taken : taken ≡ interrupt (next_state m)
+  pub ends : over ≡ ends_segment m
+  pub taken : table ≡ interrupt (next_state m)
   pub now : t.machine.now ≡ m.tick + 1
 
 -- at the end of the run
