@@ -8,3 +8,4 @@ pub mod EndLemmas
 pub mod SceneLemmas
 pub mod DoneLemmas
 pub mod Bounds
+pub mod LastLemmas
