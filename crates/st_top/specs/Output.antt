@@ -6,12 +6,12 @@ use Rattle.st_asm.specs.Pass.{Refusal}
 use Rattle.st_asm.specs.Assembly.{Assembly, assembly}
 use Rattle.st_state.specs.Machine.{opening}
 use Rattle.st_exch.specs.Reader.{reader_cards}
-use Rattle.st_exec.specs.Run.{Scene, run}
+use Rattle.st_exec.specs.Run.{Scene}
 use Rattle.st_lines.specs.Event.{Event, at_moment}
 use Rattle.st_report.specs.Line.{fault_line}
 use Rattle.st_top.specs.Signals.{signals_of}
 use Rattle.st_top.specs.Listing.{listing}
-use Rattle.st_top.specs.StepsBack.{run_report}
+use Rattle.st_top.specs.StepsBack.{end_of, run_report}
 use Rattle.st_top.specs.ObjectText.{program_in, object_lines, deck_lines}
 use Rattle.st_top.specs.Loading.{loaded}
 use Rattle.st_object.specs.Object.{Program, read_text}
@@ -37,21 +37,25 @@ lines_alone status lines = record { status = status; events = at_moment 0 0 line
 abbrev pub refused : Refusal → Output
 refused r = lines_alone Refused (fault_line r.card (name_of r.fault) ∷ [])
 
--- the start of a run: the machine, the signals that are asked for, and the cards of the reader
-abbrev pub start_of : List ℕ → Assembly → Scene
-start_of job a = record {
-  machine = opening a.image a.start;
-  signals = signals_of a.asked.signals;
+-- the start of a run: the machine of an image and a start, the signals that are asked for, and the cards of a job's reader
+abbrev pub scene_of : List ℕ → ℕ → Asked → List ℕ → Scene
+scene_of image start asked job = record {
+  machine = opening image start;
+  signals = signals_of asked.signals;
   cards = reader_cards job;
 }
+
+-- that of a job that is assembled
+abbrev pub start_of : List ℕ → Assembly → Scene
+start_of job a = scene_of a.image a.start a.asked job
 
 -- the output of a run from its start: the listing, and then the report
 abbrev pub output_of_run : List (List ℕ) → Asked → Scene → Output
 output_of_run listed asked start = record {
   status = Done;
   events = at_moment 0 0 listed ++ run_report asked start;
-  done = (run asked.budget start).last.done;
-  ticks = 0;
+  done = (end_of asked start).done;
+  ticks = (end_of asked start).tick;
 }
 
 -- the output of `run`, by what a job gives
@@ -90,3 +94,19 @@ output_of Run job = ran_by job (assembly job)
 output_of Assemble job = assembled_by (assembly job)
 output_of Load text = loaded_by (loaded text)
 output_of Disassemble text = disassembled_by (read_text text)
+
+-- the delays of storage with which an assembled job, or a program that is loaded, runs
+abbrev pub assembled_delays : Result Assembly Refusal → List ℕ
+assembled_delays (Ok a) = a.asked.delays
+assembled_delays (Err r) = []
+
+abbrev pub loaded_delays : Result Program ℕ → List ℕ
+loaded_delays (Ok p) = p.controls.delays
+loaded_delays (Err n) = []
+
+-- the delays of storage with which a command runs a job
+unfoldable pub delays_of : Command → List ℕ → List ℕ
+delays_of Run job = assembled_delays (assembly job)
+delays_of Assemble job = []
+delays_of Load text = loaded_delays (loaded text)
+delays_of Disassemble text = []

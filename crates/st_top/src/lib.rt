@@ -10,11 +10,13 @@ mod execution;
 mod layer_error;
 mod listing;
 mod loading;
+mod moment;
 mod objects;
 mod past;
 mod program;
 mod refusal;
-mod running;
+mod reporting;
+mod telling;
 mod scene;
 
 pub use answer::{Answer, Status};

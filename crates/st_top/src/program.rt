@@ -1,11 +1,11 @@
 //! The program: a job in, its output out.
-ghost use Rattle.std.specs.Prelude.{◌≡◌, ℕ, ◌+◌, ◌*◌, ◌<◌, ◌≤◌, ◌^◌, None, false, map, length};
+ghost use Rattle.std.specs.Prelude.{◌≡◌, ◌<◌, ◌≤◌, ◌^◌, None, false, map, length};
 ghost use Rattle.std.specs.List.{list_all};
 ghost use Rattle.std.specs.String.{string_bytes};
 ghost use Rattle.st_top.specs.Command.{command_of};
 ghost use Rattle.st_top.specs.CommandLine.{is_plain};
 ghost use Rattle.st_top.specs.declared.command.Command.TheVariants.{Run, Assemble, Load, Disassemble};
-ghost use Rattle.st_top.specs.Output.{output_of};
+ghost use Rattle.st_top.specs.Output.{output_of, delays_of};
 ghost use Rattle.st_top.specs.Answers.{Did, IsAnswer};
 ghost use Rattle.st_top.specs.Layers.{Ends, Tries};
 
@@ -25,40 +25,40 @@ use std::alloc::Global;
 const JOB_LIMIT: u32 = 2_000_000;
 
 /// Assembles a job and runs it.
-#[tactic(auto, unfolding(crate::specs::Output::output_of))]
+#[tactic(auto, unfolding(crate::specs::Output::output_of, crate::specs::Output::delays_of))]
 fn run_job<K: Sink>(alloc: Global, job: &[u8], out: &mut K) -> Result<Answer, LayerError>
     requires { length job.now < 2 ^ 32 }
-    ensures { Ends (K.output out.old) (K.output out.new) (output_of Run job.now) result }
+    ensures { Ends (K.output out.old) (K.output out.new) (output_of Run job.now) (delays_of Run job.now) result }
 {
     let program = assemble(alloc, job)?;
     Ok(execute(alloc, job, &program, out))
 }
 
 /// Assembles a job and writes its object text.
-#[tactic(auto, unfolding(crate::specs::Output::output_of))]
+#[tactic(auto, using(crate::proofs::Times::keeps_still), unfolding(crate::specs::Output::output_of, crate::specs::Output::delays_of))]
 fn assemble_job<K: Sink>(alloc: Global, job: &[u8], out: &mut K) -> Result<Answer, LayerError>
     requires { length job.now < 2 ^ 32 }
-    ensures { Ends (K.output out.old) (K.output out.new) (output_of Assemble job.now) result }
+    ensures { Ends (K.output out.old) (K.output out.new) (output_of Assemble job.now) (delays_of Assemble job.now) result }
 {
     let program = assemble(alloc, job)?;
     Ok(answer_object(alloc, &image_of(program), out))
 }
 
 /// Loads an object text and runs it.
-#[tactic(auto, unfolding(crate::specs::Output::output_of))]
+#[tactic(auto, unfolding(crate::specs::Output::output_of, crate::specs::Output::delays_of))]
 fn load_job<K: Sink>(alloc: Global, text: &[u8], out: &mut K) -> Result<Answer, LayerError>
     requires { length text.now ≤ 2000000 }
-    ensures { Ends (K.output out.old) (K.output out.new) (output_of Load text.now) result }
+    ensures { Ends (K.output out.old) (K.output out.new) (output_of Load text.now) (delays_of Load text.now) result }
 {
     let program = load(alloc, text)?;
     Ok(execute_loaded(alloc, &program, out))
 }
 
 /// Reads an object text and writes its deck.
-#[tactic(auto, unfolding(crate::specs::Output::output_of))]
+#[tactic(auto, unfolding(crate::specs::Output::output_of, crate::specs::Output::delays_of))]
 fn disassemble_text<K: Sink>(alloc: Global, text: &[u8], out: &mut K) -> Result<Answer, LayerError>
     requires { length text.now ≤ 2000000 }
-    ensures { Ends (K.output out.old) (K.output out.new) (output_of Disassemble text.now) result }
+    ensures { Ends (K.output out.old) (K.output out.new) (output_of Disassemble text.now) (delays_of Disassemble text.now) result }
 {
     let program = read_object(alloc, text)?;
     answer_deck(alloc, &program, out)
@@ -72,7 +72,8 @@ fn try_job<K: Sink>(
     out: &mut K,
 ) -> Result<Answer, LayerError>
     requires { length job.now ≤ 2000000 }
-    ensures { Ends (K.output out.old) (K.output out.new) (output_of command job.now) result }
+    ensures { Ends (K.output out.old) (K.output out.new) (output_of command job.now)
+        (delays_of command job.now) result }
 {
     match command {
         Command::Run => run_job(alloc, job, out),
@@ -97,10 +98,10 @@ fn try_command<S: Source, K: Sink>(
 }
 
 /// Reads a job, and does what a command asks for, or says why it does not.
+#[tactic(auto, using(st_bits::specs::Storage::words_of_storage_is, crate::proofs::Times::keeps_still))]
 fn answer<S: Source, K: Sink>(alloc: Global, command: Command, job: &mut S, out: &mut K) -> Answer
-    ensures did { Did command result.status
+    ensures { Did command result.status
         (S.input job.old) (S.input job.new) (K.output out.old) (K.output out.new) result }
-    ensures ticks { result.ticks ≡ 0 }
 {
     match try_command(alloc, command, job, out) {
         Ok(answer) => answer,
@@ -121,7 +122,8 @@ pub fn stretch<S: Source, K: Sink>(
     job: &mut S,
     out: &mut K,
 ) -> Answer
-    // By the meaning of the words and the status: what was read, and exactly what was written.
+    // By the meaning of the words and the status: what was read, exactly what was written, and how many ticks that took at
+    // most.
     ensures answer { IsAnswer (command_of (map string_bytes words.now))
         (S.input job.old) (S.input job.new) (K.output out.old) (K.output out.new) result }
 
@@ -132,10 +134,6 @@ pub fn stretch<S: Source, K: Sink>(
         → result.status ≡ Status.Usage }
     ensures some { length words.now ≡ 0 → result.status ≡ Status.Usage }
     ensures few { 3 < length words.now → result.status ≡ Status.Usage }
-
-    // Ticks are not modelled yet.
-    ensures ticks { result.ticks ≡ 0 }
-    ensures bound { (delay : ℕ) → 1 ≤ delay → result.ticks ≤ 64 * (delay + 4) * (result.done + 1) }
 {
     match read_words(alloc, words) {
         Ok(Some(command)) => answer(alloc, command, job, out),
