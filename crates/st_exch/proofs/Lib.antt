@@ -1,2 +1,3 @@
 pub mod ReaderLemmas
 pub mod PrinterLemmas
+pub mod CardLemmas

@@ -90,7 +90,7 @@ rest-cards (card ∷ cards) are = All-tail IsCard card cards are
 
 -- ---- scenes
 
-due-scene : (s : Machine) (xs : List Signal) (cards : List (List ℕ)) → IsMachine s → All IsCard cards
+pub due-scene : (s : Machine) (xs : List Signal) (cards : List (List ℕ)) → IsMachine s → All IsCard cards
     → IsScene (with_due_signals s xs cards)
 due-scene s [] cards m are = record { machine = m; cards = are }
 due-scene s (x ∷ xs) cards m are =

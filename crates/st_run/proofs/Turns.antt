@@ -66,7 +66,7 @@ behind-none ds n left p = refl
 
 -- ---- snapshots of which nothing is ahead
 
-same-words : (s : Machine) → with_index_words (index_words s) s ≡ s
+pub same-words : (s : Machine) → with_index_words (index_words s) s ≡ s
 unfolding with_index_words index_words
 same-words s =
     let behind = drop 16 s.words in

@@ -1,5 +1,5 @@
 -- What was decided between two entries.
-use Rattle.std.specs.Prelude.{ℕ, ◌≡◌, ◌≢◌, Bool, true, false, Option, None, option_map}
+use Rattle.std.specs.Prelude.{ℕ, ◌≡◌, ◌≢◌, true, false, None, option_map}
 use Rattle.st_exec.specs.Step.{rests}
 use Rattle.st_exec.specs.Run.{settled}
 use Rattle.st_run.specs.Moments.{Moment, next_state}

@@ -5,3 +5,7 @@ pub mod Scenes
 pub mod Order
 pub mod Told
 pub mod Together
+pub mod Telling
+pub mod Ticking
+pub mod Leaving
+pub mod Between

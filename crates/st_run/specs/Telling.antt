@@ -1,5 +1,5 @@
 -- What a run still has to tell, and what it shows.
-use Rattle.std.specs.Prelude.{ℕ, ◌≡◌, ◌+◌, ◌-◌, ◌<◌, ◌^◌, Bool, false, if◌then◌else◌, List, [], ◌∷◌, ◌++◌, map, reverse, replicate, length, All, Option, None, Some, option_map}
+use Rattle.std.specs.Prelude.{ℕ, ◌≡◌, ◌+◌, ◌-◌, ◌<◌, ◌^◌, Bool, false, if◌then◌else◌, List, [], ◌∷◌, ◌++◌, map, reverse, replicate, length, All, Option, None, Some, option_map, IsSome, ◌≤◌}
 use Rattle.std.specs.List.{AllZip}
 use Rattle.st_state.specs.Machine.{Machine}
 use Rattle.st_exec.specs.Step.{rests}
@@ -7,10 +7,11 @@ use Rattle.st_ahead.specs.Overlap.{Overlap, levels_of, last_tick}
 use Rattle.st_ahead.specs.Shown.{index_of}
 use Rattle.st_ahead.specs.declared.events.LevelView.{LevelView}
 use Rattle.st_run.specs.Events.{Changed, Level, level_at, with_index_words}
-use Rattle.st_run.specs.TimedRun.{ticks_before, timed_behind}
+use Rattle.st_run.specs.TimedRun.{ticks_before, timed_from, timed_behind}
 use Rattle.st_run.specs.Order.{AreRising}
 use Rattle.st_run.specs.Told.{What, Done, Dropped, Printed, Interrupted, Shown, Ended, Told, told}
-use Rattle.st_run.specs.Together.{Together, IsBefore, standing_of, text_told}
+use Rattle.st_run.specs.Together.{Together, IsBefore, IsBehind, standing_of, moment_of, text_told}
+use Rattle.st_run.specs.declared.told.Told.{Told as ToldNext}
 use Rattle.st_run.specs.declared.told.What.{What as WhatTold}
 use Rattle.st_run.specs.declared.told.What.TheVariants as tells
 use Rattle.st_run.specs.declared.turn.Turn.{Turn}
@@ -80,6 +81,10 @@ seen_of m = with_index_words (index_of m) m.state
 abbrev pub ahead_of : Overlap → List Level
 ahead_of m = map (level_at (last_tick m)) (levels_of m)
 
+-- an answer, where a machine is shown
+abbrev pub told_with : ToldNext → Overlap → Told
+told_with t m = record { done = t.done; tick = t.tick; what = what_told t.what (seen_of m) (ahead_of m) }
+
 -- a level as the machine shows it
 pub record IsLevel (v : LevelView) (level : Level) : Type 0 where
   pub address : v.address ≡ level.address
@@ -97,12 +102,41 @@ pub record AreLevels (shown : List (Option LevelView)) (levels : List Level) : T
 abbrev pub IsTurn : Turn → ℕ → List ℕ → Together → Type 0
 IsTurn turns.Before now snaps t = IsBefore t × (now ≡ t.machine.now) × AreRising (now - 1) snaps
 IsTurn (turns.AtEnd rests) now snaps t = levels_of t.machine ≡ []
-IsTurn turns.Over now snaps t = Unit {0}
+IsTurn turns.Over now snaps t = levels_of t.machine ≡ []
 
 -- all that is still to be told comes in time
 abbrev pub AreInTime : List Told → Type 0
 AreInTime = All (λ x. (x.tick < 2 ^ 63) × (x.done < 2 ^ 63))
 
+-- where an interrupt waits to be told nothing is ahead, so that the state is shown in which it is taken
 pub record IsRun (turn : Turn) (left tick now : ℕ) (snaps : List ℕ) (w : Waiting) (t : Together) : Type 0 where
-  pub turn : IsTurn turn now snaps t
+  pub stands : IsTurn turn now snaps t
+  pub taken : IsSome w.taken → levels_of t.machine ≡ []
   pub in_time : AreInTime (rest_of turn left tick snaps w t)
+
+-- ---- on the way from one thing that is told to the next
+
+-- the tick of the next snapshot
+abbrev pub first_tick : List ℕ → Option ℕ
+first_tick [] = None
+first_tick (x ∷ xs) = Some x
+
+-- the tick before was that of the first snapshot
+abbrev pub IsAtFirst : ℕ → List ℕ → Type 0
+IsAtFirst now [] = ⊥
+IsAtFirst now (x ∷ xs) = (now ≡ x + 1) × AreRising (x + 1) xs
+
+-- the tick of a snapshot was made last
+pub record IsShown (left tick : ℕ) (snaps : List ℕ) (t : Together) : Type 0 where
+  pub before : IsBefore t
+  pub first : IsAtFirst t.machine.now snaps
+  pub soon : t.machine.now ≤ 2 ^ 63
+  pub in_time : AreInTime (told (timed_behind t.machine.delays t.machine.levels left (standing_of tick t) snaps))
+
+-- an entry has just been done at a tick
+pub record IsLeft (left : ℕ) (snaps : List ℕ) (tick : ℕ) (t : Together) : Type 0 where
+  pub behind : IsBehind t
+  pub tick_is : tick ≡ t.machine.now
+  pub soon : tick < 2 ^ 63
+  pub rising : AreRising tick snaps
+  pub in_time : AreInTime (told (timed_from t.machine.delays t.machine.levels left (moment_of t) snaps))

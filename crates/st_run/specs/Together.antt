@@ -1,13 +1,10 @@
 -- An overlapped machine with the signals and the reader's cards that are still to come.
-use Rattle.std.specs.Prelude.{ℕ, ◌≡◌, ◌+◌, ◌≤◌, Bool, true, false, if◌then◌else◌, is_some, List, [], ◌∷◌, ◌++◌, length, map, Option, None, Some, IsSome}
+use Rattle.std.specs.Prelude.{ℕ, ◌≡◌, ◌+◌, ◌≤◌, Bool, true, false, if◌then◌else◌, is_some, List, [], ◌∷◌, map, Option, None, Some, IsSome, IfSome, ◌<◌, ◌^◌}
 use Rattle.st_card.specs.declared.control_cards.Signal.{Signal as SignalCard}
-use Rattle.st_state.specs.Machine.{Machine}
 use Rattle.st_prep.specs.BesideOrders.{AreAlikeBesideOrders}
-use Rattle.st_exch.specs.Printer.{printed}
 use Rattle.st_exec.specs.Step.{interrupt, rests}
-use Rattle.st_exec.specs.Run.{Scene, Signal, Happening, settled}
+use Rattle.st_exec.specs.Run.{Scene, Signal, Happening}
 use Rattle.st_rows.specs.Ranges.{AreDelays}
-use Rattle.st_segment.specs.Ahead.{Ahead}
 use Rattle.st_ahead.specs.Overlap.{Overlap, oldest_row, levels_of}
 use Rattle.st_ahead.specs.Calls.{ended, banks_left}
 use Rattle.st_run.specs.Moments.{Moment, Standing, next_scene, next_state, ends_segment, next_front}
@@ -66,6 +63,7 @@ pub record IsBehind (t : Together) : Type 0 where
   pub going : t.machine.ended ≡ false
   pub done : IsSome t.machine.closing
   pub table : t.machine.taken ≡ None
+  pub counter : IfSome t.machine.behind (λ h. h < 2 ^ 19)
   pub last : t.machine.front.c ≡ t.machine.now
 
 abbrev pub moment_of : Together → Moment
@@ -89,7 +87,6 @@ closed_if over o = if over then ended o else o
 pub record IsSince (o : Overlap) (over : Bool) (t : Together) : Type 0 where
   pub machine : t.machine ≡ record (closed_if over o) { state = t.machine.state }
   pub alike : over ≡ false → AreAlikeBesideOrders o.state t.machine.state
-  pub scene : IsScene (scene_of t)
 
 -- ---- what comes between two entries is over
 

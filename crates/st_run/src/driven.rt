@@ -4,9 +4,10 @@ ghost use Rattle.std.specs.List.{AllPass};
 ghost use Rattle.st_card.specs.Limits.{is_signal};
 ghost use Rattle.st_exec.specs.Run.{with_due_signals};
 ghost use Rattle.st_ahead.specs.Calls.{MaySignal};
+ghost use Rattle.st_ahead.specs.Shown.{shown};
 ghost use Rattle.st_run.specs.Together.{signals_of, scene_of, with_scene};
 
-use st_ahead::Machine;
+use st_ahead::{Machine, View};
 use st_card::Signal;
 use st_exch::Hopper;
 use std::marker::Model;
@@ -58,4 +59,11 @@ pub(crate) fn take_due_signals<const N: usize>(driven: &mut Driven<N>)
         (with_due_signals driven.old.machine.state driven.old.signals driven.old.cards) }
 {
     driven.signals = due_signals(&mut driven.machine, driven.signals);
+}
+
+/// What is shown of the machine.
+pub(crate) fn view_of<const N: usize>(driven: &Driven<N>) -> View
+    ensures { result ≡ shown driven.now.machine }
+{
+    driven.machine.view()
 }

@@ -1,14 +1,28 @@
 //! What comes between two entries: signals, orders of the reader and the printer, what ends a wait, and the decision
 //! how the run goes on.
-ghost use Rattle.std.specs.Prelude.{◌≡◌, map};
+ghost use Rattle.std.specs.Prelude.{◌≡◌, ◌≤◌, ◌||◌, ℕ, List, Bool, true, false, None, nat_lt, is_none, length, map, option_map};
+ghost use Rattle.std.specs.List.{AllPass};
+ghost use Rattle.st_card.specs.Limits.{is_signal};
+ghost use Rattle.st_state.specs.Orders.{is_due as is_due_of};
+ghost use Rattle.st_exec.specs.Step.{rests};
+ghost use Rattle.st_exec.specs.Run as run;
 ghost use Rattle.st_ahead.specs.Overlap.{levels_of};
+ghost use Rattle.st_ahead.specs.Calls.{ended, MayServe, MaySignal};
 ghost use Rattle.st_run.specs.Events.{address_of};
-ghost use Rattle.st_run.specs.Together.{IsBehind, moment_of};
+ghost use Rattle.st_run.specs.Moments.{has_card, has_waited};
+ghost use Rattle.st_run.specs.Together.{IsBehind, moment_of, signals_of, scene_of, with_scene};
 ghost use Rattle.st_run.specs.Leaving.{IsDecided};
+ghost use Rattle.st_run.specs.Between.{Came, IsChoice, choice_of, first_text as first_text_of};
 
-use crate::driven::Driven;
+use crate::driven::{Driven, take_due_signals};
 use crate::turn::Turn;
 use arrayvec::{ArrayString, ArrayVec};
+use st_ahead::{LevelView, Machine, Settled};
+use st_card::Signal;
+use st_exch::print_text;
+use st_exec::is_at_rest;
+use st_ring::SpecRing;
+use st_state::{Device, State, is_due};
 
 /// What was decided between two entries.
 #[derive(Clone, Copy, Debug)]
@@ -27,18 +41,296 @@ pub(crate) struct Decided {
 pub(crate) fn levels_ahead<const N: usize>(driven: &Driven<N>) -> ArrayVec<(u32, u64), 8>
     ensures { result.items ≡ map (λ a. (address_of a, a.row.p)) (levels_of driven.now.machine) }
 {
-    ArrayVec::new()
+    let ring = driven.machine.ring();
+    if ring.len() > 8 {
+        // That never is.
+        few_levels(driven);
+        return ArrayVec::new();
+    }
+    levels_in(ring)
+}
+
+/// There are eight levels at most: what is shown has room for no more.
+fn few_levels<const N: usize>(driven: &Driven<N>)
+    ensures { length (levels_of driven.now.machine) ≤ 8 }
+{
+    eight(driven.machine.view().levels);
+}
+
+/// There is room for eight levels.
+fn eight(levels: [Option<LevelView>; 8])
+    ensures { length levels ≡ 8 }
+{}
+
+/// The half-word address of each level, oldest first, and the tick at which it was prepared. There are eight at most.
+fn levels_in<const N: usize>(ring: &SpecRing<N>) -> ArrayVec<(u32, u64), 8>
+    requires { length ring.now ≤ 8 }
+    ensures { result.items ≡ map (λ v. (v.prepared.place.address, v.p)) ring.now }
+{
+    let mut levels = ArrayVec::new();
+    'levels: for k in 0..ring.len() {
+        let level = ring.get(k);
+        levels.push((level.prepared.place.address, level.p));
+    }
+    levels
+}
+
+// ---- orders
+
+/// Whether the reader has no order.
+fn reader_is_free(state: &State) -> bool
+    ensures { result ≡ is_none state.now.reader }
+{
+    state.reader.is_none()
+}
+
+/// Whether the printer has no order.
+fn printer_is_free(state: &State) -> bool
+    ensures { result ≡ is_none state.now.printer }
+{
+    state.printer.is_none()
+}
+
+/// Whether the reader's order is due.
+fn reader_is_due(state: &State) -> bool
+    ensures { result ≡ is_due_of state.now.done state.now.reader }
+{
+    is_due(state.reader, state.done)
+}
+
+/// Whether the printer's order is due.
+fn printer_is_due(state: &State) -> bool
+    ensures { result ≡ is_due_of state.now.done state.now.printer }
+{
+    is_due(state.printer, state.done)
+}
+
+/// The reader's order takes effect, if it has one. The result says whether a card came.
+fn serve_reader<const N: usize>(driven: &mut Driven<N>) -> bool
+    requires { MayServe driven.old.machine }
+    ensures came { (over : Bool) → Came (run.with_reader driven.old.machine.state.reader (scene_of driven.old))
+        None over (over || result) driven.old driven.new }
+    ensures card { result ≡ nat_lt (length driven.new.cards) (length driven.old.cards) }
+{
+    if reader_is_free(driven.machine.state()) {
+        return false;
+    }
+    let card = driven.cards.next();
+    driven.machine.read_in(card);
+    card.is_some()
+}
+
+/// The printer's order takes effect, if it has one. The result is the text that is printed.
+fn serve_printer<const N: usize>(driven: &mut Driven<N>) -> Option<ArrayString<64>>
+    requires { MayServe driven.old.machine }
+    ensures { (over : Bool) → Came (run.with_printer driven.old.machine.state.printer (scene_of driven.old))
+        (option_map (λ x. x.bytes) result) over over driven.old driven.new }
+{
+    if printer_is_free(driven.machine.state()) {
+        return None;
+    }
+    let words = driven.machine.print_out();
+    Some(print_text(&words))
+}
+
+/// The reader's order takes effect, if it is due. The result says whether a card came.
+fn serve_due_reader<const N: usize>(driven: &mut Driven<N>) -> bool
+    requires { MayServe driven.old.machine }
+    ensures came { Came (run.with_reader (run.if_due driven.old.machine.state.done driven.old.machine.state.reader)
+        (scene_of driven.old)) None false result driven.old driven.new }
+    ensures card { result ≡ nat_lt (length driven.new.cards) (length driven.old.cards) }
+{
+    if reader_is_due(driven.machine.state()) {
+        return serve_reader(driven);
+    }
+    false
+}
+
+/// The printer's order takes effect, if it is due. The result is the text that is printed.
+fn serve_due_printer<const N: usize>(driven: &mut Driven<N>) -> Option<ArrayString<64>>
+    requires { MayServe driven.old.machine }
+    ensures { (over : Bool) → Came (run.with_printer
+        (run.if_due driven.old.machine.state.done driven.old.machine.state.printer) (scene_of driven.old))
+        (option_map (λ x. x.bytes) result) over over driven.old driven.new }
+{
+    if printer_is_due(driven.machine.state()) {
+        return serve_printer(driven);
+    }
+    None
+}
+
+/// The orders that are due take effect, the reader's first. The result says whether a card came, and has the text
+/// that is printed.
+fn serve_due<const N: usize>(driven: &mut Driven<N>) -> (bool, Option<ArrayString<64>>)
+    requires { MayServe driven.old.machine }
+    ensures came { Came (run.with_due_orders (scene_of driven.old)) (option_map (λ x. x.bytes) result.1)
+        false result.0 driven.old driven.new }
+    ensures card { result.0 ≡ nat_lt (length driven.new.cards) (length driven.old.cards) }
+{
+    let card = serve_due_reader(driven);
+    let text = serve_due_printer(driven);
+    (card, text)
+}
+
+// ---- a wait
+
+/// The machine rests, and its segment ends; the decision is still owed.
+fn rest<const N: usize>(driven: &mut Driven<N>)
+    requires serves { MayServe driven.old.machine }
+    requires rests { rests driven.old.machine.state ≡ true }
+    ensures { driven.new ≡ record driven.old { machine = ended driven.old.machine } }
+{
+    driven.machine.settle();
+}
+
+/// The order that is due earliest takes effect, if the machine rests. The segment has ended. The result is the text that is
+/// printed.
+fn serve_at_rest<const N: usize>(driven: &mut Driven<N>) -> Option<ArrayString<64>>
+    requires { MayServe driven.old.machine }
+    ensures { Came (run.with_order_at_rest (scene_of driven.old)) (option_map (λ x. x.bytes) result)
+        true true driven.old driven.new }
+{
+    if !is_at_rest(driven.machine.state()) {
+        return None;
+    }
+    match driven.machine.state().next_device() {
+        None => None,
+        Some(Device::Reader) => {
+            serve_reader(driven);
+            None
+        }
+        Some(Device::Printer) => serve_printer(driven),
+    }
+}
+
+/// Turns on signals, one at a time, as long as the machine rests, and gives those that are still to come.
+fn signals_at_rest<'a, const N: usize>(
+    machine: &mut Machine<N>,
+    signals: &'a [Signal],
+) -> &'a [Signal]
+    requires known { AllPass is_signal signals.now }
+    requires turn { MaySignal machine.old }
+    ensures rest { AllPass is_signal result.now }
+    ensures came { (cards : List (List ℕ)) → run.with_signals_at_rest machine.old.state (signals_of signals.now) cards
+        ≡ record { machine = machine.new.state; signals = signals_of result.now; cards = cards } }
+    ensures machine { machine.new ≡ record machine.old { state = machine.new.state } }
+{
+    let mut rest = signals;
+    'signals: while let [first, after @ ..] = rest {
+        if !is_at_rest(machine.state()) {
+            return rest;
+        }
+        machine.signal(first.indicator);
+        rest = after;
+    }
+    rest
+}
+
+/// Signals come as long as the machine rests.
+fn take_signals_at_rest<const N: usize>(driven: &mut Driven<N>)
+    requires { MaySignal driven.old.machine }
+    ensures { driven.new ≡ with_scene driven.old
+        (run.with_signals_at_rest driven.old.machine.state driven.old.signals driven.old.cards) }
+{
+    driven.signals = signals_at_rest(&mut driven.machine, driven.signals);
+}
+
+/// Of two texts the first one.
+fn first_text(
+    first: Option<ArrayString<64>>,
+    later: Option<ArrayString<64>>,
+) -> Option<ArrayString<64>>
+    ensures { option_map (λ x. x.bytes) result
+        ≡ first_text_of (option_map (λ x. x.bytes) first) (option_map (λ x. x.bytes) later) }
+{
+    match first {
+        Some(text) => Some(text),
+        None => later,
+    }
+}
+
+/// What ends a wait comes: orders, then signals. The segment has ended. The result is the text that is printed.
+fn end_wait<const N: usize>(driven: &mut Driven<N>) -> Option<ArrayString<64>>
+    requires { MayServe driven.old.machine }
+    ensures { Came (run.with_wait (scene_of driven.old)) (option_map (λ x. x.bytes) result)
+        true true driven.old driven.new }
+{
+    let first = serve_at_rest(driven);
+    let second = serve_at_rest(driven);
+    take_signals_at_rest(driven);
+    first_text(first, second)
+}
+
+// ---- all of it
+
+/// What comes between two entries. The result says whether a card came or the machine waited, and has the text that is
+/// printed.
+fn come<const N: usize>(driven: &mut Driven<N>) -> (bool, Option<ArrayString<64>>)
+    requires { MayServe driven.old.machine }
+    ensures came { Came (run.settled (scene_of driven.old)) (option_map (λ x. x.bytes) result.1)
+        false result.0 driven.old driven.new }
+    ensures over { result.0 ≡ (has_card (moment_of driven.old) || has_waited (moment_of driven.old)) }
+{
+    take_due_signals(driven);
+    let (card, text) = serve_due(driven);
+    if !is_at_rest(driven.machine.state()) {
+        return (card, text);
+    }
+    rest(driven);
+    let later = end_wait(driven);
+    (true, first_text(text, later))
+}
+
+/// It is decided whether the segment ends and which interrupt is taken, by what the machine answers, and by whether the
+/// segment has ended.
+fn choice(answer: Settled, over: bool) -> (bool, Option<u8>)
+    ensures { result ≡ choice_of answer over }
+{
+    match answer {
+        Settled::Interrupt { indicator, .. } => (true, Some(indicator)),
+        Settled::Missed { .. } => (true, None),
+        Settled::Goes | Settled::Waits => (over, None),
+    }
+}
+
+/// It is decided how the run goes on, in which so many entries may still be done, where the segment has ended or not.
+fn decide<const N: usize>(
+    driven: &mut Driven<N>,
+    left: u64,
+    over: bool,
+    text: Option<ArrayString<64>>,
+) -> Decided
+    requires { MayServe driven.old.machine }
+    ensures rest { driven.new ≡ record driven.old { machine = driven.new.machine } }
+    ensures text { result.text ≡ text }
+    ensures choice { IsChoice result.turn left over driven.old.machine result driven.new.machine }
+{
+    let resting = is_at_rest(driven.machine.state());
+    if resting || left == 0 {
+        driven.machine.stop();
+        return Decided {
+            ends: true,
+            text,
+            taken: None,
+            turn: Turn::AtEnd(resting),
+        };
+    }
+    let (ends, taken) = choice(driven.machine.settle(), over);
+    Decided {
+        ends,
+        text,
+        taken,
+        turn: Turn::Before,
+    }
 }
 
 /// What comes between two entries comes, of which so many may still be done; and it is decided how the run goes on.
 pub(crate) fn leave<const N: usize>(driven: &mut Driven<N>, left: u64) -> Decided
     requires { IsBehind driven.old }
-    ensures { IsDecided left (moment_of driven.old) result driven.new }
+    ensures decided { IsDecided left (moment_of driven.old) result driven.new }
+    ensures delays { driven.new.machine.delays ≡ driven.old.machine.delays }
+    ensures levels { driven.new.machine.levels ≡ driven.old.machine.levels }
 {
-    Decided {
-        ends: true,
-        text: None,
-        taken: None,
-        turn: Turn::Over,
-    }
+    let (over, text) = come(driven);
+    decide(driven, left, over, text)
 }

@@ -10,14 +10,12 @@ ghost use Rattle.st_run.specs.Told.{told as told_events};
 ghost use Rattle.st_run.specs.TimedRun.{timed_run};
 ghost use Rattle.st_run.specs.Telling.{what_told, AreLevels};
 
-use crate::driven::{Driven, take_due_signals};
-use crate::leaving::{leave, levels_ahead};
+use crate::driven::{Driven, take_due_signals, view_of};
+use crate::progress::{Progress, tell_next};
 use crate::seen::Seen;
-use crate::ticking::run_until;
-use crate::told::{Told, What};
+use crate::told::Told;
 use crate::turn::Turn;
 use crate::waiting::Waiting;
-use arrayvec::ArrayVec;
 use st_ahead::{Machine, View};
 use st_banks::Delays;
 use st_card::Signal;
@@ -29,13 +27,7 @@ use std::marker::Model;
 /// that are printed, interrupts, snapshots, and its end. No call takes memory. `docs/timetable.md` has the rules.
 #[derive(Drop)]
 pub struct Run<'a, const N: usize> {
-    driven: Driven<'a, N>,
-    snaps: &'a [u64],
-    left: u64,
-    tick: u64,
-    now: u64,
-    waiting: Waiting,
-    turn: Turn,
+    progress: Progress<'a, N>,
 }
 
 // Clauses see what is still to be told, and what is shown.
@@ -45,12 +37,13 @@ impl<'a, const N: usize> Model for Run<'a, N> {
     ghost Value = { Telling };
 
     ghost view = { λ r. record {
-      rest = rest_of r.turn r.left r.tick r.snaps.now r.waiting r.driven;
-      seen = seen_of r.driven.machine;
-      ahead = ahead_of r.driven.machine;
+      rest = rest_of r.progress.turn r.progress.left r.progress.tick r.progress.snaps.now r.progress.waiting r.progress.driven;
+      seen = seen_of r.progress.driven.machine;
+      ahead = ahead_of r.progress.driven.machine;
     } };
 
-    ghost invariant = { λ r. IsRun r.turn r.left r.tick r.now r.snaps.now r.waiting r.driven };
+    ghost invariant = { λ r. IsRun r.progress.turn r.progress.left r.progress.tick r.progress.now r.progress.snaps.now
+        r.progress.waiting r.progress.driven };
 }
 
 impl<'a, const N: usize> Run<'a, N> {
@@ -88,6 +81,8 @@ impl<'a, const N: usize> Run<'a, N> {
         ensures { result.rest ≡ told_events (timed_run delays N budget
             (record { machine = state; signals = signals_of signals.now; cards = cards }) snaps.now) }
     {
+        state.shape();
+        delays.shape();
         let mut driven = Driven {
             machine: Machine::new(state, delays),
             signals,
@@ -95,13 +90,15 @@ impl<'a, const N: usize> Run<'a, N> {
         };
         take_due_signals(&mut driven);
         Run {
-            driven,
-            snaps,
-            left: budget - 1,
-            tick: 0,
-            now: 0,
-            waiting: Waiting::new(),
-            turn: Turn::Before,
+            progress: Progress {
+                driven,
+                snaps,
+                left: budget - 1,
+                tick: 0,
+                now: 0,
+                waiting: Waiting::new(),
+                turn: Turn::Before,
+            },
         }
     }
 
@@ -110,86 +107,23 @@ impl<'a, const N: usize> Run<'a, N> {
         ensures { MatchOption result (self.old.rest ≡ []) (λ t. self.old.rest
             ≡ record { done = t.done; tick = t.tick; what = what_told t.what self.new.seen self.new.ahead } ∷ self.new.rest) }
     {
-        if let Some(what) = self.waiting.next() {
-            return Some(self.at_once(what));
-        }
-        match self.turn {
-            Turn::Before => Some(self.go()),
-            Turn::AtEnd(rests) => Some(self.finish(rests)),
-            Turn::Over => None,
-        }
+        tell_next(&mut self.progress)
     }
 
     /// The state that is shown.
     pub fn seen(&self) -> Seen<'_>
         ensures { result ≡ self.entry.now.seen }
     {
-        Seen::with_index(self.driven.machine.state(), self.driven.machine.index())
+        Seen::with_index(
+            self.progress.driven.machine.state(),
+            self.progress.driven.machine.index(),
+        )
     }
 
     /// What is shown of the machine: the levels.
     pub fn view(&self) -> View
         ensures { AreLevels result.levels self.entry.now.ahead }
     {
-        self.driven.machine.view()
-    }
-
-    /// Something that is told at the tick of the last entry that was done.
-    fn at_once(&self, what: What) -> Told {
-        Told {
-            done: self.driven.machine.state().done,
-            tick: self.tick,
-            what,
-        }
-    }
-
-    /// Before the next entry: a snapshot, or that entry is done.
-    fn go(&mut self) -> Told {
-        let snap = self.snaps.first().copied();
-        let Some(row) = run_until(&mut self.driven, self.now, snap) else {
-            return self.show();
-        };
-        self.tick = row.c;
-        let drops = levels_ahead(&self.driven);
-        let decided = leave(&mut self.driven, self.left);
-        self.waiting = Waiting {
-            drops: if decided.ends { drops } else { ArrayVec::new() },
-            text: decided.text,
-            taken: decided.taken,
-        };
-        self.turn = decided.turn;
-        self.now = row.c + 1;
-        if self.left > 0 {
-            self.left -= 1;
-        }
-        Told {
-            done: row.number,
-            tick: row.c,
-            what: What::Done(row),
-        }
-    }
-
-    /// The next snapshot, whose tick was made last.
-    fn show(&mut self) -> Told {
-        let mut at = 0;
-        if let [first, after @ ..] = self.snaps {
-            at = *first;
-            self.snaps = after;
-        }
-        self.now = at + 1;
-        self.at_once(What::Shown(at))
-    }
-
-    /// At the end: a snapshot up to the last tick, or the end itself.
-    fn finish(&mut self, rests: bool) -> Told {
-        if let [first, after @ ..] = self.snaps {
-            if *first <= self.tick {
-                let at = *first;
-                self.snaps = after;
-                return self.at_once(What::Shown(at));
-            }
-        }
-        self.turn = Turn::Over;
-        self.at_once(What::Ended(rests))
+        view_of(&self.progress.driven)
     }
 }

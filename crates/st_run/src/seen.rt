@@ -2,6 +2,7 @@
 ghost use Rattle.std.specs.Prelude.{◌≡◌, ◌<◌, ◌^◌};
 ghost use Rattle.st_bits.specs.declared.limits.TheConstants.{WORDS};
 ghost use Rattle.st_state.specs.Machine.{word as word_of};
+ghost use Rattle.st_run.specs.Events.{with_index_words};
 
 use st_state::State;
 use std::marker::Model;
@@ -49,8 +50,8 @@ impl<'a> Seen<'a> {
         ensures { result ≡ word_of self.now w }
     {
         match self.index {
-            Some(index) if 16 <= w && w < 32 => index[w as usize - 16],
-            _ => self.state.word(w),
+            Some(index) => word_with(self.state, index, w),
+            None => self.state.word(w),
         }
     }
 
@@ -59,15 +60,43 @@ impl<'a> Seen<'a> {
         ensures value { result ≡ self.now.ic }
         ensures bound { result < 2 ^ 19 }
     {
-        let state = self.state;
-        state.ic
+        counter_in(self.state)
     }
 
     /// Whether interrupts are enabled.
     pub fn enabled(&self) -> bool
         ensures { result ≡ self.now.enabled }
     {
-        let state = self.state;
-        state.enabled
+        is_enabled(self.state)
     }
+}
+
+/// The word at `w` of a state with these index words.
+fn word_with(state: &State, index: &[u64; 16], w: u32) -> u64
+    requires { w < WORDS }
+    ensures { result ≡ word_of (with_index_words index.now state.now) w }
+{
+    state.shape();
+    if w < 16 {
+        return state.word(w);
+    }
+    if w < 32 {
+        return index[w as usize - 16];
+    }
+    state.word(w)
+}
+
+/// The counter of a state.
+fn counter_in(state: &State) -> u32
+    ensures value { result ≡ state.now.ic }
+    ensures bound { result < 2 ^ 19 }
+{
+    state.ic
+}
+
+/// Whether interrupts are enabled in a state.
+fn is_enabled(state: &State) -> bool
+    ensures { result ≡ state.now.enabled }
+{
+    state.enabled
 }

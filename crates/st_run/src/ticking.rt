@@ -1,11 +1,12 @@
 //! Ticks up to the next entry that is done, or up to a snapshot.
-ghost use Rattle.std.specs.Prelude.{◌≡◌, ◌+◌, ◌-◌, ◌==◌, ◌<◌, ◌≤◌, ◌^◌, IfSome, option_map_or, false};
+ghost use Rattle.std.specs.Prelude.{◌≡◌, ◌+◌, ◌-◌, ◌==◌, ◌<◌, ◌≤◌, ◌^◌, IfSome, false};
+ghost use Rattle.std.specs.Option.{option_map_or};
 ghost use Rattle.st_ahead.specs.Overlap.{oldest_row};
 ghost use Rattle.st_run.specs.Together.{IsBefore};
-ghost use Rattle.st_run.specs.Ticking.{AreMade};
+ghost use Rattle.st_run.specs.Ticking.{AreMade, AreTicked, IsReady};
 
 use crate::driven::Driven;
-use st_ahead::{Event, Row};
+use st_ahead::{Event, Machine, Row};
 
 /// Makes the ticks from `now` on until an entry is done, whose row is the result; or until that of the next snapshot is
 /// made, if it comes before.
@@ -21,15 +22,27 @@ pub(crate) fn run_until<const N: usize>(
     requires snap { IfSome snap (λ x. now - 1 ≤ x) }
     ensures { AreMade result snap driven.old driven.new }
 {
+    make_ticks(&mut driven.machine, now, snap)
+}
+
+/// Makes the same ticks of a machine.
+fn make_ticks<const N: usize>(machine: &mut Machine<N>, now: u64, snap: Option<u64>) -> Option<Row>
+    requires ready { IsReady machine.old }
+    requires now { now ≡ machine.old.now }
+    requires in_time { (oldest_row machine.old).c < 2 ^ 63 }
+    requires few { machine.old.state.done < 2 ^ 63 }
+    requires snap { IfSome snap (λ x. now - 1 ≤ x) }
+    ensures { AreTicked result snap machine.old machine.new }
+{
     let mut at = now;
     'ticks: loop {
         if is_last(at, snap) {
             return None;
         }
-        match driven.machine.tick() {
+        match machine.tick() {
             Event::Done(row) => return Some(row),
             Event::Passed => {
-                driven.machine.settle();
+                machine.settle();
             }
         }
         at += 1;

@@ -10,10 +10,7 @@ pub enum What {
     /// An entry is done, with its row.
     Done(Row),
     /// An entry that ran ahead, at this half-word address and prepared at this tick, is dropped.
-    Dropped {
-        address: u32,
-        p: u64,
-    },
+    Dropped { address: u32, p: u64 },
     /// A text is printed.
     Printed(ArrayString<64>),
     /// An interrupt by this indicator is taken. The run shows the state in which it is.

@@ -1,6 +1,8 @@
 //! What is told between two entries.
-ghost use Rattle.std.specs.Prelude.{◌≡◌, ◌++◌, ◌≤◌, [], ◌∷◌, None, MatchOption, IfSome, length, option_map};
+ghost use Rattle.std.specs.Prelude.{◌≡◌, ◌++◌, ◌≤◌, [], ◌∷◌, None, MatchOption, IfSome, IsSome, List};
+ghost use Rattle.std.specs.Option.{IfNone};
 ghost use Rattle.st_state.specs.Machine.{Machine};
+ghost use Rattle.st_run.specs.Events.{Level};
 ghost use Rattle.st_run.specs.Telling.{what_told, whats as whats_of};
 
 use crate::told::What;
@@ -41,8 +43,12 @@ impl Waiting {
 
     /// What is told next, and no longer waits: the youngest entry that is dropped, the text, or the interrupt.
     pub fn next(&mut self) -> Option<What>
-        ensures { (s : Machine) → MatchOption result (whats_of self.old s ≡ [])
+        ensures told { (s : Machine) → MatchOption result (whats_of self.old s ≡ [])
             (λ what. whats_of self.old s ≡ what_told what s [] ∷ whats_of self.new s) }
+        ensures shown { (s t : Machine) (levels : List Level) → (IsSome self.old.taken → s ≡ t) →
+            IfSome result (λ what. what_told what s [] ≡ what_told what t levels) }
+        ensures taken { IsSome self.new.taken → IsSome self.old.taken }
+        ensures none { IfNone result (self.new ≡ self.old) }
     {
         if let Some((address, p)) = self.drops.pop() {
             return Some(What::Dropped { address, p });
@@ -50,6 +56,9 @@ impl Waiting {
         if let Some(text) = self.text.take() {
             return Some(What::Printed(text));
         }
-        Some(What::Interrupted(self.taken.take()?))
+        let Some(indicator) = self.taken.take() else {
+            return None;
+        };
+        Some(What::Interrupted(indicator))
     }
 }

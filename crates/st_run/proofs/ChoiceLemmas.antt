@@ -1,0 +1,219 @@
+-- What is decided between two entries.
+use Rattle.std.specs.Prelude.{IfSome, is_none, is_some, if◌then◌else◌, option_map}
+use Rattle.std.proofs.Common.{◌≡◌, ◌≢◌, ℕ, ◌+◌, ◌<◌, ◌≤◌, Bool, true, false, ◌||◌, List, Option, None, Some, refl, sym, subst, ◌∙◌, ap, arith}
+use Rattle.st_state.specs.Machine.{Machine, IsMachine}
+use Rattle.st_prep.proofs.Choices.{of_choice}
+use Rattle.st_exec.proofs.BesideEntries.{beside-same}
+use Rattle.st_exec.specs.Step.{rests, interrupt}
+use Rattle.st_exec.specs.Run.{Scene, Signal, settled}
+use Rattle.st_rows.specs.Rows.{row, tick_c}
+use Rattle.st_rows.specs.Ranges.{IsEntry, AreDelays}
+use Rattle.st_rows.specs.declared.entry.Entry.{Entry}
+use Rattle.st_rows.specs.declared.front.Front.{Front}
+use Rattle.st_segment.specs.Entries.{entry}
+use Rattle.st_segment.proofs.EntryRanges.{entry-ranges}
+use Rattle.st_ahead.specs.Overlap.{Overlap, seen, levels_of, interrupt_due, oldest_row}
+use Rattle.st_ahead.specs.Calls.{ended, settled as settled_of, settled_by, passed, answer, answer_by}
+use Rattle.st_ahead.specs.declared.events.Settled.{Settled}
+use Rattle.st_run.specs.Moments.{Moment, next_scene, next_state, ends_segment, next_front, next_segment, has_card, has_waited}
+use Rattle.st_run.specs.Scenes.{IsScene}
+use Rattle.st_run.specs.Together.{Together, scene_of, moment_of, AreTexts, IsBehind, IsBefore, IsSince, GoesOn, Stops}
+use Rattle.st_run.specs.Between.{Came, IsChoice, choice_of}
+use Rattle.st_run.specs.Leaving.{IsDecided, IsWay}
+use Rattle.st_run.specs.declared.turn.Turn.{Turn}
+use Rattle.st_run.specs.declared.turn.Turn.TheVariants.{Before, AtEnd, Over}
+use Rattle.st_run.specs.declared.leaving.Decided.{Decided}
+use Rattle.st_run.proofs.SceneLemmas.{interrupt-below, settled-scene}
+use Rattle.st_run.proofs.PrintLemmas.{settled-one}
+use Rattle.st_run.proofs.EndedLemmas.{opened, opened-none, by_now, ended-since, since-is}
+
+-- ---- what the answer says
+
+choice-by : (due : Option ℕ) (waits : Bool) (behind : Option ℕ) (over : Bool) (m : Overlap) → waits ≡ false
+    → choice_of (answer_by due waits behind m) over ≡ ((is_some behind || over || is_some due), due)
+choice-by (Some i) waits None true m goes = refl
+choice-by (Some i) waits None false m goes = refl
+choice-by (Some i) waits (Some h) over m goes = refl
+choice-by None true behind over m goes = absurd (cc goes)
+choice-by None false (Some h) over m goes = refl
+choice-by None false None true m goes = refl
+choice-by None false None false m goes = refl
+
+pub choice-is : (m : Overlap) (over : Bool) → rests m.state ≡ false
+    → choice_of (answer m) over ≡ ((is_some m.behind || over || is_some (interrupt_due m)), interrupt_due m)
+unfolding answer
+choice-is m over goes = choice-by (interrupt_due m) (rests m.state) m.behind over m goes
+
+abbrev IsGoing : ℕ → Bool → Overlap → Overlap → Bool × Option ℕ → Type 0
+IsGoing left over m k r =
+    (left ≢ 0) × (rests m.state ≡ false) × (k ≡ settled_of m) × (r.1 ≡ interrupt_due m)
+    × (r.0 ≡ (is_some m.behind || over || is_some (interrupt_due m)))
+
+pub chosen : (left : ℕ) (over : Bool) (old : Together) (m k : Overlap) (xs : List Signal) (cards : List (List ℕ)) (a : Settled) (r : Bool × Option ℕ)
+    → record { machine = m; signals = xs; cards = cards } ≡ old → left ≢ 0 → rests m.state ≡ false
+    → a ≡ answer m → k ≡ settled_of m → r ≡ choice_of a over → IsGoing left over old.machine k r
+chosen left over old m k xs cards a r view some goes is after picks =
+    let all = picks ∙ ap (λ x. choice_of x over) is ∙ choice-is m over goes in
+    subst (λ (t : Together). IsGoing left over t.machine k r) view
+    (some, goes, after, ap (λ (p : Bool × Option ℕ). p.1) all, ap (λ (p : Bool × Option ℕ). p.0) all)
+
+-- ---- before the next entry
+
+row-later : (ds : List ℕ) (n now : ℕ) (f : Front) (e : Entry) → IsEntry e → now ≤ f.c → now + 1 ≤ (row ds n f e).c
+unfolding row tick_c
+row-later ds n now f e is late = omega (arith, is.costs.0)
+
+-- the machine before the next entry, of which the front is f
+abbrev going : Overlap → Machine → Option ℕ → Front → Overlap
+going o s t f = record o { state = s; taken = t; front = f; owed = false; ended = false; behind = None; closing = None; now = o.now + 1 }
+
+going-before : (b n : Together) (s : Machine) (t : Option ℕ) (f : Front) → IsBehind b → n.machine ≡ going b.machine s t f
+    → IsScene (scene_of n) → t ≡ interrupt s → rests s ≡ false → b.machine.now ≤ f.c → IsBefore n
+unfolding oldest_row seen
+going-before b n s t f is same scene table awake late =
+    let o = b.machine in
+    let state : n.machine.state ≡ s = ap (λ (m : Overlap). m.state) same in
+    record {
+      some = subst (λ (m : Overlap). 1 ≤ m.levels) (sym same) is.some;
+      few = subst (λ (m : Overlap). m.levels ≤ 8) (sym same) is.few;
+      delays = subst (λ (m : Overlap). AreDelays 255 m.delays) (sym same) is.delays;
+      scene = scene;
+      settled = ap (λ (m : Overlap). m.owed) same;
+      going = ap (λ (m : Overlap). m.ended) same;
+      guessed = ap (λ (m : Overlap). m.behind) same;
+      closed = ap (λ (m : Overlap). m.closing) same;
+      table = ap (λ (m : Overlap). m.taken) same ∙ table ∙ ap interrupt (sym state);
+      awake = ap rests state ∙ awake;
+      early =
+          subst (λ (m : Overlap). m.now ≤ (oldest_row m).c) (sym same)
+          (row-later o.delays o.levels o.now f (entry t s)
+          (entry-ranges t s (subst IsMachine state scene.machine) (subst (λ x. IfSome x (λ i. i < 64)) (sym table) (interrupt-below s))) late);
+    }
+
+now-taken : (over : Bool) (o : Overlap) (s : Machine) → (by_now over o s).taken ≡ o.taken
+now-taken true o s = refl
+now-taken false o s = refl
+
+now-behind : (over : Bool) (o : Overlap) (s : Machine) → (by_now over o s).behind ≡ o.behind
+now-behind true o s = refl
+now-behind false o s = refl
+
+going-by : (due behind : Option ℕ) (over : Bool) (o : Overlap) (s : Machine) (x : Overlap) → x ≡ by_now over o s → ended x ≡ opened o s
+    → o.taken ≡ None
+    → settled_by due false behind x
+    ≡ going o s due (if is_some behind || over || is_some due then (opened o s).front else o.front)
+going-by (Some i) (Some h) over o s x now ends none = ap (λ (y : Overlap). passed (record y { taken = Some i })) ends
+going-by (Some i) None true o s x now ends none = ap (λ (y : Overlap). passed (record y { taken = Some i })) ends
+going-by (Some i) None false o s x now ends none = ap (λ (y : Overlap). passed (record y { taken = Some i })) ends
+going-by None (Some h) over o s x now ends none = ap passed ends ∙ ap (λ t. going o s t (opened o s).front) none
+going-by None None true o s x now ends none = ap passed now ∙ ap (λ t. going o s t (opened o s).front) none
+going-by None None false o s x now ends none = ap passed now ∙ ap (λ t. going o s t o.front) none
+
+-- ---- whether the segment ends
+
+ends-by : (missed card waited due : Bool) → (missed || (card || waited) || due) ≡ (missed || card || waited || due)
+ends-by true card waited due = refl
+ends-by false true waited due = refl
+ends-by false false waited due = refl
+
+-- the moment, and the machine in the state behind all that comes
+module _ (b t : Together) (text : Option (List ℕ)) (over : Bool) (is : IsBehind b) (came : Came (settled (scene_of b)) text false over b t)
+    (over-is : over ≡ (has_card (moment_of b) || has_waited (moment_of b))) where
+  abbrev m : Moment
+  m = moment_of b
+
+  abbrev s : Machine
+  s = t.machine.state
+
+  since : IsSince b.machine over t
+  since = came.since b is (record { machine = refl; alike = λ open_still. beside-same b.machine.state })
+
+  state-is : s ≡ next_state m
+  state-is = ap (λ (c : Scene). c.machine) came.scene
+
+  abbrev ends : Bool
+  ends = is_some b.machine.behind || over || is_some (interrupt s)
+
+  ends-is : ends ≡ ends_segment m
+  unfolding ends_segment
+  ends-is =
+      ap (λ x. is_some b.machine.behind || x || is_some (interrupt s)) over-is
+      ∙ ends-by (is_some b.machine.behind) (has_card m) (has_waited m) (is_some (interrupt s))
+      ∙ ap (λ (u : Machine). is_some b.machine.behind || has_card m || has_waited m || is_some (interrupt u)) state-is
+
+  -- the front behind the decision
+  abbrev front : Front
+  front = if ends then next_segment m else b.machine.front
+
+  front-is : front ≡ next_front m
+  unfolding next_front
+  front-is = ap (λ x. if x then next_segment m else m.front) ends-is
+
+  front-late : b.machine.now ≤ front.c
+  front-late = of_choice (λ (f : Front). b.machine.now ≤ f.c) ends (next_segment m) b.machine.front (omega arith) (omega (arith, is.last))
+
+  -- how the machine stands
+  now-is : t.machine ≡ by_now over b.machine s
+  now-is = since-is b t over is since
+
+  due-is : interrupt_due t.machine ≡ interrupt s
+  due-is = ap (λ (x : Overlap). if is_none x.taken then interrupt s else None) now-is ∙ ap (λ x. if is_none x then interrupt s else None) (now-taken over b.machine s ∙ is.table)
+
+  behind-is : t.machine.behind ≡ b.machine.behind
+  behind-is = ap (λ (x : Overlap). x.behind) now-is ∙ now-behind over b.machine s
+
+  settled-is : rests s ≡ false → settled_of t.machine ≡ going b.machine s (interrupt s) front
+  unfolding settled_of
+  settled-is goes =
+      ap (λ x. settled_by x (rests s) t.machine.behind t.machine) due-is
+      ∙ ap (λ x. settled_by (interrupt s) x t.machine.behind t.machine) goes
+      ∙ ap (λ x. settled_by (interrupt s) false x t.machine) behind-is
+      ∙ going-by (interrupt s) b.machine.behind over b.machine s t.machine now-is (ended-since b t over is since) is.table
+
+  -- the scene behind it
+  scene-is : (n : Together) → n ≡ record t { machine = n.machine } → n.machine.state ≡ s → scene_of n ≡ next_scene m
+  scene-is n rest state =
+      ap scene_of rest ∙ ap (λ u. record { machine = u; signals = t.signals; cards = t.cards }) state ∙ came.scene
+
+  goes-on : (d : Decided) (n : Together) → n ≡ record t { machine = n.machine } → rests s ≡ false → n.machine ≡ settled_of t.machine
+      → d.taken ≡ interrupt_due t.machine → d.ends ≡ (is_some t.machine.behind || over || is_some (interrupt_due t.machine))
+      → GoesOn m d.ends d.taken n
+  goes-on d n rest goes after table end =
+      let same : n.machine ≡ going b.machine s (interrupt s) front = after ∙ settled-is goes in
+      let scene : scene_of n ≡ next_scene m = scene-is n rest (ap (λ (x : Overlap). x.state) same) in
+      record {
+        before =
+            going-before b n s (interrupt s) front is same (subst IsScene (sym scene) (settled-scene (scene_of b) is.scene)) refl goes front-late;
+        scene = scene;
+        front = ap (λ (x : Overlap). x.front) same ∙ front-is;
+        ends =
+            end
+            ∙ ap (λ x. is_some x || over || is_some (interrupt_due t.machine)) behind-is
+            ∙ ap (λ x. is_some b.machine.behind || over || is_some x) due-is
+            ∙ ends-is;
+        taken = table ∙ due-is ∙ ap interrupt state-is;
+        now = ap (λ (x : Overlap). x.now) same;
+      }
+
+  stops : (n : Together) → n ≡ record t { machine = n.machine } → n.machine ≡ ended t.machine → Stops m n
+  stops n rest after =
+      let same : n.machine ≡ opened b.machine s = after ∙ ended-since b t over is since in
+      record {
+        scene = scene-is n rest (ap (λ (x : Overlap). x.state) same);
+        none = ap levels_of same ∙ opened-none b.machine s;
+      }
+
+  way-is : (turn : Turn) (left : ℕ) (d : Decided) (n : Together) → n ≡ record t { machine = n.machine }
+      → IsChoice turn left over t.machine d n.machine → IsWay turn left m d n
+  way-is Before left d n rest h =
+      (h.0, sym (ap rests state-is) ∙ h.1, goes-on d n rest h.1 h.2 h.3 h.4)
+  way-is (AtEnd resting) left d n rest h =
+      (h.0 ∙ ap rests state-is, h.1, h.2, h.3, stops n rest h.4)
+  way-is Over left d n rest h = h
+
+  pub decided : (left : ℕ) (d : Decided) (n : Together) → n ≡ record t { machine = n.machine }
+      → option_map (λ x. x.bytes) d.text ≡ text → IsChoice d.turn left over t.machine d n.machine → IsDecided left m d n
+  decided left d n rest same choice = record {
+    text = subst (λ x. AreTexts x (settled (scene_of b)).happened) (sym same) (came.told (settled-one (scene_of b)));
+    way = way-is d.turn left d n rest choice;
+  }

@@ -1,0 +1,192 @@
+-- The end of a segment is the same before and after signals and orders without a card.
+use Rattle.std.specs.Prelude.{IfSome, if◌then◌else◌, nat_lt}
+use Rattle.std.proofs.Common.{◌≡◌, ℕ, zero, suc, ◌+◌, ◌<◌, ◌≤◌, ◌^◌, Bool, true, false, List, [], ◌∷◌, length, Option, None, Some, refl, sym, ◌∙◌, ap, arith}
+use Rattle.std.proofs.lemmas.Bool.{ltb-true, le-ltb}
+use Rattle.st_state.specs.Machine.{Machine, IsMachine}
+use Rattle.st_prep.specs.BesideOrders.{AreAlikeBesideOrders}
+use Rattle.st_prep.specs.Plan.{plan}
+use Rattle.st_prep.proofs.PlanLemmas.{plan-prepared}
+use Rattle.st_exec.specs.Completion.{guess}
+use Rattle.st_banks.specs.declared.answers.LastAnswers.{LastAnswers}
+use Rattle.st_rows.specs.Rows.{opening, row, after, addressed, prepared, tick_a, tick_p, tick_c}
+use Rattle.st_rows.specs.declared.entry.Entry.{Entry}
+use Rattle.st_rows.specs.declared.front.Front.{Front}
+use Rattle.st_segment.specs.Entries.{entry}
+use Rattle.st_segment.specs.Guesses.{guesses}
+use Rattle.st_segment.specs.Alone.{RunAhead}
+use Rattle.st_segment.specs.Ahead.{Ahead, ahead, prepared_before}
+use Rattle.st_segment.proofs.GuessLemmas.{guess-machine}
+use Rattle.st_segment.proofs.PassedOver.{entry-same, passed-over}
+use Rattle.st_ahead.specs.Overlap.{Overlap, seen, with_counter, levels_of}
+use Rattle.st_ahead.specs.Calls.{ended, banks_left, missed_counter, MayServe}
+use Rattle.st_run.specs.Together.{Together, IsBehind, IsSince}
+
+-- ---- entries that are prepared before the last one is done
+
+none-true : (b : Bool) → (b ≡ true → ⊥) → b ≡ false
+none-true true f = absurd (f refl)
+none-true false f = refl
+
+same-count : (b : Bool) (x y : Ahead) (xs ys : List Ahead) → (b ≡ true → length xs ≡ length ys)
+    → length (if b then x ∷ xs else []) ≡ length (if b then y ∷ ys else [])
+same-count true x y xs ys same = ap suc (same refl)
+same-count false x y xs ys same = refl
+
+-- they are not done alone
+not-alone : (ds : List ℕ) (n now : ℕ) (f : Front) (e : Entry) → now ≤ f.c → (row ds n f e).p < now → e.serial ≡ false
+unfolding row tick_a tick_p addressed prepared
+not-alone ds n now f e late early = none-true e.serial (λ alone. absurd (behind e.serial alone early))
+  where
+    behind : (b : Bool) → b ≡ true → (row ds n f (record e { serial = b })).p < now → ⊥
+    behind true is before = omega arith
+    behind false is before = cc is
+
+guess-alike : (s u : Machine) → IsMachine s → AreAlikeBesideOrders s u → (entry None s).serial ≡ false
+    → AreAlikeBesideOrders (guess None s) (guess None u)
+unfolding entry guesses RunAhead
+guess-alike s u m alike free = (passed-over 1 s u m alike (free, tt)).1
+
+behind-later : (ds : List ℕ) (n now : ℕ) (f : Front) (e : Entry) → now ≤ f.c → now ≤ (after ds n f e).c
+unfolding after tick_c
+behind-later ds n now f e late = omega arith
+
+count-alike : (ds : List ℕ) (n now k : ℕ) (s u : Machine) (f : Front) → IsMachine s → AreAlikeBesideOrders s u → now ≤ f.c
+    → length (prepared_before now (ahead ds n k None s f)) ≡ length (prepared_before now (ahead ds n k None u f))
+unfolding ahead prepared_before
+count-alike ds n now zero s u f m alike late = refl
+count-alike ds n now (suc k) s u f m alike late =
+    let e = entry None s in
+    let g = after ds n f e in
+    let before = λ (xs : List Ahead). prepared_before now xs in
+    same-count (nat_lt (row ds n f e).p now) _ _ (before (ahead ds n k None (guess None s) g)) (before (ahead ds n k None (guess None u) g))
+    (λ early. count-alike ds n now k (guess None s) (guess None u) g (guess-machine None s m tt)
+    (guess-alike s u m alike (not-alone ds n now f e late (ltb-true (row ds n f e).p now early)))
+    (behind-later ds n now f e late))
+    ∙ ap (λ (x : Entry). length (if nat_lt (row ds n f x).p now
+    then record { state = u; table = None; front = f; entry = x; row = row ds n f x } ∷ before (ahead ds n k None (guess None u) (after ds n f x))
+    else [])) (sym (entry-same None s u alike))
+
+-- ---- the counter of a guess
+
+counted-alike : (c : Option ℕ) (s u : Machine) → AreAlikeBesideOrders s u → AreAlikeBesideOrders (with_counter c s) (with_counter c u)
+counted-alike None s u is = is
+counted-alike (Some h) s u is = record {
+  size = is.size;
+  words = is.words;
+  ic = refl;
+  enabled = is.enabled;
+  waiting = is.waiting;
+  done = is.done;
+}
+
+counted-machine : (c : Option ℕ) (s : Machine) → IsMachine s → IfSome c (λ h. h < 2 ^ 19) → IsMachine (with_counter c s)
+counted-machine None s is below = is
+counted-machine (Some h) s is below = record {
+  size = is.size;
+  counter = below;
+  below = is.below;
+  registers = is.registers;
+  reader_area = is.reader_area;
+  printer_area = is.printer_area;
+}
+
+-- the counter behind a branch that was missed
+pub missed-below : (m : Overlap) → IsMachine m.state → IfSome m.taken (λ i. i < 64) → IfSome (missed_counter m) (λ h. h < 2 ^ 19)
+missed-below m is some = missed-by _ (plan m.state m.taken).following (plan-prepared m.state m.taken is some).following
+  where
+    missed-by : (b : Bool) (h : ℕ) → h < 2 ^ 19 → IfSome (if b then Some h else None) (λ i. i < 2 ^ 19)
+    missed-by true h below = below
+    missed-by false h below = tt
+
+-- ---- the end of a segment
+
+-- the machine in a state, with the front of the segment behind the one that ends here
+abbrev pub opened : Overlap → Machine → Overlap
+opened o s = record o {
+  state = s;
+  front = opening (banks_left o o.closing) (o.now + 1 + length (levels_of o));
+  ended = true;
+}
+
+levels-alike : (t : Together) (u : Machine) → IsBehind t → AreAlikeBesideOrders t.machine.state u
+    → length (levels_of (record t.machine { state = u })) ≡ length (levels_of t.machine)
+unfolding levels_of seen
+levels-alike t u is alike =
+    let o = t.machine in
+    rw (is.going, is.table)
+    (sym (count-alike o.delays o.levels o.now o.levels (with_counter o.behind o.state) (with_counter o.behind u) o.front
+    (counted-machine o.behind o.state is.scene.machine is.counter) (counted-alike o.behind o.state u alike) (omega (arith, is.last))))
+
+banks-same : (o : Overlap) (u : Machine) (c : Option LastAnswers) → banks_left (record o { state = u }) c ≡ banks_left o c
+banks-same o u None = refl
+banks-same o u (Some banks) = refl
+
+ended-first : (t : Together) (u : Machine) → IsBehind t → AreAlikeBesideOrders t.machine.state u
+    → ended (record t.machine { state = u }) ≡ opened t.machine u
+unfolding ended
+ended-first t u is alike =
+    let o = t.machine in
+    let v = record o { state = u } in
+    ap (λ b. if b then v else opened v u) is.going
+    ∙ (ap (λ (b : LastAnswers). record o { state = u; front = opening b (o.now + 1 + length (levels_of (record o { state = u }))); ended = true })
+    (banks-same o u o.closing)
+    ∙ ap (λ k. record o { state = u; front = opening (banks_left o o.closing) (o.now + 1 + k); ended = true }) (levels-alike t u is alike))
+
+pub ended-behind : (t : Together) → IsBehind t → ended t.machine ≡ opened t.machine t.machine.state
+unfolding ended
+ended-behind t is = ap (λ b. if b then t.machine else opened t.machine t.machine.state) is.going
+
+ended-again : (m : Overlap) → m.ended ≡ true → ended m ≡ m
+unfolding ended
+ended-again m over = ap (λ b. if b then m else opened m m.state) over
+
+-- what it is, as long as nothing but signals and orders came
+pub ended-since : (b t : Together) (over : Bool) → IsBehind b → IsSince b.machine over t
+    → ended t.machine ≡ opened b.machine t.machine.state
+ended-since b t true is since =
+    let s = t.machine.state in
+    let same : t.machine ≡ opened b.machine s = since.machine ∙ ap (λ (m : Overlap). record m { state = s }) (ended-behind b is) in
+    ended-again t.machine (ap (λ (m : Overlap). m.ended) same) ∙ same
+ended-since b t false is since =
+    ap ended since.machine ∙ ended-first b t.machine.state is (since.alike refl)
+
+-- what it is by now, by whether the segment has ended
+abbrev pub by_now : Bool → Overlap → Machine → Overlap
+by_now over o s = if over then opened o s else record o { state = s }
+
+pub since-is : (b t : Together) (over : Bool) → IsBehind b → IsSince b.machine over t
+    → t.machine ≡ by_now over b.machine t.machine.state
+since-is b t true is since = since.machine ∙ ap (λ (m : Overlap). record m { state = t.machine.state }) (ended-behind b is)
+since-is b t false is since = since.machine
+
+-- ---- what an end leaves
+
+pub ended-state : (m : Overlap) → (ended m).state ≡ m.state
+unfolding ended
+ended-state m = kept m.ended
+  where
+    kept : (b : Bool) → (if b then m else opened m m.state).state ≡ m.state
+    kept true = refl
+    kept false = refl
+
+pub ended-serves : (m : Overlap) → MayServe m → MayServe (ended m)
+unfolding ended
+ended-serves m may = kept m.ended
+  where
+    kept : (b : Bool) → MayServe (if b then m else opened m m.state)
+    kept true = may
+    kept false = may
+
+-- nothing is ahead behind it
+pub opening-none : (ds : List ℕ) (n k : ℕ) (t : Option ℕ) (s : Machine) (banks : LastAnswers) (start now : ℕ) → now ≤ start
+    → prepared_before now (ahead ds n k t s (opening banks start)) ≡ []
+unfolding ahead prepared_before row tick_a tick_p addressed prepared
+opening-none ds n zero t s banks start now early = refl
+opening-none ds n (suc k) t s banks start now early =
+    let p = tick_p ds n (opening banks start) (entry t s) in
+    let late : now ≤ p = omega arith in
+    rw (le-ltb p now late) refl
+
+pub opened-none : (o : Overlap) (s : Machine) → levels_of (opened o s) ≡ []
+unfolding levels_of seen
+opened-none o s = opening-none o.delays o.levels o.levels o.taken s (banks_left o o.closing) (o.now + 1 + length (levels_of o)) o.now (omega arith)

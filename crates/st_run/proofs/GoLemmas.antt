@@ -1,0 +1,165 @@
+-- Before the next entry: a snapshot, or that entry is done.
+use Rattle.std.specs.Prelude.{IfSome, All}
+use Rattle.std.proofs.Common.{◌≡◌, ℕ, ◌+◌, ◌-◌, ◌<◌, ◌≤◌, ◌^◌, List, [], ◌∷◌, Option, None, Some, refl, sym, ◌∙◌, ap, subst, arith}
+use Rattle.std.proofs.lemmas.List.Elements.{All-tail}
+use Rattle.st_state.specs.Machine.{Machine}
+use Rattle.st_prep.specs.Plan.{plan}
+use Rattle.st_exec.specs.Step.{interrupt, address}
+use Rattle.st_rows.specs.declared.front.Row.{Row as FrontRow}
+use Rattle.st_ahead.specs.Overlap.{Overlap, oldest_row}
+use Rattle.st_ahead.specs.Calls.{completed, row_done}
+use Rattle.st_ahead.specs.declared.events.Row.{Row}
+use Rattle.st_run.specs.Moments.{Moment, Standing, next_row, next_moment}
+use Rattle.st_run.specs.TimedRun.{completion, timed_from, timed_behind}
+use Rattle.st_run.specs.Order.{AreRising}
+use Rattle.st_run.specs.Told.{What, Done, Told, told_of, told}
+use Rattle.st_run.specs.Together.{Together, IsBefore, IsBehind, standing_of, moment_of, at_tick}
+use Rattle.st_run.specs.Telling.{AreInTime, IsAtFirst, IsShown, IsLeft, first_tick}
+use Rattle.st_run.specs.Ticking.{AreTicked, AreMade, at_completion}
+use Rattle.st_run.proofs.Turns.{behind-done, behind-none}
+use Rattle.st_run.proofs.ToldLemmas.{once}
+use Rattle.st_run.proofs.TickLemmas.{row-same}
+use Rattle.st_run.proofs.MomentLemmas.{moment-next, behind-next, row-before}
+use Rattle.st_run.proofs.LeftLemmas.{plan-address, next-done, next-tick, oldest-in_time}
+
+-- ---- snapshots
+
+pub first-late : (now : ℕ) (snaps : List ℕ) → AreRising (now - 1) snaps → IfSome (first_tick snaps) (λ x. now - 1 ≤ x)
+unfolding AreRising
+first-late now [] is = tt
+first-late now (x ∷ xs) is = is.0
+
+rising-first : (t c : ℕ) (snaps : List ℕ) → AreRising t snaps → IfSome (first_tick snaps) (λ x. c ≤ x) → AreRising c snaps
+unfolding AreRising
+rising-first t c [] is late = tt
+rising-first t c (x ∷ xs) is late = (late, is.1)
+
+-- where none comes before, the entry is done first
+behind-completes : (ds : List ℕ) (n left : ℕ) (p : Standing) (snaps : List ℕ)
+    → IfSome (first_tick snaps) (λ x. (next_moment ds n p).tick ≤ x)
+    → timed_behind ds n left p snaps ≡ completion ds n p ∷ timed_from ds n left (next_moment ds n p) snaps
+behind-completes ds n left p [] late = behind-none ds n left p
+behind-completes ds n left p (x ∷ xs) late = behind-done ds n left p x xs late
+
+tick-before : (t : Together) (now : ℕ) → IsBefore t → now ≤ (oldest_row t.machine).c → IsBefore (at_tick now t)
+tick-before t now h early = record {
+  some = h.some;
+  few = h.few;
+  delays = h.delays;
+  scene = h.scene;
+  settled = h.settled;
+  going = h.going;
+  guessed = h.guessed;
+  closed = h.closed;
+  table = h.table;
+  awake = h.awake;
+  early = omega (arith, early, ap {A = FrontRow} (λ r. r.c) (row-same t.machine now));
+}
+
+module _ (left tick : ℕ) (snaps : List ℕ) (t new : Together) (before : IsBefore t) (rising : AreRising (t.machine.now - 1) snaps)
+    (in_time : AreInTime (told (timed_behind t.machine.delays t.machine.levels left (standing_of tick t) snaps))) where
+  abbrev o : Overlap
+  o = t.machine
+
+  abbrev p : Standing
+  p = standing_of tick t
+
+  abbrev next : Moment
+  next = next_moment o.delays o.levels p
+
+  -- a snapshot
+  shown-by : (xs : List ℕ) → AreRising (o.now - 1) xs
+      → AreInTime (told (timed_behind o.delays o.levels left p xs)) → AreMade None (first_tick xs) t new → IsShown left tick xs new
+  unfolding AreRising
+  shown-by [] up all made = absurd made.ticked
+  shown-by (x ∷ xs) up all made =
+      let far : (oldest_row o).c < 2 ^ 63 = oldest-in_time left tick snaps t before in_time in
+      let soon : x < (oldest_row o).c = made.ticked.0 in
+      let is : new ≡ at_tick (x + 1) t = made.kept ∙ ap {A = Overlap} (λ q. record t { machine = q }) made.ticked.1 in
+      subst {A = Together} (λ u. IsShown left tick (x ∷ xs) u) (sym is) (record {
+        before = tick-before t (x + 1) before (omega arith);
+        first = (refl, up.1);
+        soon = omega arith;
+        in_time = all;
+      })
+
+  pub go-shows : (snap : Option ℕ) → snap ≡ first_tick snaps → AreMade None snap t new → IsShown left tick snaps new
+  go-shows snap first made =
+      shown-by snaps rising in_time (subst {A = Option ℕ} (λ k. AreMade None k t new) first made)
+
+  -- the entry is done
+  module _ (row : Row) (snap : Option ℕ) (first : snap ≡ first_tick snaps) (made : AreMade (Some row) snap t new) where
+    abbrev done : Together
+    done = record t { machine = completed (at_completion o) }
+
+    new-done : new ≡ done
+    new-done = made.kept ∙ ap {A = Overlap} (λ q. record t { machine = q }) made.ticked.1
+
+    moment-is : moment_of done ≡ next
+    moment-is = moment-next t tick before
+
+    late : IfSome (first_tick snaps) (λ x. (oldest_row o).c ≤ x)
+    late = subst {A = Option ℕ} (λ k. IfSome k (λ x. (oldest_row o).c ≤ x)) first made.ticked.0
+
+    late-next : IfSome (first_tick snaps) (λ x. next.tick ≤ x)
+    late-next = subst {A = ℕ} (λ k. IfSome (first_tick snaps) (λ x. k ≤ x)) (sym (next-tick left tick snaps t before in_time)) late
+
+    all-told : told (timed_behind o.delays o.levels left p snaps)
+        ≡ told_of (completion o.delays o.levels p) ∷ told (timed_from o.delays o.levels left next snaps)
+    unfolding told
+    all-told = ap told (behind-completes o.delays o.levels left p snaps late-next)
+
+    row-c : row.c ≡ (oldest_row o).c
+    row-c = ap {A = Row} (λ r. r.c) made.ticked.2
+
+    done-left : IsLeft left snaps (oldest_row o).c done
+    unfolding completed
+    done-left = record {
+      behind = behind-next t before;
+      tick_is = refl;
+      soon = oldest-in_time left tick snaps t before in_time;
+      rising = rising-first (o.now - 1) (oldest_row o).c snaps rising late;
+      in_time =
+          subst {A = Moment} (λ m. AreInTime (told (timed_from o.delays o.levels left m snaps))) (sym moment-is)
+          (All-tail (λ (y : Told). (y.tick < 2 ^ 63) × (y.done < 2 ^ 63)) (told_of (completion o.delays o.levels p))
+          (told (timed_from o.delays o.levels left next snaps)) (subst {A = List Told} AreInTime all-told in_time));
+    }
+
+    pub go-leaves : IsLeft left snaps row.c new
+    go-leaves =
+        subst {A = ℕ} (λ k. IsLeft left snaps k new) (sym row-c)
+        (subst {A = Together} (λ u. IsLeft left snaps (oldest_row o).c u) (sym new-done) done-left)
+
+    -- the row that is told
+    abbrev told_row : Row → Told
+    told_row r = once r.number r.c (Done r.address r.p r.r r.c)
+
+    row-told : told_row (row_done (at_completion o)) ≡ told_of (completion o.delays o.levels p)
+    unfolding address
+    row-told =
+        let s = o.state in
+        let rows : oldest_row o ≡ next_row o.delays o.levels p = row-before t tick before in
+        let place : (plan s o.taken).place.address ≡ address s =
+        ap {A = Option ℕ} (λ k. (plan s k).place.address) before.table ∙ plan-address s (interrupt s) in
+        ap {A = FrontRow} (λ r. once (s.done + 1) (oldest_row o).c (Done (plan s o.taken).place.address r.p r.r (oldest_row o).c)) (row-same o (oldest_row o).c)
+        ∙ ap {A = FrontRow} (λ r. once (s.done + 1) r.c (Done (plan s o.taken).place.address r.p r.r r.c)) rows
+        ∙ ap {A = ℕ} (λ k. once (s.done + 1) (next_row o.delays o.levels p).c (Done k (next_row o.delays o.levels p).p
+        (next_row o.delays o.levels p).r (next_row o.delays o.levels p).c)) place
+        ∙ ap {A = ℕ} (λ k. once k (next_row o.delays o.levels p).c (Done (address s) (next_row o.delays o.levels p).p
+        (next_row o.delays o.levels p).r (next_row o.delays o.levels p).c)) (sym (next-done left tick snaps t before in_time))
+        ∙ ap {A = ℕ} (λ k. once next.scene.machine.done k (Done (address s) (next_row o.delays o.levels p).p
+        (next_row o.delays o.levels p).r (next_row o.delays o.levels p).c))
+        (ap {A = FrontRow} (λ r. r.c) (sym rows) ∙ sym (next-tick left tick snaps t before in_time))
+
+    pub go-tells : (rest : List Told)
+        → told (timed_from new.machine.delays new.machine.levels left (moment_of new) snaps) ≡ rest
+        → told (timed_behind o.delays o.levels left p snaps) ≡ told_row row ∷ rest
+    unfolding completed
+    go-tells rest same =
+        let behind : told (timed_from o.delays o.levels left next snaps) ≡ rest =
+        ap {A = Moment} (λ m. told (timed_from o.delays o.levels left m snaps)) (sym moment-is)
+        ∙ ap {A = Together} (λ u. told (timed_from u.machine.delays u.machine.levels left (moment_of u) snaps)) (sym new-done)
+        ∙ same in
+        all-told
+        ∙ ap {A = List Told} (λ xs. told_of (completion o.delays o.levels p) ∷ xs) behind
+        ∙ ap {A = Told} (λ y. y ∷ rest) (sym row-told ∙ ap told_row (sym made.ticked.2))

@@ -1,0 +1,223 @@
+-- What is told behind an entry that has just been done, and how the run goes on there.
+use Rattle.std.specs.Prelude.{map, is_some, if◌then◌else◌, ◌||◌, IsSome, IfSome, option_map, ◌≢◌}
+use Rattle.std.proofs.Common.{◌≡◌, ℕ, ◌+◌, ◌-◌, ◌<◌, ◌≤◌, ◌^◌, Bool, true, false, List, [], ◌∷◌, ◌++◌, Option, None, Some, refl, sym, ◌∙◌, ap, subst, length, arith}
+use Rattle.st_state.specs.Machine.{Machine}
+use Rattle.st_prep.specs.Fetch.{address_by, place_of}
+use Rattle.st_prep.specs.Plan.{plan, prepared, prepared_by, suppressed, entry as entry_of, sight, aim}
+use Rattle.st_prep.specs.declared.entries.Place.{Place}
+use Rattle.st_prep.specs.declared.entries.Aim.{Aim}
+use Rattle.st_exec.specs.Step.{interrupt, rests, step, address}
+use Rattle.st_exec.specs.Run.{Scene, settled}
+use Rattle.st_exec.proofs.Runs.{step-done}
+use Rattle.st_rows.specs.declared.front.Front.{Front}
+use Rattle.st_segment.specs.Ahead.{Ahead, prepared_before}
+use Rattle.st_ahead.specs.Overlap.{Overlap, seen, oldest_row, levels_of}
+use Rattle.st_ahead.specs.Calls.{completed, row_done}
+use Rattle.st_ahead.specs.declared.events.Row.{Row}
+use Rattle.st_run.specs.Moments.{Moment, Standing, next_state, next_row, ends_segment, has_card, has_waited, next_front, standing, entries_ahead, next_moment}
+use Rattle.st_run.specs.TimedRun.{between, completion, last_events, timed_from, timed_behind}
+use Rattle.st_run.specs.Order.{AreRising}
+use Rattle.st_run.specs.Told.{What, Done, Told, told_of, told}
+use Rattle.st_run.specs.Together.{Together, scene_of, IsBefore, IsBehind, standing_of, moment_of, at_tick, GoesOn, Stops, AreTexts}
+use Rattle.st_run.specs.Telling.{Waiting, whats, at_once, told_at_end, rest_of, IsTurn, IsRun, AreInTime, IsAtFirst, IsShown, IsLeft, first_tick}
+use Rattle.st_run.specs.Ticking.{AreTicked, AreMade, at_completion}
+use Rattle.st_run.specs.Leaving.{IsWay, IsDecided}
+use Rattle.st_run.specs.declared.leaving.Decided.{Decided}
+use Rattle.st_run.specs.declared.turn.Turn.{Turn}
+use Rattle.st_run.specs.declared.turn.Turn.TheVariants as turns
+use Rattle.st_run.proofs.Turns.{timed-rests, timed-budget, timed-goes_on, behind-done, behind-none, nothing-ahead}
+use Rattle.st_run.proofs.ToldLemmas.{once, told-append, dropped_at, told-between, told-last, told-completion}
+use Rattle.st_run.proofs.MomentLemmas.{still, ready-before, ready-still, moment-next, behind-next, row-before}
+use Rattle.st_run.proofs.ProgressLemmas.{Quiet, rest-quiet}
+
+-- ---- the run ends, or goes on
+
+ends-here : (ds : List ℕ) (n left : ℕ) (m : Moment) (snaps : List ℕ) (b : Bool) → b ≡ rests (next_state m) → (b ≡ false → left ≡ 0)
+    → timed_from ds n left m snaps ≡ last_events m snaps
+ends-here ds n left m snaps true resting none = timed-rests ds n left m snaps (sym resting)
+ends-here ds n left m snaps false resting none = timed-budget ds n left m snaps (none refl)
+
+-- what is dropped, where the segment ends or not
+abbrev dropped_if : Bool → Moment → List (ℕ × ℕ)
+dropped_if ends m = if ends then map dropped_at m.dropped else []
+
+-- what waits then
+abbrev pub waits : List (ℕ × ℕ) → Option (List ℕ) → Option ℕ → Waiting
+waits drops text table = record { drops = drops; text = text; taken = table }
+
+-- by what was decided
+abbrev pub waits_by : List (ℕ × ℕ) → Decided → Waiting
+waits_by drops d = waits drops (option_map (λ x. x.bytes) d.text) d.taken
+
+module _ (ds : List ℕ) (n left tick : ℕ) (m : Moment) (snaps : List ℕ) (d : Decided) (drops : List (ℕ × ℕ)) (t : Together)
+    (text : AreTexts (option_map (λ x. x.bytes) d.text) (settled m.scene).happened)
+    (tick_is : tick ≡ m.tick) (delays : t.machine.delays ≡ ds) (levels : t.machine.levels ≡ n)
+    (dropped : drops ≡ dropped_if d.ends m) where
+  abbrev printed : Option (List ℕ)
+  printed = option_map (λ x. x.bytes) d.text
+
+  goes-told : left ≢ 0 → rests (next_state m) ≡ false → GoesOn m d.ends d.taken t
+      → told (timed_from ds n left m snaps) ≡ rest_of turns.Before (left - 1) tick snaps (waits drops printed d.taken) t
+  unfolding rest_of
+  goes-told some awake g =
+      let s = next_state m in
+      let p = standing m in
+      let k = left - 1 in
+      let rest = told (timed_behind ds n k p snaps) in
+      let state : s ≡ t.machine.state = ap {A = Scene} (λ c. c.machine) (sym g.scene) in
+      let waiting : waits (dropped_if (ends_segment m) m) printed (interrupt s) ≡ waits drops printed d.taken =
+      ap {A = Bool} (λ b. waits (dropped_if b m) printed (interrupt s)) (sym g.ends)
+      ∙ ap {A = List (ℕ × ℕ)} (λ xs. waits xs printed (interrupt s)) (sym dropped)
+      ∙ ap {A = Option ℕ} (λ o. waits drops printed o) (sym g.taken) in
+      let stand : p ≡ standing_of tick t =
+      ap {A = Scene} (λ c. record { scene = c; tick = m.tick; front = next_front m }) (sym g.scene)
+      ∙ ap {A = ℕ} (λ x. record { scene = scene_of t; tick = x; front = next_front m }) (sym tick_is)
+      ∙ ap {A = Front} (λ f. record { scene = scene_of t; tick = tick; front = f }) (sym g.front) in
+      ap told (timed-goes_on ds n left m snaps some awake)
+      ∙ told-append (between m) (timed_behind ds n k p snaps)
+      ∙ ap {A = List Told} (λ xs. xs ++ rest) (told-between m printed text)
+      ∙ ap {A = Waiting} (λ w. map (at_once m.tick s) (whats w s) ++ rest) waiting
+      ∙ ap {A = Machine} (λ u. map (at_once m.tick u) (whats (waits drops printed d.taken) u) ++ rest) state
+      ∙ ap {A = ℕ} (λ x. map (at_once x t.machine.state) (whats (waits drops printed d.taken) t.machine.state) ++ rest) (sym tick_is)
+      ∙ ap {A = List Told} (λ xs. map (at_once tick t.machine.state) (whats (waits drops printed d.taken) t.machine.state) ++ xs)
+      (ap {A = Standing} (λ q. told (timed_behind ds n k q snaps)) stand
+      ∙ ap {A = List ℕ} (λ es. told (timed_behind es n k (standing_of tick t) snaps)) (sym delays)
+      ∙ ap {A = ℕ} (λ l. told (timed_behind t.machine.delays l k (standing_of tick t) snaps)) (sym levels))
+
+  stops-told : (resting : Bool) → resting ≡ rests (next_state m) → (resting ≡ false → left ≡ 0) → d.ends ≡ true → d.taken ≡ None
+      → Stops m t
+      → told (timed_from ds n left m snaps) ≡ rest_of (turns.AtEnd resting) (left - 1) tick snaps (waits drops printed d.taken) t
+  unfolding rest_of
+  stops-told resting same none ends void g =
+      let s = next_state m in
+      let state : s ≡ t.machine.state = ap {A = Scene} (λ c. c.machine) (sym g.scene) in
+      let waiting : waits (map dropped_at m.dropped) printed None ≡ waits drops printed d.taken =
+      ap {A = Bool} (λ b. waits (dropped_if b m) printed None) (sym ends)
+      ∙ ap {A = List (ℕ × ℕ)} (λ xs. waits xs printed None) (sym dropped)
+      ∙ ap {A = Option ℕ} (λ o. waits drops printed o) (sym void) in
+      ap told (ends-here ds n left m snaps resting same none)
+      ∙ told-last m printed snaps text
+      ∙ ap {A = Waiting} (λ w. map (at_once m.tick s) (whats w s) ++ told_at_end (rests s) m.tick snaps s) waiting
+      ∙ ap {A = Bool} (λ b. map (at_once m.tick s) (whats (waits drops printed d.taken) s) ++ told_at_end b m.tick snaps s) (sym same)
+      ∙ ap {A = Machine} (λ u. map (at_once m.tick u) (whats (waits drops printed d.taken) u) ++ told_at_end resting m.tick snaps u) state
+      ∙ ap {A = ℕ} (λ x. map (at_once x t.machine.state) (whats (waits drops printed d.taken) t.machine.state)
+      ++ told_at_end resting x snaps t.machine.state) (sym tick_is)
+
+  way-told : (turn : Turn) → IsWay turn left m d t
+      → told (timed_from ds n left m snaps) ≡ rest_of turn (left - 1) tick snaps (waits drops printed d.taken) t
+  way-told turns.Before way = goes-told way.0 way.1 way.2
+  way-told (turns.AtEnd resting) way = stops-told resting way.0 way.1 way.2 way.3 way.4
+  way-told turns.Over way = absurd way
+
+  -- ---- what the run keeps there
+
+  or-true : (b : Bool) → (b || true) ≡ true
+  or-true true = refl
+  or-true false = refl
+
+  ends-taken : is_some (interrupt (next_state m)) ≡ true → ends_segment m ≡ true
+  unfolding ends_segment
+  ends-taken some = ap {A = Bool} (λ b. m.missed || has_card m || has_waited m || b) some ∙ or-true (m.missed || has_card m || has_waited m)
+
+  levels-still : (es : List ℕ) (l : ℕ) (c : Scene) (f : Front) (x now : ℕ)
+      → levels_of (still es l c.machine f now)
+      ≡ prepared_before now (entries_ahead es l (record { scene = c; tick = x; front = f }))
+  unfolding levels_of seen
+  levels-still es l c f x now = refl
+
+  none-ahead : GoesOn m d.ends d.taken t → IsSome d.taken → levels_of t.machine ≡ []
+  none-ahead g some =
+      let o = t.machine in
+      let stand : standing_of m.tick t ≡ standing m =
+      ap {A = Scene} (λ c. record { scene = c; tick = m.tick; front = o.front }) g.scene
+      ∙ ap {A = Front} (λ f. record (standing m) { front = f }) g.front in
+      let taken : is_some (interrupt (next_state m)) ≡ true = ap is_some (sym g.taken) ∙ some in
+      ap levels_of (ready-still o (ready-before t g.before))
+      ∙ levels-still o.delays o.levels (scene_of t) o.front m.tick o.now
+      ∙ ap {A = ℕ} (λ k. prepared_before k (entries_ahead o.delays o.levels (standing_of m.tick t))) g.now
+      ∙ ap {A = Standing} (λ p. prepared_before (m.tick + 1) (entries_ahead o.delays o.levels p)) stand
+      ∙ nothing-ahead o.delays o.levels m m.tick (ends-taken taken) (omega arith)
+
+  rising-on : (xs : List ℕ) → AreRising tick xs → AreRising (tick + 1 - 1) xs
+  unfolding AreRising
+  rising-on [] is = tt
+  rising-on (x ∷ xs) is = (omega (arith, is.0), is.1)
+
+  way-stands : (turn : Turn) → IsWay turn left m d t → AreRising tick snaps → IsTurn turn (tick + 1) snaps t
+  way-stands turns.Before way rising =
+      let g : GoesOn m d.ends d.taken t = way.2 in
+      (g.before, ap {A = ℕ} (λ x. x + 1) tick_is ∙ sym g.now, rising-on snaps rising)
+  way-stands (turns.AtEnd resting) way rising = let g : Stops m t = way.4 in g.none
+  way-stands turns.Over way rising = absurd way
+
+  way-taken : (turn : Turn) → IsWay turn left m d t → IsSome d.taken → levels_of t.machine ≡ []
+  way-taken turns.Before way some = none-ahead way.2 some
+  way-taken (turns.AtEnd resting) way some = let g : Stops m t = way.4 in g.none
+  way-taken turns.Over way some = absurd way
+
+-- the answers to how a run is left
+module _ (left tick : ℕ) (snaps : List ℕ) (old t : Together) (d : Decided) (drops : List (ℕ × ℕ))
+    (is : IsLeft left snaps tick old) (decided : IsDecided left (moment_of old) d t)
+    (delays : t.machine.delays ≡ old.machine.delays) (levels : t.machine.levels ≡ old.machine.levels)
+    (dropped : drops ≡ (if d.ends then map dropped_at (levels_of old.machine) else [])) where
+  pub left-told : told (timed_from old.machine.delays old.machine.levels left (moment_of old) snaps)
+      ≡ rest_of d.turn (left - 1) tick snaps (waits drops (option_map (λ x. x.bytes) d.text) d.taken) t
+  left-told =
+      way-told old.machine.delays old.machine.levels left tick (moment_of old) snaps d drops t decided.text is.tick_is delays levels dropped
+      d.turn decided.way
+
+  pub left-keeps : IsRun d.turn (left - 1) tick (tick + 1) snaps (waits drops (option_map (λ x. x.bytes) d.text) d.taken) t
+  left-keeps =
+      let m = moment_of old in
+      record {
+        stands =
+            way-stands old.machine.delays old.machine.levels left tick m snaps d drops t decided.text is.tick_is delays levels dropped
+            d.turn decided.way is.rising;
+        taken =
+            way-taken old.machine.delays old.machine.levels left tick m snaps d drops t decided.text is.tick_is delays levels dropped
+            d.turn decided.way;
+        in_time = subst {A = List Told} AreInTime left-told is.in_time;
+      }
+
+-- ---- an entry is done
+
+by-place : (o : Option ℕ) (place : Place) (a : Aim) (x : List ℕ) (read : Option ℕ) → (prepared_by o place a x read).place ≡ place
+unfolding suppressed entry_of
+by-place None place a x read = refl
+by-place (Some i) place a x read = refl
+
+pub plan-address : (s : Machine) (t : Option ℕ) → (plan s t).place.address ≡ address_by t s
+unfolding plan prepared sight place_of
+plan-address s t = ap {A = Place} (λ q. q.address) (by-place _ (place_of s t) _ _ _)
+
+module _ (left tick : ℕ) (snaps : List ℕ) (t : Together) (before : IsBefore t)
+    (in_time : AreInTime (told (timed_behind t.machine.delays t.machine.levels left (standing_of tick t) snaps))) where
+  abbrev p : Standing
+  p = standing_of tick t
+
+  abbrev next : Moment
+  next = next_moment t.machine.delays t.machine.levels p
+
+  completion-told : told_of (completion t.machine.delays t.machine.levels p)
+      ≡ once next.scene.machine.done next.tick
+      (Done (address t.machine.state) (next_row t.machine.delays t.machine.levels p).p
+      (next_row t.machine.delays t.machine.levels p).r (next_row t.machine.delays t.machine.levels p).c)
+  completion-told = refl
+
+  pub next-done : next.scene.machine.done ≡ t.machine.state.done + 1
+  unfolding next_moment
+  next-done = step-done t.machine.state
+
+  pub next-tick : next.tick ≡ (oldest_row t.machine).c
+  unfolding next_moment
+  next-tick = ap (λ r. r.c) (sym (row-before t tick before))
+
+  next-in_time : (next.tick < 2 ^ 63) × (next.scene.machine.done < 2 ^ 63)
+  next-in_time =
+      told-completion (λ (y : Told). (y.tick < 2 ^ 63) × (y.done < 2 ^ 63)) t.machine.delays t.machine.levels left p snaps in_time
+
+  pub oldest-in_time : (oldest_row t.machine).c < 2 ^ 63
+  oldest-in_time = omega (arith, next-in_time.0, next-tick)
+
+  pub done-in_time : t.machine.state.done < 2 ^ 63
+  done-in_time = omega (arith, next-in_time.1, next-done)

@@ -1,0 +1,52 @@
+-- What waits is told before the run goes on.
+use Rattle.std.specs.Prelude.{map, IsSome}
+use Rattle.std.proofs.Common.{◌≡◌, ℕ, ◌<◌, ◌^◌, Bool, List, [], ◌∷◌, ◌++◌, Option, None, Some, refl, sym, ◌∙◌, ap, subst}
+use Rattle.std.proofs.lemmas.List.Elements.{All-tail}
+use Rattle.st_ahead.specs.Overlap.{levels_of}
+use Rattle.st_run.specs.Told.{What, Told, told}
+use Rattle.st_run.specs.TimedRun.{timed_behind}
+use Rattle.st_run.specs.Together.{Together, IsBefore, standing_of}
+use Rattle.st_run.specs.Telling.{Waiting, whats, at_once, rest_of, rest_by, told_at_end, IsTurn, IsRun, AreInTime}
+use Rattle.st_run.specs.declared.turn.Turn.{Turn}
+use Rattle.st_run.specs.declared.turn.Turn.TheVariants as turns
+use Rattle.st_run.proofs.ProgressLemmas.{Quiet, rest-quiet}
+
+module _ (turn : Turn) (left tick now : ℕ) (snaps : List ℕ) (w v : Waiting) (t : Together) (x y : What)
+    (first : whats w t.machine.state ≡ x ∷ whats v t.machine.state) (same : x ≡ y) where
+  pub next-tells : rest_of turn left tick snaps w t ≡ at_once tick t.machine.state y ∷ rest_of turn left tick snaps v t
+  unfolding rest_of
+  next-tells =
+      let s = t.machine.state in
+      ap {A = List What} (λ xs. map (at_once tick s) xs ++ rest_by turn left tick snaps t) first
+      ∙ ap {A = What} (λ z. at_once tick s z ∷ (map (at_once tick s) (whats v s) ++ rest_by turn left tick snaps t)) same
+
+  pub next-keeps : IsRun turn left tick now snaps w t → (IsSome v.taken → IsSome w.taken) → IsRun turn left tick now snaps v t
+  next-keeps is kept = record {
+    stands = is.stands;
+    taken = λ some. is.taken (kept some);
+    in_time =
+        All-tail (λ (z : Told). (z.tick < 2 ^ 63) × (z.done < 2 ^ 63)) (at_once tick t.machine.state y) (rest_of turn left tick snaps v t)
+        (subst {A = List Told} AreInTime next-tells is.in_time);
+  }
+
+-- where nothing waits the turn decides
+module _ (turn : Turn) (left tick now : ℕ) (snaps : List ℕ) (w v : Waiting) (t : Together) (quiet : Quiet w) (kept : v ≡ w)
+    (is : IsRun turn left tick now snaps w t) where
+  pub still-quiet : Quiet v
+  still-quiet = subst {A = Waiting} Quiet (sym kept) quiet
+
+  pub still-run : IsRun turn left tick now snaps v t
+  still-run = subst {A = Waiting} (λ u. IsRun turn left tick now snaps u t) (sym kept) is
+
+  pub turn-run : (k : Turn) → turn ≡ k → IsRun k left tick now snaps v t
+  turn-run k same = subst {A = Turn} (λ k. IsRun k left tick now snaps v t) same still-run
+
+  pub turn-rest : (k : Turn) → turn ≡ k → rest_of turn left tick snaps w t ≡ rest_by k left tick snaps t
+  turn-rest k same =
+      rest-quiet turn left tick snaps w t quiet ∙ ap {A = Turn} (λ k. rest_by k left tick snaps t) same
+
+  pub end-levels : (rests : Bool) → turn ≡ turns.AtEnd rests → levels_of t.machine ≡ []
+  end-levels rests same = (turn-run (turns.AtEnd rests) same).stands
+
+  pub end-in_time : (rests : Bool) → turn ≡ turns.AtEnd rests → AreInTime (told_at_end rests tick snaps t.machine.state)
+  end-in_time rests same = subst {A = List Told} AreInTime (turn-rest (turns.AtEnd rests) same) is.in_time

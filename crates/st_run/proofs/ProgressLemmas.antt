@@ -1,0 +1,209 @@
+-- How a run goes on from one thing that it tells to the next.
+use Rattle.std.specs.Prelude.{map, reverse, is_some, if◌then◌else◌, nat_lt, ◌||◌, IsSome, IfSome, All}
+use Rattle.std.proofs.Common.{◌≡◌, ℕ, ◌+◌, ◌-◌, ◌<◌, ◌≤◌, ◌^◌, Bool, true, false, List, [], ◌∷◌, ◌++◌, Option, None, Some, refl, sym, ◌∙◌, ap, subst, append-nil, length, arith}
+use Rattle.std.proofs.lemmas.Bool.{lt-ltb, le-ltb}
+use Rattle.std.proofs.lemmas.List.Elements.{All-nil, All-head, All-tail}
+use Rattle.st_state.specs.Machine.{Machine}
+use Rattle.st_prep.specs.Fetch.{address_by, place_of, index_words}
+use Rattle.st_prep.specs.Plan.{plan, prepared, prepared_by, suppressed, entry as entry_of, sight, aim}
+use Rattle.st_prep.specs.declared.entries.Place.{Place}
+use Rattle.st_prep.specs.declared.entries.Aim.{Aim}
+use Rattle.st_exec.specs.Step.{interrupt, rests, step, address}
+use Rattle.st_exec.specs.Run.{Scene, settled}
+use Rattle.st_exec.proofs.Runs.{step-done}
+use Rattle.st_rows.specs.declared.front.Front.{Front}
+use Rattle.st_segment.specs.Ahead.{Ahead, prepared_before}
+use Rattle.st_segment.specs.Guesses.{split_words}
+use Rattle.st_ahead.specs.Overlap.{Overlap, seen, oldest_row, levels_of, with_counter, last_tick}
+use Rattle.st_ahead.specs.Shown.{index_of}
+use Rattle.st_ahead.specs.Calls.{completed, row_done}
+use Rattle.st_ahead.specs.declared.events.Row.{Row}
+use Rattle.st_run.specs.Events.{Timed, Level, snapshot, level_at, with_index_words}
+use Rattle.st_run.specs.Moments.{Moment, Standing, next_state, next_scene, next_row, ends_segment, next_front, standing, entries_ahead, next_moment}
+use Rattle.st_run.specs.TimedRun.{ticks_before, snapshot_at, between, completion, last_events, timed_from, timed_behind}
+use Rattle.st_run.specs.Order.{AreRising}
+use Rattle.st_run.specs.Told.{What, Done, Dropped, Interrupted, Shown, Ended, Told, told_of, told}
+use Rattle.st_run.specs.Together.{Together, scene_of, IsBefore, IsBehind, standing_of, moment_of, at_tick, GoesOn, Stops, AreTexts, text_told}
+use Rattle.st_run.specs.Telling.{Waiting, taken_told, whats, at_once, told_at_end, rest_of, rest_by, seen_of, ahead_of, IsTurn, IsRun, AreInTime, IsAtFirst, IsShown, IsLeft, first_tick}
+use Rattle.st_run.specs.Ticking.{AreTicked, AreMade, at_completion}
+use Rattle.st_run.specs.Leaving.{IsWay, IsDecided}
+use Rattle.st_run.specs.declared.leaving.Decided.{Decided}
+use Rattle.st_run.specs.declared.turn.Turn.{Turn}
+use Rattle.st_run.specs.declared.turn.Turn.TheVariants as turns
+use Rattle.st_run.proofs.Turns.{timed-rests, timed-budget, timed-goes_on, behind-snapshot, behind-done, behind-none, same-words, nothing-ahead}
+use Rattle.st_run.proofs.ToldLemmas.{once, told-append, dropped_at, told-between, told-last, told-completion}
+use Rattle.st_run.proofs.TickLemmas.{calm}
+use Rattle.st_run.proofs.MomentLemmas.{still, ready-before, ready-still, moment-next, behind-next, row-before}
+
+-- ---- nothing waits
+
+abbrev pub Quiet : Waiting → Type 0
+Quiet w = (s : Machine) → whats w s ≡ []
+
+not-end : (xs : List What) (x : What) → xs ++ x ∷ [] ≡ [] → ⊥
+not-end [] x none = cc
+not-end (y ∷ ys) x none = cc
+
+quiet-by : (o : Option ℕ) (xs : List What) (s : Machine) → xs ++ taken_told o s ≡ [] → o ≡ None
+quiet-by None xs s none = refl
+quiet-by (Some i) xs s none = absurd (not-end xs (Interrupted i s) none)
+
+none-some : (o : Option ℕ) (P : Type 0) → o ≡ None → IsSome o → P
+none-some None P none some = absurd (cc some)
+none-some (Some i) P none some = absurd (cc none)
+
+-- so no interrupt does
+pub quiet-taken : (w : Waiting) (s : Machine) (P : Type 0) → Quiet w → IsSome w.taken → P
+unfolding whats
+quiet-taken w s P quiet some =
+    none-some w.taken P
+    (quiet-by w.taken (map (λ (d : ℕ × ℕ). Dropped d.0 d.1) (reverse w.drops) ++ text_told w.text) s (quiet s)) some
+
+pub rest-quiet : (turn : Turn) (left tick : ℕ) (snaps : List ℕ) (w : Waiting) (t : Together) → Quiet w
+    → rest_of turn left tick snaps w t ≡ rest_by turn left tick snaps t
+unfolding rest_of
+rest-quiet turn left tick snaps w t quiet =
+    ap (λ (xs : List What). map (at_once tick t.machine.state) xs ++ rest_by turn left tick snaps t) (quiet t.machine.state)
+
+-- ---- what is shown where nothing is ahead
+
+index-seen : (ended : Bool) (h : Option ℕ) (s : Machine)
+    → index_words (if ended then s else with_counter h s) ≡ index_words s
+unfolding index_words
+index-seen true h s = refl
+index-seen false None s = refl
+index-seen false (Some h) s = refl
+
+pub seen-none : (o : Overlap) → levels_of o ≡ [] → seen_of o ≡ o.state
+unfolding index_of split_words seen
+seen-none o none =
+    ap (λ (xs : List Ahead). with_index_words (split_words (length xs) o.taken (seen o)) o.state) none
+    ∙ ap (λ (xs : List ℕ). with_index_words xs o.state) (index-seen o.ended o.behind o.state)
+    ∙ same-words o.state
+
+pub ahead-none : (o : Overlap) → levels_of o ≡ [] → ahead_of o ≡ []
+ahead-none o none = ap (map (level_at (last_tick o))) none
+
+-- ---- a snapshot before the next entry
+
+shown-still : (ds : List ℕ) (n : ℕ) (c : Scene) (f : Front) (tick x : ℕ)
+    → told_of (snapshot_at ds n (record { scene = c; tick = tick; front = f }) x)
+    ≡ once c.machine.done tick
+    (Shown x (seen_of (still ds n c.machine f (x + 1))) (ahead_of (still ds n c.machine f (x + 1))))
+unfolding snapshot index_of levels_of seen
+shown-still ds n c f tick x =
+    let same : x ≡ x + 1 - 1 = omega arith in
+    let levels = prepared_before (x + 1) (entries_ahead ds n (record { scene = c; tick = tick; front = f })) in
+    ap (λ (k : ℕ). once c.machine.done tick
+    (Shown x (with_index_words (split_words (length levels) (interrupt c.machine) c.machine) c.machine) (map (level_at k) levels))) same
+
+pub show-told : (left tick x : ℕ) (xs : List ℕ) (t : Together) → IsBefore t → t.machine.now ≡ x + 1
+    → told (timed_behind t.machine.delays t.machine.levels left (standing_of tick t) (x ∷ xs))
+    ≡ at_once tick t.machine.state (Shown x (seen_of t.machine) (ahead_of t.machine))
+    ∷ told (timed_behind t.machine.delays t.machine.levels left (standing_of tick t) xs)
+unfolding told next_moment
+show-told left tick x xs t h now =
+    let o = t.machine in
+    let ds = o.delays in
+    let n = o.levels in
+    let p = standing_of tick t in
+    let row : oldest_row o ≡ next_row ds n p = row-before t tick h in
+    let early : x < (next_moment ds n p).tick = omega (arith, h.early, now, ap (λ r. r.c) row) in
+    let machine : o ≡ still ds n o.state o.front (x + 1) =
+    ready-still o (ready-before t h) ∙ ap {A = ℕ} (λ k. still ds n o.state o.front k) now in
+    ap told (behind-snapshot ds n left p x xs early)
+    ∙ ap (λ (y : Told). y ∷ told (timed_behind ds n left p xs))
+    (shown-still ds n (scene_of t) o.front tick x
+    ∙ ap {A = Overlap} (λ q. once o.state.done tick (Shown x (seen_of q) (ahead_of q))) (sym machine))
+
+rising-same : (x : ℕ) (xs : List ℕ) → AreRising (x + 1) xs → AreRising (x + 1 - 1) xs
+unfolding AreRising
+rising-same x [] is = tt
+rising-same x (y ∷ ys) is = (omega (arith, is.0), is.1)
+
+-- it is told, and no longer comes
+module _ (left tick x : ℕ) (xs snaps : List ℕ) (w : Waiting) (t : Together) (turn : Turn)
+    (first : snaps ≡ x ∷ xs) (shown : IsShown left tick snaps t) (before : turn ≡ turns.Before) (quiet : Quiet w) where
+  shown_first : IsShown left tick (x ∷ xs) t
+  shown_first = subst {A = List ℕ} (λ k. IsShown left tick k t) first shown
+
+  pub show-tells : told (timed_behind t.machine.delays t.machine.levels left (standing_of tick t) snaps)
+      ≡ at_once tick t.machine.state (Shown x (seen_of t.machine) (ahead_of t.machine)) ∷ rest_of turn left tick xs w t
+  show-tells =
+      let p = standing_of tick t in
+      ap {A = List ℕ} (λ k. told (timed_behind t.machine.delays t.machine.levels left p k)) first
+      ∙ show-told left tick x xs t shown_first.before shown_first.first.0
+      ∙ ap {A = List Told} (λ rest. at_once tick t.machine.state (Shown x (seen_of t.machine) (ahead_of t.machine)) ∷ rest)
+      (sym (rest-quiet turns.Before left tick xs w t quiet)
+      ∙ ap {A = Turn} (λ k. rest_of k left tick xs w t) (sym before))
+
+  pub show-keeps : IsRun turn left tick (x + 1) xs w t
+  show-keeps =
+      let told_first = show-tells in
+      let run : IsRun turns.Before left tick (x + 1) xs w t = record {
+        stands = (shown.before, sym shown_first.first.0, rising-same x xs shown_first.first.1);
+        taken = quiet-taken w t.machine.state (levels_of t.machine ≡ []) quiet;
+        in_time =
+            let all = subst {A = List Told} AreInTime show-tells shown.in_time in
+            subst {A = Turn} (λ k. AreInTime (rest_of k left tick xs w t)) before
+            (All-tail (λ (y : Told). (y.tick < 2 ^ 63) × (y.done < 2 ^ 63)) _ (rest_of turn left tick xs w t) all);
+      } in
+      subst {A = Turn} (λ k. IsRun k left tick (x + 1) xs w t) (sym before) run
+
+-- ---- at the end
+
+due-first : (rests : Bool) (tick x : ℕ) (xs : List ℕ) (s : Machine) → x ≤ tick
+    → told_at_end rests tick (x ∷ xs) s ≡ at_once tick s (Shown x s []) ∷ told_at_end rests tick xs s
+unfolding told_at_end ticks_before
+due-first rests tick x xs s due = let soon : x < tick + 1 = omega arith in rw (lt-ltb x (tick + 1) soon) refl
+
+due-none : (rests : Bool) (tick : ℕ) (snaps : List ℕ) (s : Machine) → IfSome (first_tick snaps) (λ x. tick < x)
+    → told_at_end rests tick snaps s ≡ at_once tick s (Ended rests s) ∷ []
+unfolding told_at_end ticks_before
+due-none rests tick [] s late = refl
+due-none rests tick (x ∷ xs) s late = let far : tick + 1 ≤ x = omega (arith, late) in rw (le-ltb x (tick + 1) far) refl
+
+module _ (rests : Bool) (left tick now : ℕ) (snaps : List ℕ) (w : Waiting) (t : Together)
+    (none : levels_of t.machine ≡ []) (in_time : AreInTime (told_at_end rests tick snaps t.machine.state)) (quiet : Quiet w) where
+  abbrev state : Machine
+  state = t.machine.state
+
+  pub end-tells : IfSome (first_tick snaps) (λ x. tick < x)
+      → told_at_end rests tick snaps state
+      ≡ at_once tick state (Ended rests (seen_of t.machine)) ∷ rest_of turns.Over left tick snaps w t
+  end-tells late =
+      due-none rests tick snaps state late
+      ∙ ap {A = Machine} (λ s. at_once tick state (Ended rests s) ∷ []) (sym (seen-none t.machine none))
+      ∙ ap {A = List Told} (λ rest. at_once tick state (Ended rests (seen_of t.machine)) ∷ rest)
+      (sym (rest-quiet turns.Over left tick snaps w t quiet))
+
+  pub end-keeps : IsRun turns.Over left tick now snaps w t
+  end-keeps = record {
+    stands = none;
+    taken = quiet-taken w state (levels_of t.machine ≡ []) quiet;
+    in_time = subst {A = List Told} AreInTime (sym (rest-quiet turns.Over left tick snaps w t quiet)) (All-nil _);
+  }
+
+  module _ (x : ℕ) (xs : List ℕ) (turn : Turn) (first : snaps ≡ x ∷ xs) (due : x ≤ tick) (at_end : turn ≡ turns.AtEnd rests) where
+    pub last-tells : told_at_end rests tick snaps state
+        ≡ at_once tick state (Shown x (seen_of t.machine) (ahead_of t.machine)) ∷ rest_of turn left tick xs w t
+    last-tells =
+        ap {A = List ℕ} (λ k. told_at_end rests tick k state) first
+        ∙ due-first rests tick x xs state due
+        ∙ ap {A = Machine} (λ s. at_once tick state (Shown x s []) ∷ told_at_end rests tick xs state) (sym (seen-none t.machine none))
+        ∙ ap {A = List Level} (λ ls. at_once tick state (Shown x (seen_of t.machine) ls) ∷ told_at_end rests tick xs state)
+        (sym (ahead-none t.machine none))
+        ∙ ap {A = List Told} (λ rest. at_once tick state (Shown x (seen_of t.machine) (ahead_of t.machine)) ∷ rest)
+        (sym (rest-quiet (turns.AtEnd rests) left tick xs w t quiet)
+        ∙ ap {A = Turn} (λ k. rest_of k left tick xs w t) (sym at_end))
+
+    pub last-keeps : IsRun turn left tick now xs w t
+    last-keeps =
+        let all = subst {A = List Told} AreInTime last-tells in_time in
+        subst {A = Turn} (λ k. IsRun k left tick now xs w t) (sym at_end) (record {
+          stands = none;
+          taken = quiet-taken w state (levels_of t.machine ≡ []) quiet;
+          in_time =
+              subst {A = Turn} (λ k. AreInTime (rest_of k left tick xs w t)) at_end
+              (All-tail (λ (y : Told). (y.tick < 2 ^ 63) × (y.done < 2 ^ 63)) _ (rest_of turn left tick xs w t) all);
+        })

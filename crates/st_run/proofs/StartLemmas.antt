@@ -1,0 +1,303 @@
+-- The start of a run, where no interrupt is enabled, nothing waits and no order is given.
+use Rattle.std.specs.Prelude.{map, reverse, slice_index, is_some, nat_lt, nat_le, if◌then◌else◌, All}
+use Rattle.std.specs.List.Sorted.{IsStrictlyIncreasing}
+use Rattle.std.proofs.Common.{◌≡◌, ◌≢◌, ℕ, zero, suc, ◌+◌, ◌-◌, ◌*◌, ◌<◌, ◌≤◌, ◌^◌, Bool, true, false, ◌||◌, List, [], ◌∷◌, ◌++◌, length, Option, None, Some, refl, sym, ◌∙◌, ap, subst, arith}
+use Rattle.std.proofs.Math.Nat.{mul-le-mul_left}
+use Rattle.std.proofs.lemmas.Bool.{le-ltb}
+use Rattle.std.proofs.lemmas.List.Elements.{All-nil, All-cons, All-append, All-head, All-tail, All-weaker}
+use Rattle.st_state.specs.Machine.{Machine, IsMachine}
+use Rattle.st_state.specs.Interrupts.{signalled}
+use Rattle.st_state.specs.Orders.{next_device}
+use Rattle.st_state.specs.declared.devices.Order.{Order}
+use Rattle.st_prep.proofs.Choices.{of_choice}
+use Rattle.st_exec.specs.Step.{interrupt, rests}
+use Rattle.st_exec.specs.Run.{Signal, Scene, Happening, Ends, with_due_signals, with_due_orders, with_order_at_rest, with_signals_at_rest, with_wait, settled, interrupts_by, if_due, Reached, nothing, and_then, with_reader, with_printer, with_device}
+use Rattle.st_rows.specs.Ranges.{AreDelays}
+use Rattle.st_rows.specs.Rows.{opening}
+use Rattle.st_ahead.specs.Overlap.{Overlap, started, oldest_row}
+use Rattle.st_segment.specs.Ahead.{Ahead}
+use Rattle.st_exec.proofs.Runs.{step-done}
+use Rattle.st_run.specs.Events.{Timed, drop_of}
+use Rattle.st_run.specs.Scenes.{IsCard, IsScene}
+use Rattle.st_run.specs.Moments.{Moment, Standing, start, unread, next_scene, next_state, has_card, has_waited, ends_segment, next_segment, next_front, standing, next_moment}
+use Rattle.st_run.specs.TimedRun.{at, ticks_before, ticks_from, snapshot_at, last_snapshot_at, drops, drops_if_ends, happening_at, between, completion, until_done, last_events, timed_from, timed_behind, timed_run}
+use Rattle.st_run.specs.Order.{AreRising}
+use Rattle.st_run.specs.Told.{Told, told_of, told}
+use Rattle.st_run.specs.Together.{Together, scene_of, with_scene, IsBefore, standing_of}
+use Rattle.st_run.specs.Telling.{Waiting, whats, rest_of, IsRun, AreInTime}
+use Rattle.st_run.specs.declared.turn.Turn.TheVariants as turns
+use Rattle.st_run.proofs.ProgressLemmas.{Quiet, rest-quiet}
+use Rattle.st_run.proofs.Turns.{timed-goes_on}
+use Rattle.st_run.proofs.Bounds.{run-time}
+use Rattle.st_run.proofs.DoneLemmas.{settled-done}
+use Rattle.st_run.proofs.SceneLemmas.{due-scene}
+
+-- ---- signals leave that
+
+pub record IsIdle (s : Machine) : Type 0 where
+  pub enabled : s.enabled ≡ false
+  pub waiting : s.waiting ≡ false
+  pub reader : s.reader ≡ None
+  pub printer : s.printer ≡ None
+
+signals-idle : (s : Machine) (xs : List Signal) (cards : List (List ℕ)) → IsIdle s → IsIdle (with_due_signals s xs cards).machine
+signals-idle s [] cards is = is
+signals-idle s (x ∷ xs) cards is =
+    of_choice (λ (c : Scene). IsIdle c.machine) (nat_le x.count s.done) (with_due_signals (signalled s x.indicator) xs cards) _
+    (signals-idle (signalled s x.indicator) xs cards (record { enabled = is.enabled; waiting = is.waiting; reader = is.reader; printer = is.printer })) is
+
+signals-cards : (s : Machine) (xs : List Signal) (cards : List (List ℕ)) → (with_due_signals s xs cards).cards ≡ cards
+signals-cards s [] cards = refl
+signals-cards s (x ∷ xs) cards =
+    of_choice (λ (c : Scene). c.cards ≡ cards) (nat_le x.count s.done) (with_due_signals (signalled s x.indicator) xs cards) _
+    (signals-cards (signalled s x.indicator) xs cards) refl
+
+idle-rests : (s : Machine) → IsIdle s → rests s ≡ false
+idle-rests s is = rw is.waiting refl
+
+idle-interrupt : (s : Machine) → IsIdle s → interrupt s ≡ None
+idle-interrupt s is = rw is.enabled refl
+
+-- ---- so nothing comes between the start and the first entry but signals
+
+orders-idle : (c : Scene) → IsIdle c.machine → with_due_orders c ≡ nothing c
+unfolding with_due_orders
+orders-idle c is =
+    ap {A = Option Order} (λ o. and_then (with_reader (if_due c.machine.done o) c)
+    (λ e. with_printer (if_due e.machine.done e.machine.printer) e)) is.reader
+    ∙ ap {A = Option Order} (λ o. and_then (nothing c) (λ e. with_printer (if_due c.machine.done o) c)) is.printer
+
+rest-idle : (s : Machine) (xs : List Signal) (cards : List (List ℕ)) → rests s ≡ false
+    → with_signals_at_rest s xs cards ≡ record { machine = s; signals = xs; cards = cards }
+rest-idle s [] cards awake = refl
+rest-idle s (x ∷ xs) cards awake = rw awake refl
+
+order-idle : (c : Scene) → rests c.machine ≡ false → with_order_at_rest c ≡ nothing c
+unfolding with_order_at_rest
+order-idle c awake = ap {A = Bool} (λ b. if b then with_device (next_device c.machine) c else nothing c) awake
+
+wait-idle : (c : Scene) → rests c.machine ≡ false → with_wait c ≡ nothing c
+unfolding with_wait
+wait-idle c awake =
+    let ending : Scene → Reached = λ d. nothing (with_signals_at_rest d.machine d.signals d.cards) in
+    ap {A = Reached} (λ r. and_then (and_then r with_order_at_rest) ending) (order-idle c awake)
+    ∙ ap {A = Reached} (λ r. and_then (and_then (nothing c) (λ d. r)) ending) (order-idle c awake)
+    ∙ ap {A = Scene} (λ d. nothing d) (rest-idle c.machine c.signals c.cards awake)
+
+module _ (c : Scene) (is : IsIdle c.machine) where
+  abbrev pub due : Scene
+  due = with_due_signals c.machine c.signals c.cards
+
+  due-idle : IsIdle due.machine
+  due-idle = signals-idle c.machine c.signals c.cards is
+
+  settled-idle : settled c ≡ nothing due
+  unfolding settled
+  settled-idle =
+      ap {A = Reached} (λ r. and_then r with_wait) (orders-idle due due-idle)
+      ∙ ap {A = Reached} (λ r. and_then (nothing due) (λ d. r)) (wait-idle due (idle-rests due.machine due-idle))
+
+  same-not_less : (n : ℕ) → nat_lt n n ≡ false
+  same-not_less n = let le : n ≤ n = omega arith in le-ltb n n le
+
+  no-card : has_card (start c) ≡ false
+  no-card =
+      ap {A = Reached} (λ r. nat_lt (length r.scene.cards) (length c.cards)) settled-idle
+      ∙ ap {A = List (List ℕ)} (λ xs. nat_lt (length xs) (length c.cards)) (signals-cards c.machine c.signals c.cards)
+      ∙ same-not_less (length c.cards)
+
+  no-wait : has_waited (start c) ≡ false
+  no-wait = ap {A = Reached} (λ r. rests r.scene.machine) (orders-idle due due-idle) ∙ idle-rests due.machine due-idle
+
+  no-interrupt : is_some (interrupt (next_state (start c))) ≡ false
+  no-interrupt =
+      ap {A = Reached} (λ r. is_some (interrupt r.scene.machine)) settled-idle
+      ∙ ap is_some (idle-interrupt due.machine due-idle)
+
+  no-end : ends_segment (start c) ≡ false
+  unfolding ends_segment
+  no-end =
+      ap {A = Bool} (λ b. false || b || has_waited (start c) || is_some (interrupt (next_state (start c)))) no-card
+      ∙ ap {A = Bool} (λ b. false || false || b || is_some (interrupt (next_state (start c)))) no-wait
+      ∙ ap {A = Bool} (λ b. false || false || false || b) no-interrupt
+
+  abbrev pub first : Standing
+  first = record { scene = due; tick = 0; front = opening unread 0 }
+
+  standing-idle : standing (start c) ≡ first
+  unfolding next_front
+  standing-idle =
+      ap {A = Reached} (λ r. record (standing (start c)) { scene = r.scene }) settled-idle
+      ∙ ap {A = Bool} (λ b. record { scene = due; tick = 0; front = if b then next_segment (start c) else opening unread 0 }) no-end
+
+  between-idle : between (start c) ≡ []
+  unfolding between
+  between-idle =
+      let m = start c in
+      ap {A = Bool} (λ b. (if b then drops m else []) ++ map (happening_at m)
+      ((settled c).happened ++ interrupts_by (interrupt (next_state m)) (next_state m))) no-end
+      ∙ ap {A = Reached} (λ r. map (happening_at m) (r.happened ++ interrupts_by (interrupt r.scene.machine) r.scene.machine)) settled-idle
+      ∙ ap {A = Option ℕ} (λ o. map (happening_at m) (interrupts_by o due.machine)) (idle-interrupt due.machine due-idle)
+
+  awake-idle : rests (next_state (start c)) ≡ false
+  awake-idle = ap {A = Reached} (λ r. rests r.scene.machine) settled-idle ∙ idle-rests due.machine due-idle
+
+  pub run-idle : (ds : List ℕ) (n budget : ℕ) (snaps : List ℕ) → budget ≢ 0
+      → timed_run ds n budget c snaps ≡ timed_behind ds n (budget - 1) first snaps
+  run-idle ds n budget snaps some =
+      timed-goes_on ds n budget (start c) snaps some awake-idle
+      ∙ ap {A = List Timed} (λ xs. xs ++ timed_behind ds n (budget - 1) (standing (start c)) snaps) between-idle
+      ∙ ap {A = Standing} (λ p. timed_behind ds n (budget - 1) p snaps) standing-idle
+
+-- ---- how many are done
+
+abbrev IsFew : ℕ → Timed → Type 0
+IsFew b x = x.done ≤ b
+
+each-few : {A : Type 0} (b : ℕ) (f : A → Timed) (xs : List A) → ((x : A) → IsFew b (f x)) → All (IsFew b) (map f xs)
+each-few b f [] holds = All-nil (IsFew b)
+each-few b f (x ∷ xs) holds = All-cons (IsFew b) (f x) (map f xs) (holds x) (each-few b f xs holds)
+
+module _ (b : ℕ) (m : Moment) (few : m.scene.machine.done ≤ b) where
+  drops-few : All (IsFew b) (drops m)
+  unfolding drops
+  drops-few = each-few b (λ (a : Ahead). at m.tick m.scene.machine (drop_of a)) (reverse m.dropped) (λ a. few)
+
+  happenings-few : (hs : List Happening) → All (IsFew b) (map (happening_at m) hs)
+  happenings-few hs = each-few b (happening_at m) hs (λ h. few)
+
+  between-few : All (IsFew b) (between m)
+  unfolding between
+  between-few =
+      let hs = (settled m.scene).happened ++ interrupts_by (interrupt (next_state m)) (next_state m) in
+      All-append (IsFew b) (drops_if_ends m) (map (happening_at m) hs)
+      (of_choice (λ (xs : List Timed). All (IsFew b) xs) (ends_segment m) (drops m) [] drops-few (All-nil (IsFew b)))
+      (happenings-few hs)
+
+  last-few : (snaps : List ℕ) → All (IsFew b) (last_events m snaps)
+  unfolding last_events
+  last-few snaps =
+      let came = map (happening_at m) (settled m.scene).happened in
+      let shows = map (last_snapshot_at m) (ticks_before (m.tick + 1) snaps) in
+      let last = happening_at m (Ends (next_state m) (rests (next_state m))) in
+      All-append (IsFew b) (drops m ++ came ++ shows) (last ∷ [])
+      (All-append (IsFew b) (drops m ++ came) shows
+      (All-append (IsFew b) (drops m) came drops-few (happenings-few (settled m.scene).happened))
+      (each-few b (last_snapshot_at m) (ticks_before (m.tick + 1) snaps) (λ x. few)))
+      (All-cons (IsFew b) last [] few (All-nil (IsFew b)))
+
+until-few : (b : ℕ) (ds : List ℕ) (n : ℕ) (p : Standing) (snaps : List ℕ) → p.scene.machine.done ≤ b
+    → (next_moment ds n p).scene.machine.done ≤ b → All (IsFew b) (until_done ds n p snaps)
+unfolding until_done
+until-few b ds n p snaps few next_few =
+    let shown = ticks_before (next_moment ds n p).tick snaps in
+    let last = completion ds n p in
+    All-append (IsFew b) (map (snapshot_at ds n p) shown) (last ∷ [])
+    (each-few b (snapshot_at ds n p) shown (λ x. few))
+    (All-cons (IsFew b) last [] next_few (All-nil (IsFew b)))
+
+next-more : (ds : List ℕ) (n : ℕ) (m : Moment) → (next_moment ds n (standing m)).scene.machine.done ≡ m.scene.machine.done + 1
+unfolding next_moment
+next-more ds n m = step-done (next_state m) ∙ ap {A = ℕ} (λ d. d + 1) (settled-done m.scene)
+
+run-few : (b : ℕ) (ds : List ℕ) (n left : ℕ) (m : Moment) (snaps : List ℕ) → m.scene.machine.done + left ≤ b
+    → All (IsFew b) (timed_from ds n left m snaps)
+unfolding timed_from
+run-few b ds n zero m snaps few = last-few b m (omega arith) snaps
+run-few b ds n (suc left) m snaps few =
+    let p = standing m in
+    let next = next_moment ds n p in
+    let here : m.scene.machine.done ≤ b = omega arith in
+    let more : next.scene.machine.done ≡ m.scene.machine.done + 1 = next-more ds n m in
+    let same : (next_state m).done ≡ m.scene.machine.done = settled-done m.scene in
+    let rest = timed_from ds n left next (ticks_from next.tick snaps) in
+    let turn = between m ++ until_done ds n p snaps in
+    of_choice (λ (xs : List Timed). All (IsFew b) xs) (rests (next_state m)) (last_events m snaps) (turn ++ rest)
+    (last-few b m here snaps)
+    (All-append (IsFew b) turn rest
+    (All-append (IsFew b) (between m) (until_done ds n p snaps) (between-few b m here)
+    (until-few b ds n p snaps (omega (arith, same)) (omega (arith, more))))
+    (run-few b ds n left next (ticks_from next.tick snaps) (omega (arith, more))))
+
+-- ---- all comes in time
+
+told-all : (P : Told → Type 0) (xs : List Timed) → All (λ (x : Timed). P (told_of x)) xs → All P (told xs)
+unfolding told
+told-all P [] all = All-nil P
+told-all P (x ∷ xs) all =
+    All-cons P (told_of x) (told xs) (All-head (λ (y : Timed). P (told_of y)) x xs all)
+    (told-all P xs (All-tail (λ (y : Timed). P (told_of y)) x xs all))
+
+pub run-in_time : (ds : List ℕ) (n budget : ℕ) (c : Scene) (snaps : List ℕ) → AreDelays 255 ds → n ≤ 8 → IsScene c
+    → c.machine.done ≡ 0 → budget ≤ 10000000 → AreInTime (told (timed_run ds n budget c snaps))
+run-in_time ds n budget c snaps are levels is none few =
+    let timely = run-time 255 n ds are levels budget c snaps is in
+    let less = run-few 10000000 ds n budget (start c) snaps (omega arith) in
+    told-all (λ (y : Told). (y.tick < 2 ^ 63) × (y.done < 2 ^ 63)) (timed_run ds n budget c snaps)
+    (λ k d inside.
+    let early = timely k d inside in
+    let low = less k d inside in
+    (omega (arith, early, low), omega (arith, low)))
+
+-- ---- rising ticks
+
+rising-from : (t : ℕ) (xs : List ℕ) → IsStrictlyIncreasing xs → (0 < length xs → t ≤ slice_index xs 0) → AreRising t xs
+unfolding AreRising
+rising-from t [] up low = tt
+rising-from t (x ∷ xs) up low =
+    let same : (k : ℕ) → suc k + 1 ≡ suc (k + 1) = λ k. omega arith in (
+      low (omega arith),
+      rising-from (x + 1) xs
+          (λ k inside. subst {A = ℕ} (λ j. slice_index xs k < slice_index (x ∷ xs) j) (same k) (up (suc k) (omega arith)))
+          (λ some. let later = up 0 (omega arith) in omega (arith, later)),
+    )
+
+pub increasing-rises : (xs : List ℕ) → IsStrictlyIncreasing xs → AreRising 0 xs
+increasing-rises xs up = rising-from 0 xs up (λ some. omega arith)
+
+-- ---- the start of a run
+
+abbrev pub opened : List ℕ → ℕ → Scene → Together
+opened ds n c = record { machine = started ds n c.machine; signals = c.signals; cards = c.cards }
+
+-- nothing waits
+abbrev pub none : Waiting
+none = record { drops = []; text = None; taken = None }
+
+module _ (ds : List ℕ) (n : ℕ) (c : Scene) (idle : IsIdle c.machine) (is : IsScene c) where
+  pub opened-before : 1 ≤ n → n ≤ 8 → AreDelays 255 ds → IsBefore (with_scene (opened ds n c) (due c idle))
+  opened-before some few are = record {
+    some = some;
+    few = few;
+    delays = are;
+    scene = due-scene c.machine c.signals c.cards is.machine is.cards;
+    settled = refl;
+    going = refl;
+    guessed = refl;
+    closed = refl;
+    table = sym (idle-interrupt (due c idle).machine (due-idle c idle));
+    awake = idle-rests (due c idle).machine (due-idle c idle);
+    early = omega arith;
+  }
+
+  pub none-quiet : Quiet none
+  unfolding whats
+  none-quiet s = refl
+
+  pub start-told : (budget : ℕ) (snaps : List ℕ) → 1 ≤ budget
+      → rest_of turns.Before (budget - 1) 0 snaps none (with_scene (opened ds n c) (due c idle))
+      ≡ told (timed_run ds n budget c snaps)
+  start-told budget snaps some =
+      rest-quiet turns.Before (budget - 1) 0 snaps none (with_scene (opened ds n c) (due c idle)) none-quiet
+      ∙ ap told (sym (run-idle c idle ds n budget snaps (omega arith)))
+
+  pub start-run : (budget : ℕ) (snaps : List ℕ) → 1 ≤ n → n ≤ 8 → AreDelays 255 ds → 1 ≤ budget → budget ≤ 10000000
+      → c.machine.done ≡ 0 → IsStrictlyIncreasing snaps
+      → IsRun turns.Before (budget - 1) 0 0 snaps none (with_scene (opened ds n c) (due c idle))
+  start-run budget snaps some few are one most zero_done up = record {
+    stands = (opened-before some few are, refl, increasing-rises snaps up);
+    taken = λ none. absurd (cc none);
+    in_time =
+        subst {A = List Told} AreInTime (sym (start-told budget snaps one))
+        (run-in_time ds n budget c snaps are few is zero_done most);
+  }

@@ -1,0 +1,186 @@
+-- What is shown of the levels is what they are.
+use Rattle.std.specs.Prelude.{map, slice_index, IfSome, option_map, nat_lt, unwrap_or, if◌then◌else◌, All, replicate}
+use Rattle.std.specs.List.{AllZip}
+use Rattle.std.proofs.Common.{◌≡◌, ℕ, zero, suc, ◌+◌, ◌-◌, ◌<◌, ◌≤◌, Bool, true, false, List, [], ◌∷◌, ◌++◌, length, take, drop, get_or, Option, None, Some, refl, sym, ◌∙◌, ap, subst, arith}
+use Rattle.std.proofs.lemmas.List.{get_or-take, get_or-drop}
+use Rattle.std.proofs.lemmas.Bool.{cases_Bool}
+use Rattle.st_bits.specs.declared.operations.HalfOp.{HalfOp}
+use Rattle.st_bits.specs.declared.operations.HalfOp.TheVariants.{Lx, Lv, Lc, Lr, Sx, Sv, Sc, Sr, Sva, VPlus, VPlusC, Kv, Lvs, Lvi, Lci, Lri, VPlusI, VMinusI, VPlusIC, VPlusICR, Kvi, Kc, Kci, Cb, Cbr, R, Ex}
+use Rattle.st_format.specs.declared.instruction.Instr.{Instr}
+use Rattle.st_format.specs.declared.instruction.Instr.TheVariants.{Half, Branch, Floating, Vfl, Connect, Move, BitBranch, IndBranch, StoreCounter, Transfer, Invalid}
+use Rattle.st_state.specs.Machine.{Machine, IsMachine, word}
+use Rattle.st_prep.specs.declared.entries.IndexChange.{IndexChange}
+use Rattle.st_prep.specs.declared.entries.Place.{Place}
+use Rattle.st_prep.specs.declared.entries.Prepared.{Prepared}
+use Rattle.st_prep.specs.declared.entries.Aim.{Aim}
+use Rattle.st_prep.specs.EarlyChange.{unchanged, compared, changed, half_change, progressive_change, change}
+use Rattle.st_prep.specs.Fetch.{index_words}
+use Rattle.st_prep.specs.Plan.{plan, prepared, prepared_by, suppressed, entry as entry_of, sight}
+use Rattle.st_prep.specs.Ranges.{IsChange}
+use Rattle.st_prep.proofs.Choices.{of_choice}
+use Rattle.st_prep.proofs.PlanLemmas.{plan-prepared}
+use Rattle.st_exec.specs.Completion.{guess}
+use Rattle.st_exec.specs.Step.{interrupt}
+use Rattle.st_exec.proofs.UnwrittenLemmas.{guessed-machine}
+use Rattle.st_rows.specs.Rows.{row, after}
+use Rattle.st_rows.specs.declared.front.Front.{Front}
+use Rattle.st_segment.specs.Entries.{entry}
+use Rattle.st_segment.specs.Ahead.{Ahead, ahead, prepared_before, plan_of}
+use Rattle.st_ahead.specs.Overlap.{Overlap, seen, levels_of, last_tick}
+use Rattle.st_ahead.specs.Shown.{kept_by, level_shown, shown}
+use Rattle.st_ahead.specs.declared.events.LevelView.{LevelView}
+use Rattle.st_run.specs.Events.{Level, Changed, changed_by, level_at}
+use Rattle.st_run.specs.Telling.{Waiting, IsLevel, AreLevels, IsRun, ahead_of}
+use Rattle.st_run.specs.declared.turn.Turn.{Turn}
+use Rattle.st_run.specs.declared.turn.Turn.TheVariants as turns
+use Rattle.st_run.specs.Together.{Together, IsBefore}
+use Rattle.st_run.proofs.SceneLemmas.{interrupt-below}
+use Rattle.st_run.proofs.MomentLemmas.{ready-before, ready-still, still}
+
+-- ---- the word that an early change replaces
+
+-- what is kept of it is the index word as it was
+abbrev Keeps : List ℕ → Option IndexChange → Type 0
+Keeps xs o = IfSome o (λ c. c.kept ≡ slice_index xs c.number)
+
+half-keeps : (op : HalfOp) (xs : List ℕ) (a j e : ℕ) (r : Option ℕ) → Keeps xs (half_change op xs a j (slice_index xs j) e r).index
+unfolding half_change compared changed
+half-keeps Lx xs a j e r = refl
+half-keeps Lv xs a j e r = refl
+half-keeps Lc xs a j e r = refl
+half-keeps Lr xs a j e r = refl
+half-keeps VPlus xs a j e r = refl
+half-keeps VPlusC xs a j e r = refl
+half-keeps Lvs xs a j e r = refl
+half-keeps Lvi xs a j e r = refl
+half-keeps Lci xs a j e r = refl
+half-keeps Lri xs a j e r = refl
+half-keeps VPlusI xs a j e r = refl
+half-keeps VMinusI xs a j e r = refl
+half-keeps VPlusIC xs a j e r = refl
+half-keeps VPlusICR xs a j e r = refl
+half-keeps Cb xs a j e r = refl
+half-keeps Cbr xs a j e r = refl
+half-keeps R xs a j e r = refl
+half-keeps Kv xs a j e r = tt
+half-keeps Kvi xs a j e r = tt
+half-keeps Kc xs a j e r = tt
+half-keeps Kci xs a j e r = tt
+half-keeps Sx xs a j e r = tt
+half-keeps Sv xs a j e r = tt
+half-keeps Sc xs a j e r = tt
+half-keeps Sr xs a j e r = tt
+half-keeps Sva xs a j e r = tt
+half-keeps Ex xs a j e r = tt
+
+progressive-keeps : (xs : List ℕ) (p i a : ℕ) (r : Option ℕ) → Keeps xs (progressive_change p i (slice_index xs i) a r).index
+unfolding progressive_change changed
+progressive-keeps xs p i a r =
+    of_choice (λ early. Keeps xs early.index) (nat_lt p 2) unchanged (changed i (slice_index xs i) _ r) tt refl
+
+change-keeps : (xs : List ℕ) (instr : Instr) (e : ℕ) (r : Option ℕ) → Keeps xs (change xs instr e r).index
+unfolding change
+change-keeps xs (Half op a j i) e r = half-keeps op xs a j e r
+change-keeps xs (Vfl op d u n p l b o a i) e r = progressive-keeps xs p i a r
+change-keeps xs (Connect k t p l b o a i) e r = progressive-keeps xs p i a r
+change-keeps xs (Branch op a i) e r = tt
+change-keeps xs (Floating n a i) e r = tt
+change-keeps xs (Move sw a i second n) e r = tt
+change-keeps xs (BitBranch sense c a i second) e r = tt
+change-keeps xs (IndBranch sense off a i second) e r = tt
+change-keeps xs (StoreCounter a i second) e r = tt
+change-keeps xs (Transfer w a i n) e r = tt
+change-keeps xs (Invalid first second full) e r = tt
+
+by-keeps : (o : Option ℕ) (place : Place) (a : Aim) (xs : List ℕ) (read : Option ℕ) → Keeps xs (prepared_by o place a xs read).index
+unfolding suppressed entry_of
+by-keeps None place a xs read = change-keeps xs a.instr a.e read
+by-keeps (Some i) place a xs read = tt
+
+plan-keeps : (s : Machine) (t : Option ℕ) → Keeps (index_words s) (plan s t).index
+unfolding plan prepared sight
+plan-keeps s t = by-keeps _ _ _ (index_words s) _
+
+word-of_index : (s : Machine) (j : ℕ) → j < 16 → slice_index (index_words s) j ≡ word s (16 + j)
+unfolding index_words
+word-of_index s j low = get_or-take 16 (drop 16 s.words) j 0 low ∙ get_or-drop 16 s.words j 0
+
+-- so it stands in the state before the step
+changed-same : (o : Option IndexChange) (s : Machine) → Keeps (index_words s) o → IfSome o IsChange
+    → option_map (λ (i : ℕ). record { number = i; before = kept_by o }) (option_map (λ (c : IndexChange). c.number) o) ≡ changed_by o s
+changed-same None s keeps fits = refl
+changed-same (Some c) s keeps fits =
+    ap {A = ℕ} (λ k. Some (record { number = c.number; before = k })) (keeps ∙ word-of_index s c.number fits.number)
+
+level-is : (tick : ℕ) (a : Ahead) → IsMachine a.state → IfSome a.table (λ i. i < 64) → IsLevel (level_shown tick a) (level_at tick a)
+level-is tick a m some = record {
+  address = refl;
+  changed = changed-same (plan_of a).index a.state (plan-keeps a.state a.table) (plan-prepared a.state a.table m some).change;
+  ready = refl;
+}
+
+-- ---- all of them
+
+levels-are : (tick now : ℕ) (ds : List ℕ) (n k : ℕ) (t : Option ℕ) (s : Machine) (f : Front) → IsMachine s → IfSome t (λ i. i < 64)
+    → AllZip IsLevel (map (level_shown tick) (prepared_before now (ahead ds n k t s f)))
+    (map (level_at tick) (prepared_before now (ahead ds n k t s f)))
+unfolding ahead prepared_before
+levels-are tick now ds n zero t s f m some = tt
+levels-are tick now ds n (suc k) t s f m some =
+    let a : Ahead = record { state = s; table = t; front = f; entry = entry t s; row = row ds n f (entry t s) } in
+    let next = guessed-machine (plan s t) s (plan-prepared s t m some) m in
+    of_choice (λ (xs : List Ahead). AllZip IsLevel (map (level_shown tick) xs) (map (level_at tick) xs)) (nat_lt a.row.p now)
+    (a ∷ prepared_before now (ahead ds n k None (guess t s) (after ds n f (entry t s)))) []
+    (level-is tick a m some, levels-are tick now ds n k None (guess t s) (after ds n f (entry t s)) next tt)
+    tt
+
+map-map : {A B C : Type 0} (f : A → B) (g : B → C) (xs : List A) → map (λ (x : A). g (f x)) xs ≡ map g (map f xs)
+map-map f g [] = refl
+map-map {A} {B} {C} f g (x ∷ xs) = ap (λ (rest : List C). g (f x) ∷ rest) (map-map f g xs)
+
+map-length : {A B : Type 0} (f : A → B) (xs : List A) → length (map f xs) ≡ length xs
+map-length f [] = refl
+map-length f (x ∷ xs) = ap {A = ℕ} suc (map-length f xs)
+
+room-is : (tick : ℕ) (xs : List Ahead)
+    → map (λ (a : Ahead). Some (level_shown tick a)) xs ++ replicate (8 - length xs) None
+    ≡ map (λ (v : LevelView). Some v) (map (level_shown tick) xs) ++ replicate (8 - length (map (level_shown tick) xs)) None
+room-is tick xs =
+    ap {A = List (Option LevelView)} (λ ys. ys ++ replicate (8 - length xs) None) (map-map (level_shown tick) (λ (v : LevelView). Some v) xs)
+    ∙ ap {A = ℕ} (λ k. map (λ (v : LevelView). Some v) (map (level_shown tick) xs) ++ replicate (8 - k) None) (sym (map-length (level_shown tick) xs))
+
+seen-plain : (o : Overlap) → o.ended ≡ false → o.behind ≡ None → o.state ≡ seen o
+unfolding seen
+seen-plain o going guessed = rw (going, guessed) refl
+
+same-levels : (o : Overlap) (m : IsMachine o.state) → o.ended ≡ false → o.behind ≡ None → IfSome o.taken (λ i. i < 64)
+    → AllZip IsLevel (map (level_shown (last_tick o)) (levels_of o)) (ahead_of o)
+unfolding levels_of
+same-levels o m going guessed some =
+    levels-are (last_tick o) o.now o.delays o.levels o.levels o.taken (seen o) o.front
+    (subst IsMachine (seen-plain o going guessed) m) some
+
+pub view-before : (t : Together) → IsBefore t → AreLevels (shown t.machine).levels (ahead_of t.machine)
+unfolding shown
+view-before t h =
+    let o = t.machine in
+    let some : IfSome o.taken (λ i. i < 64) = subst {A = Option ℕ} (λ k. IfSome k (λ i. i < 64)) (sym h.table) (interrupt-below o.state) in
+    record {
+      views = map (level_shown (last_tick o)) (levels_of o);
+      room = room-is (last_tick o) (levels_of o);
+      same = same-levels o h.scene.machine h.going h.guessed some;
+    }
+
+pub view-none : (o : Overlap) → levels_of o ≡ [] → AreLevels (shown o).levels (ahead_of o)
+unfolding shown
+view-none o none = record {
+  views = [];
+  room = rw none refl;
+  same = rw none tt;
+}
+
+pub view-run : (turn : Turn) (left tick now : ℕ) (snaps : List ℕ) (w : Waiting) (t : Together) → IsRun turn left tick now snaps w t
+    → AreLevels (shown t.machine).levels (ahead_of t.machine)
+view-run turns.Before left tick now snaps w t is = view-before t is.stands.0
+view-run (turns.AtEnd rests) left tick now snaps w t is = view-none t.machine is.stands
+view-run turns.Over left tick now snaps w t is = view-none t.machine is.stands

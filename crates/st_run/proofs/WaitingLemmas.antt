@@ -1,0 +1,50 @@
+-- What waits to be told, one thing after another.
+use Rattle.std.specs.Prelude.{map, reverse, option_map}
+use Rattle.std.proofs.Common.{◌≡◌, ℕ, ◌<◌, false, true, length, arith, List, [], ◌∷◌, ◌++◌, Option, None, Some, refl, sym, ◌∙◌, ap, append-nil}
+use Rattle.std.proofs.lemmas.List.{reverse-append}
+use Rattle.st_state.specs.Machine.{Machine}
+use Rattle.st_run.specs.Told.{What, Dropped, Printed, Interrupted}
+use Rattle.st_run.specs.Together.{text_told}
+use Rattle.st_run.specs.Telling.{Waiting, taken_told, whats}
+
+reverse-push : (drops : List (ℕ × ℕ)) (d : ℕ × ℕ) → reverse (drops ++ d ∷ []) ≡ d ∷ reverse drops
+reverse-push drops d = reverse-append drops (d ∷ [])
+
+-- the youngest entry that is dropped comes first
+pub whats-drop : (w : Waiting) (drops : List (ℕ × ℕ)) (d : ℕ × ℕ) (s : Machine) → w.drops ≡ drops ++ d ∷ []
+    → whats w s ≡ Dropped d.0 d.1 ∷ whats (record w { drops = drops }) s
+unfolding whats
+whats-drop w drops d s same =
+    ap (λ xs. map (λ (e : ℕ × ℕ). Dropped e.0 e.1) xs ++ text_told w.text ++ taken_told w.taken s) (ap reverse same ∙ reverse-push drops d)
+
+-- then the text
+pub whats-text : (w v : Waiting) (text : List ℕ) (s : Machine) → w.drops ≡ [] → w.text ≡ Some text
+    → v ≡ record { drops = []; text = None; taken = w.taken } → whats w s ≡ Printed text ∷ whats v s
+unfolding whats
+whats-text w v text s none same is = rw (none, same, is) refl
+
+-- then the interrupt
+pub whats-taken : (w v : Waiting) (i : ℕ) (s : Machine) → w.drops ≡ [] → w.text ≡ None → w.taken ≡ Some i
+    → v ≡ record { drops = []; text = None; taken = None } → whats w s ≡ Interrupted i s ∷ whats v s
+unfolding whats
+whats-taken w v i s none empty same is = rw (none, empty, same, is) refl
+
+-- and then nothing
+pub whats-none : (w : Waiting) (s : Machine) → w.drops ≡ [] → w.text ≡ None → w.taken ≡ None → whats w s ≡ []
+unfolding whats
+whats-none w s none empty same = rw (none, empty, same) refl
+
+-- a list without items
+pub no-items : (xs : List (ℕ × ℕ)) → (0 < length xs → false ≡ true) → xs ≡ []
+no-items [] none = refl
+no-items (x ∷ xs) none = let some : 0 < length (x ∷ xs) = omega arith in absurd (cc (none some))
+
+-- it is the same where each part of it is
+pub waiting-same : (v w : Waiting) → v.drops ≡ w.drops → v.text ≡ w.text → v.taken ≡ w.taken → v ≡ w
+waiting-same v w drops text taken =
+    ap {A = List (ℕ × ℕ)} (λ xs. record v { drops = xs }) drops
+    ∙ ap {A = Option (List ℕ)} (λ o. record w { text = o; taken = v.taken }) text
+    ∙ ap {A = Option ℕ} (λ o. record w { taken = o }) taken
+
+pub text-same : {A : Type 0} (f : A → List ℕ) (o p : Option A) → o ≡ None → None ≡ p → option_map f o ≡ option_map f p
+text-same f o p empty same = ap (option_map f) (empty ∙ same)

@@ -1,0 +1,80 @@
+use Rattle.std.proofs.Common.{◌∷◌, sym, ◌∙◌, ap, arith}
+use Rattle.st_run.specs.Telling.{what_told, seen_of, ahead_of, rest_of, told_with}
+use Rattle.st_run.specs.declared.told.Told.{Told}
+use Rattle.st_run.specs.declared.turn.Turn.TheVariants as turns
+use Rattle.st_run.proofs.ProgressLemmas.{seen-none}
+use Rattle.st_run.proofs.NextLemmas.{next-tells, next-keeps, still-quiet, still-run, turn-run, turn-rest, end-levels, end-in_time}
+use Rattle.st_run.proofs.progress.tell_next.Goals as goal
+
+pub returns-in-Some-clause-kept : goal.returns-in-Some-clause-kept
+returns-in-Some-clause-kept g c =
+    let run = c.args.run.now in
+    let m = run.driven.machine in
+    next-keeps run.turn run.left run.tick run.now run.snaps.now run.waiting c.next.new.self run.driven _
+    (what_told c.in-Some.what (seen_of m) (ahead_of m)) (c.in-Some.ensures.told m.state)
+    (c.in-Some.ensures.shown m.state (seen_of m) (ahead_of m) (λ some. sym (seen-none m (c.requires.taken some))))
+    c.requires c.in-Some.ensures.taken
+
+pub returns-in-Some-clause-told : goal.returns-in-Some-clause-told
+returns-in-Some-clause-told g c =
+    let run = c.args.run.now in
+    let m = run.driven.machine in
+    next-tells run.turn run.left run.tick run.now run.snaps.now run.waiting c.next.new.self run.driven _
+    (what_told c.in-Some.what (seen_of m) (ahead_of m)) (c.in-Some.ensures.told m.state)
+    (c.in-Some.ensures.shown m.state (seen_of m) (ahead_of m) (λ some. sym (seen-none m (c.requires.taken some))))
+    ∙ ap {A = Told} (λ t. told_with t m ∷ rest_of run.turn run.left run.tick run.snaps.now c.next.new.self run.driven) (sym c.at_once.ensures)
+
+pub go-requires : goal.go-requires
+go-requires g c =
+    let run = c.args.run.now in
+    let e = c.in_default.ensures in (
+      omega arith,
+      (
+        turn-run run.turn run.left run.tick run.now run.snaps.now run.waiting c.next.new.self run.driven e.told e.none c.requires turns.Before c.in-Before.is,
+        (c.in-Before.is, still-quiet run.turn run.left run.tick run.now run.snaps.now run.waiting c.next.new.self run.driven e.told e.none c.requires),
+      ),
+    )
+
+pub finish-requires : goal.finish-requires
+finish-requires g c =
+    let run = c.args.run.now in
+    let e = c.in_default.ensures in (
+      omega arith,
+      (
+        c.in-AtEnd.is,
+        (
+          end-levels run.turn run.left run.tick run.now run.snaps.now run.waiting c.next.new.self run.driven e.told e.none c.requires c.in-AtEnd.rests c.in-AtEnd.is,
+          (
+            end-in_time run.turn run.left run.tick run.now run.snaps.now run.waiting c.next.new.self run.driven e.told e.none c.requires c.in-AtEnd.rests c.in-AtEnd.is,
+            still-quiet run.turn run.left run.tick run.now run.snaps.now run.waiting c.next.new.self run.driven e.told e.none c.requires,
+          ),
+        ),
+      ),
+    )
+
+pub returns-in-Before-clause-told : goal.returns-in-Before-clause-told
+returns-in-Before-clause-told g c =
+    let run = c.args.run.now in
+    let e = c.in_default.ensures in
+    turn-rest run.turn run.left run.tick run.now run.snaps.now run.waiting c.next.new.self run.driven e.told e.none c.requires turns.Before c.in-Before.is
+    ∙ c.go.ensures.told
+
+pub returns-in-AtEnd-clause-told : goal.returns-in-AtEnd-clause-told
+returns-in-AtEnd-clause-told g c =
+    let run = c.args.run.now in
+    let e = c.in_default.ensures in
+    turn-rest run.turn run.left run.tick run.now run.snaps.now run.waiting c.next.new.self run.driven e.told e.none c.requires
+    (turns.AtEnd c.in-AtEnd.rests) c.in-AtEnd.is
+    ∙ c.finish.ensures.told
+
+pub returns-in-Over-clause-kept : goal.returns-in-Over-clause-kept
+returns-in-Over-clause-kept g c =
+    let run = c.args.run.now in
+    let e = c.in_default.ensures in
+    still-run run.turn run.left run.tick run.now run.snaps.now run.waiting c.next.new.self run.driven e.told e.none c.requires
+
+pub returns-in-Over-clause-told : goal.returns-in-Over-clause-told
+returns-in-Over-clause-told g c =
+    let run = c.args.run.now in
+    let e = c.in_default.ensures in
+    turn-rest run.turn run.left run.tick run.now run.snaps.now run.waiting c.next.new.self run.driven e.told e.none c.requires turns.Over c.in-Over.is

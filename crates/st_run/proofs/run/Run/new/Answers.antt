@@ -1,0 +1,37 @@
+use Rattle.std.proofs.Common.{◌-◌, sym, ◌∙◌, ap, subst}
+use Rattle.st_exec.specs.Run.{Scene, with_due_signals}
+use Rattle.st_rows.proofs.Within.{AreDelays-list}
+use Rattle.st_ahead.specs.Overlap.{Overlap}
+use Rattle.st_run.specs.Scenes.{IsScene}
+use Rattle.st_run.specs.Together.{Together, with_scene, signals_of}
+use Rattle.st_run.specs.Telling.{Waiting, IsRun, rest_of}
+use Rattle.st_run.specs.declared.turn.Turn.TheVariants as turns
+use Rattle.st_run.proofs.StartLemmas.{IsIdle, start-run, start-told, none}
+use Rattle.st_run.proofs.run.Run.new.Goals as goal
+
+pub invariant_of-result : goal.invariant_of-result
+invariant_of-result g c =
+    let r = c.requires in
+    let scene : Scene = record { machine = c.args.state; signals = signals_of c.args.signals.now; cards = c.args.cards } in
+    let idle : IsIdle c.args.state = record { enabled = r.enabled; waiting = r.waiting; reader = r.reader; printer = r.printer } in
+    let is : IsScene scene = record { machine = c.shape.ensures; cards = r.cards } in
+    let same = c.take_due_signals.ensures
+    ∙ ap {A = Overlap} (λ m. with_scene (record { machine = m; signals = scene.signals; cards = scene.cards })
+    (with_due_signals m.state scene.signals scene.cards)) c.new.ensures in
+    subst {A = Waiting} (λ w. IsRun turns.Before (c.args.budget - 1) 0 0 c.args.snaps.now w c.take_due_signals.new.driven) (sym c.new-2.ensures)
+    (subst {A = Together} (λ t. IsRun turns.Before (c.args.budget - 1) 0 0 c.args.snaps.now none t) (sym same)
+    (start-run c.args.delays g.row.N scene idle is c.args.budget c.args.snaps.now r.some r.few (AreDelays-list c.args.delays c.shape-2.ensures)
+    r.some_done r.few_done r.done r.snaps))
+
+pub returns : goal.returns
+returns g c =
+    let r = c.requires in
+    let scene : Scene = record { machine = c.args.state; signals = signals_of c.args.signals.now; cards = c.args.cards } in
+    let idle : IsIdle c.args.state = record { enabled = r.enabled; waiting = r.waiting; reader = r.reader; printer = r.printer } in
+    let is : IsScene scene = record { machine = c.shape.ensures; cards = r.cards } in
+    let same = c.take_due_signals.ensures
+    ∙ ap {A = Overlap} (λ m. with_scene (record { machine = m; signals = scene.signals; cards = scene.cards })
+    (with_due_signals m.state scene.signals scene.cards)) c.new.ensures in
+    ap {A = Waiting} (λ w. rest_of turns.Before (c.args.budget - 1) 0 c.args.snaps.now w c.take_due_signals.new.driven) c.new-2.ensures
+    ∙ ap {A = Together} (λ t. rest_of turns.Before (c.args.budget - 1) 0 c.args.snaps.now none t) same
+    ∙ start-told c.args.delays g.row.N scene idle is c.args.budget c.args.snaps.now r.some_done

@@ -1,0 +1,204 @@
+//! How far a run has come, and how it goes on.
+ghost use Rattle.std.specs.Prelude.{◌≡◌, ℕ, ◌+◌, ◌-◌, ◌<◌, ◌≤◌, ◌^◌, if◌then◌else◌, [], ◌∷◌, MatchOption, IfSome};
+ghost use Rattle.st_state.specs.Machine.{Machine};
+ghost use Rattle.st_ahead.specs.Overlap.{levels_of};
+ghost use Rattle.st_run.specs.TimedRun.{timed_from, timed_behind};
+ghost use Rattle.st_run.specs.Order.{AreRising};
+ghost use Rattle.st_run.specs.Told.{told as told_events};
+ghost use Rattle.st_run.specs.Together.{IsBehind, moment_of, standing_of};
+ghost use Rattle.st_run.specs.Telling.{whats, told_at_end, rest_of, told_with, first_tick, IsRun, IsShown, IsLeft, AreInTime};
+ghost use Rattle.st_run.specs.declared.turn.Turn.TheVariants as turns;
+
+use crate::driven::Driven;
+use crate::leaving::{leave, levels_ahead};
+use crate::ticking::run_until;
+use crate::told::{Told, What};
+use crate::turn::Turn;
+use crate::waiting::Waiting;
+use arrayvec::ArrayVec;
+use st_ahead::Row;
+use st_state::State;
+
+/// A run between two things that it tells: the machine with what is still to come to it, the snapshots that are still to
+/// come, how many instructions may be done behind the next one, the tick at which the last one was done, the tick that
+/// comes next, what waits to be told, and the turn.
+#[derive(Drop)]
+pub(crate) struct Progress<'a, const N: usize> {
+    pub driven: Driven<'a, N>,
+    pub snaps: &'a [u64],
+    pub left: u64,
+    pub tick: u64,
+    pub now: u64,
+    pub waiting: Waiting,
+    pub turn: Turn,
+}
+
+/// The next thing that is told; `None` exactly where all is told.
+pub(crate) fn tell_next<const N: usize>(run: &mut Progress<N>) -> Option<Told>
+    requires { IsRun run.old.turn run.old.left run.old.tick run.old.now run.old.snaps.now run.old.waiting run.old.driven }
+    ensures kept { IsRun run.new.turn run.new.left run.new.tick run.new.now run.new.snaps.now run.new.waiting run.new.driven }
+    ensures told { MatchOption result
+        (rest_of run.old.turn run.old.left run.old.tick run.old.snaps.now run.old.waiting run.old.driven ≡ [])
+        (λ t. rest_of run.old.turn run.old.left run.old.tick run.old.snaps.now run.old.waiting run.old.driven
+        ≡ told_with t run.new.driven.machine
+        ∷ rest_of run.new.turn run.new.left run.new.tick run.new.snaps.now run.new.waiting run.new.driven) }
+{
+    if let Some(what) = run.waiting.next() {
+        return Some(at_once(&run.driven, run.tick, what));
+    }
+    match run.turn {
+        Turn::Before => Some(go(run)),
+        Turn::AtEnd(rests) => Some(finish(run, rests)),
+        Turn::Over => None,
+    }
+}
+
+/// Before the next entry: a snapshot, or that entry is done.
+fn go<const N: usize>(run: &mut Progress<N>) -> Told
+    requires run { IsRun turns.Before run.old.left run.old.tick run.old.now run.old.snaps.now run.old.waiting run.old.driven }
+    requires turn { run.old.turn ≡ turns.Before }
+    requires waits { (s : Machine) → whats run.old.waiting s ≡ [] }
+    ensures kept { IsRun run.new.turn run.new.left run.new.tick run.new.now run.new.snaps.now run.new.waiting run.new.driven }
+    ensures told { told_events (timed_behind run.old.driven.machine.delays run.old.driven.machine.levels run.old.left
+        (standing_of run.old.tick run.old.driven) run.old.snaps.now)
+        ≡ told_with result run.new.driven.machine
+        ∷ rest_of run.new.turn run.new.left run.new.tick run.new.snaps.now run.new.waiting run.new.driven }
+{
+    let snap = first_of(run.snaps);
+    let Some(row) = run_until(&mut run.driven, run.now, snap) else {
+        return show(run);
+    };
+    leave_entry(run, row.c);
+    Told {
+        done: row.number,
+        tick: row.c,
+        what: What::Done(row),
+    }
+}
+
+/// The snapshot whose tick was made last.
+fn show<const N: usize>(run: &mut Progress<N>) -> Told
+    requires shown { IsShown run.old.left run.old.tick run.old.snaps.now run.old.driven }
+    requires turn { run.old.turn ≡ turns.Before }
+    requires waits { (s : Machine) → whats run.old.waiting s ≡ [] }
+    ensures kept { IsRun run.new.turn run.new.left run.new.tick run.new.now run.new.snaps.now run.new.waiting run.new.driven }
+    ensures told { told_events (timed_behind run.old.driven.machine.delays run.old.driven.machine.levels run.old.left
+        (standing_of run.old.tick run.old.driven) run.old.snaps.now)
+        ≡ told_with result run.new.driven.machine
+        ∷ rest_of run.new.turn run.new.left run.new.tick run.new.snaps.now run.new.waiting run.new.driven }
+{
+    let Some((at, after)) = split_first(run.snaps) else {
+        return at_once(&run.driven, run.tick, What::Shown(0));
+    };
+    run.snaps = after;
+    run.now = at + 1;
+    at_once(&run.driven, run.tick, What::Shown(at))
+}
+
+/// What comes behind an entry that has just been done at a tick waits to be told.
+fn leave_entry<const N: usize>(run: &mut Progress<N>, tick: u64)
+    requires left { IsLeft run.old.left run.old.snaps.now tick run.old.driven }
+    ensures kept { IsRun run.new.turn run.new.left run.new.tick run.new.now run.new.snaps.now run.new.waiting run.new.driven }
+    ensures told { told_events (timed_from run.old.driven.machine.delays run.old.driven.machine.levels run.old.left
+        (moment_of run.old.driven) run.old.snaps.now)
+        ≡ rest_of run.new.turn run.new.left run.new.tick run.new.snaps.now run.new.waiting run.new.driven }
+{
+    let mut drops = levels_ahead(&run.driven);
+    let decided = leave(&mut run.driven, run.left);
+    clear_unless(decided.ends, &mut drops);
+    run.waiting = Waiting {
+        drops,
+        text: decided.text,
+        taken: decided.taken,
+    };
+    run.turn = decided.turn;
+    run.tick = tick;
+    run.now = tick + 1;
+    run.left = one_less(run.left);
+}
+
+/// At the end: a snapshot up to the last tick, or the end itself.
+fn finish<const N: usize>(run: &mut Progress<N>, rests: bool) -> Told
+    requires turn { run.old.turn ≡ turns.AtEnd rests }
+    requires levels { levels_of run.old.driven.machine ≡ [] }
+    requires in_time { AreInTime (told_at_end rests run.old.tick run.old.snaps.now run.old.driven.machine.state) }
+    requires waits { (s : Machine) → whats run.old.waiting s ≡ [] }
+    ensures kept { IsRun run.new.turn run.new.left run.new.tick run.new.now run.new.snaps.now run.new.waiting run.new.driven }
+    ensures told { told_at_end rests run.old.tick run.old.snaps.now run.old.driven.machine.state
+        ≡ told_with result run.new.driven.machine
+        ∷ rest_of run.new.turn run.new.left run.new.tick run.new.snaps.now run.new.waiting run.new.driven }
+{
+    let Some((at, after)) = split_due(run.snaps, run.tick) else {
+        run.turn = Turn::Over;
+        return at_once(&run.driven, run.tick, What::Ended(rests));
+    };
+    run.snaps = after;
+    at_once(&run.driven, run.tick, What::Shown(at))
+}
+
+/// Something that is told at the tick at which the last entry was done.
+fn at_once<const N: usize>(driven: &Driven<N>, tick: u64, what: What) -> Told
+    ensures { result ≡ record { done = driven.now.machine.state.done; tick = tick; what = what } }
+{
+    Told {
+        done: done_in(driven.machine.state()),
+        tick,
+        what,
+    }
+}
+
+/// The number of instructions done.
+fn done_in(state: &State) -> u64
+    ensures { result ≡ state.now.done }
+{
+    state.done
+}
+
+/// The tick of the next snapshot.
+fn first_of(snaps: &[u64]) -> Option<u64>
+    ensures { result ≡ first_tick snaps.now }
+{
+    match snaps {
+        [first, ..] => Some(*first),
+        [] => None,
+    }
+}
+
+/// The tick of the next snapshot, and those behind it.
+fn split_first(snaps: &[u64]) -> Option<(u64, &[u64])>
+    ensures { MatchOption result (snaps.now ≡ []) (λ r. snaps.now ≡ r.0 ∷ r.1.now) }
+{
+    match snaps {
+        [first, after @ ..] => Some((*first, after)),
+        [] => None,
+    }
+}
+
+/// The same where it comes up to this tick.
+fn split_due(snaps: &[u64], tick: u64) -> Option<(u64, &[u64])>
+    ensures { MatchOption result (IfSome (first_tick snaps.now) (λ x. tick < x))
+        (λ r. (snaps.now ≡ r.0 ∷ r.1.now) × (r.0 ≤ tick)) }
+{
+    let (first, after) = split_first(snaps)?;
+    if first <= tick {
+        Some((first, after))
+    } else {
+        None
+    }
+}
+
+/// Keeps the entries that are dropped where the segment ends.
+fn clear_unless(ends: bool, drops: &mut ArrayVec<(u32, u64), 8>)
+    ensures { drops.new.items ≡ (if ends then drops.old.items else []) }
+{
+    if !ends {
+        drops.clear();
+    }
+}
+
+/// One less, 0 where there is none.
+fn one_less(left: u64) -> u64
+    ensures { result ≡ left - 1 }
+{
+    if left == 0 { 0 } else { left - 1 }
+}

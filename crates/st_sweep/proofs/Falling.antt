@@ -1,0 +1,37 @@
+-- The ticks of a calm run do not rise with the number of levels.
+use Rattle.std.specs.Prelude.{IfOk, Result, Ok, Err}
+use Rattle.std.proofs.Common.{◌≡◌, ℕ, zero, suc, ◌+◌, ◌≤◌, ◌<◌, true, List, [], ◌∷◌, length, slice_index, refl, sym, ◌∙◌, ap, subst, arith}
+use Rattle.st_exec.specs.Run.{Scene}
+use Rattle.st_sweep.specs.Calm.{is_calm}
+use Rattle.st_sweep.specs.Sweep.{ticks}
+use Rattle.st_sweep.specs.SideBySide.{swept, AreNotRising}
+use Rattle.st_sweep.specs.declared.sweeping.Swept.{Swept}
+use Rattle.st_sweep.proofs.Segment.{calm-ticks}
+
+-- the values of a function at n numbers from k on
+values : (ℕ → ℕ) → ℕ → ℕ → List ℕ
+values f k zero = []
+values f k (suc n) = f k ∷ values f (k + 1) n
+
+value-at : (f : ℕ → ℕ) (k n i : ℕ) → i < n → slice_index (values f k n) i ≡ f (k + i)
+unfolding values
+value-at f k zero i low = let no : ⊥ = omega arith in absurd no
+value-at f k (suc n) zero low =
+    let same : k ≡ k + 0 = omega arith in
+    ap f same
+value-at f k (suc n) (suc i) low =
+    let same : k + 1 + i ≡ k + suc i = omega arith in
+    value-at f (k + 1) n i (omega arith) ∙ ap f same
+
+not-rising : (ds : List ℕ) (left : ℕ) (c : Scene) → 1 ≤ length ds → is_calm ds left c ≡ true → AreNotRising (swept ds left c).ticks
+unfolding values
+not-rising ds left c some calm i j low inside =
+    let f = λ (n : ℕ). ticks ds n left c in
+    let at : (k : ℕ) → k < 8 → slice_index (swept ds left c).ticks k ≡ f (1 + k) = value-at f 1 8 in
+    let more = calm-ticks ds (1 + j) (1 + i) left c some (omega arith) calm in
+    omega (arith, at i (omega arith), at j inside, more)
+
+pub levels-of : {E : Type 0} (ds : List ℕ) (left : ℕ) (c : Scene) (r : Result Swept E) → 1 ≤ length ds
+    → IfOk r (λ x. x ≡ swept ds left c) → IfOk r (λ x. x.calm ≡ true → AreNotRising x.ticks)
+levels-of ds left c (Ok x) some same = subst (λ y. y.calm ≡ true → AreNotRising y.ticks) (sym same) (not-rising ds left c some)
+levels-of ds left c (Err e) some same = tt

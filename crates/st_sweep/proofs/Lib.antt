@@ -1,0 +1,7 @@
+pub mod Calmness
+pub mod Segment
+pub mod Stages
+pub mod MarkLemmas
+pub mod PlainRun
+pub mod ToldTicks
+pub mod Falling

@@ -1,0 +1,143 @@
+-- A plain run as far as it has come.
+use Rattle.std.specs.Prelude.{◌&&◌, not, is_none}
+use Rattle.std.proofs.Common.{◌≡◌, ◌≢◌, ℕ, zero, suc, ◌+◌, ◌-◌, ◌≤◌, ◌⊎◌, inl, inr, Bool, true, false, List, [], ◌∷◌, refl, sym, ◌∙◌, ap, subst, arith}
+use Rattle.st_bits.specs.declared.limits.TheConstants.{MOST_INSTRUCTIONS}
+use Rattle.st_state.specs.Machine.{Machine}
+use Rattle.st_prep.specs.Plan.{plan}
+use Rattle.st_exec.specs.Completion.{is_missed}
+use Rattle.st_exec.specs.Step.{interrupt, step, rests, IsStep}
+use Rattle.st_exec.specs.Run.{Signal, Scene, settled, stepped, run}
+use Rattle.st_exec.specs.Trails.{IsTrail, CanBePutBack, IsKept}
+use Rattle.st_exec.specs.declared.kept.Trail.{Trail}
+use Rattle.st_exec.specs.declared.step.Step.{Step}
+use Rattle.st_exec.specs.declared.step.Step.TheVariants.{Plain, Interrupt, Waits}
+use Rattle.st_exec.proofs.Runs.{run-rests, run-budget, run-goes_on, step-done}
+use Rattle.st_rows.specs.declared.entry.Runs.{Runs}
+use Rattle.st_run.proofs.DoneLemmas.{settled-done}
+use Rattle.st_sweep.specs.Calm.{side_is_written, one_is_written, next_writes, next_side, is_calm_entry, is_quiet, is_calm_behind}
+use Rattle.st_sweep.specs.Marks.{AreMarks}
+use Rattle.st_sweep.specs.Sweep.{without_cards}
+
+-- ---- one step
+
+-- what is kept of a step that is made
+pub kept-step : (s t : Machine) (old new : Trail) (r : Step) → rests s ≡ false → IsStep s t r → IsKept s old new r → IsTrail s new × CanBePutBack new
+kept-step s t old new Plain going made kept = kept
+kept-step s t old new (Interrupt i) going made kept = kept
+kept-step s t old new Waits going made kept = absurd (cc)
+
+-- whether it is a calm entry
+pub entry-calm : (earlier : List Runs) (s : Machine) (t : Trail) (straight side words : Bool) → IsTrail s t
+    → straight ≡ (is_none (interrupt s) && not (is_missed (plan s (interrupt s)) s))
+    → side ≡ side_is_written earlier t.index_read → words ≡ one_is_written earlier t.reads
+    → (straight && not side && not words) ≡ is_calm_entry earlier s
+unfolding is_calm_entry
+entry-calm earlier s t straight side words trail first second third =
+    ap (λ b. b && not side && not words) first
+    ∙ ap (λ b. is_none (interrupt s) && not (is_missed (plan s (interrupt s)) s) && not b && not words)
+    (second ∙ ap (side_is_written earlier) trail.index_read)
+    ∙ ap (λ b. is_none (interrupt s) && not (is_missed (plan s (interrupt s)) s) && not (side_is_written earlier (next_side s)) && not b)
+    (third ∙ ap (one_is_written earlier) trail.reads)
+
+-- ---- the run
+
+-- the run began so that it is calm or not and ends with so many done; it was calm or not so far, so many entries may still be
+-- done, and it goes on with a scene
+pub record IsSoFar (whole : Bool) (last : ℕ) (so : Bool) (left : ℕ) (s : Machine) (xs : List Signal) (written : List Bool) : Type 0 where
+  pub earlier : List Runs
+  pub marks : AreMarks earlier written
+  pub calm : (so && is_calm_behind earlier left (without_cards s xs)) ≡ whole
+  pub done : (run left (without_cards s xs)).last.done ≡ last
+  pub few : s.done + left ≤ MOST_INSTRUCTIONS
+
+pub at-start : (s : Machine) (xs : List Signal) (left : ℕ) (marks : List Bool) → AreMarks [] marks → s.done + left ≤ MOST_INSTRUCTIONS
+    → IsSoFar (is_calm_behind [] left (without_cards s xs)) (run left (without_cards s xs)).last.done true left s xs marks
+at-start s xs left marks are few = record { earlier = []; marks = are; calm = refl; done = refl; few = few }
+
+-- at its end
+calm-ends : (earlier : List Runs) (left : ℕ) (c : Scene) → (left ≡ 0) ⊎ (rests (settled c).scene.machine ≡ true)
+    → is_calm_behind earlier left c ≡ is_quiet c
+unfolding is_calm_behind
+calm-ends earlier zero c end = refl
+calm-ends earlier (suc left) c (inl none) = let no : ⊥ = omega arith in absurd no
+calm-ends earlier (suc left) c (inr resting) = rw resting (and-right (is_quiet c))
+  where
+    and-right : (b : Bool) → (b && true) ≡ b
+    and-right true = refl
+    and-right false = refl
+
+done-ends : (left : ℕ) (c : Scene) → (left ≡ 0) ⊎ (rests (settled c).scene.machine ≡ true) → (run left c).last.done ≡ (settled c).scene.machine.done
+done-ends left c (inl none) = ap (λ r. r.last.done) (run-budget left c none)
+done-ends left c (inr resting) = ap (λ r. r.last.done) (run-rests left c resting)
+
+-- it goes on by an entry
+abbrev calm_on : List Runs → ℕ → Scene → Bool
+calm_on earlier left d =
+    is_calm_entry earlier d.machine && is_calm_behind (next_writes d.machine ∷ earlier) left (stepped d)
+
+calm-goes_on : (earlier : List Runs) (left : ℕ) (c : Scene) → left ≢ 0 → rests (settled c).scene.machine ≡ false
+    → is_calm_behind earlier left c ≡ (is_quiet c && calm_on earlier (left - 1) (settled c).scene)
+unfolding is_calm_behind
+calm-goes_on earlier zero c some going = absurd (some refl)
+calm-goes_on earlier (suc left) c some going =
+    let one : left ≡ suc left - 1 = omega arith in
+    rw going (ap (λ k. is_quiet c && calm_on earlier k (settled c).scene) one)
+
+regroup : (a b c d : Bool) → (((a && b) && c) && d) ≡ (a && (b && (c && d)))
+regroup true true c d = refl
+regroup true false c d = refl
+regroup false b c d = refl
+
+module _ (whole : Bool) (last : ℕ) (calm quiet : Bool) (left : ℕ) (s t : Machine) (xs ys : List Signal) (marks : List Bool)
+    (is : IsSoFar whole last calm left s xs marks) (came : (settled (without_cards s xs)).scene ≡ without_cards t ys)
+    (still : quiet ≡ is_quiet (without_cards s xs)) where
+  module _ (end : (left ≡ 0) ⊎ (rests t ≡ true)) where
+    at_end : (left ≡ 0) ⊎ (rests (settled (without_cards s xs)).scene.machine ≡ true)
+    at_end = subst (λ m. (left ≡ 0) ⊎ (rests m ≡ true)) (ap (λ c. c.machine) (sym came)) end
+
+    pub ends-calm : (calm && quiet) ≡ whole
+    ends-calm = ap (λ b. calm && b) (still ∙ sym (calm-ends is.earlier left (without_cards s xs) at_end)) ∙ is.calm
+
+    pub ends-done : t.done ≡ last
+    ends-done = ap (λ c. c.machine.done) (sym came) ∙ sym (done-ends left (without_cards s xs) at_end) ∙ is.done
+
+  -- it goes on by an entry
+  module _ (some : left ≢ 0) (going : rests t ≡ false) where
+    goes_on : rests (settled (without_cards s xs)).scene.machine ≡ false
+    goes_on = ap (λ c. rests c.machine) came ∙ going
+
+    pub few-now : t.done + left ≤ MOST_INSTRUCTIONS
+    few-now =
+        let same : t.done ≡ s.done = ap (λ c. c.machine.done) (sym came) ∙ settled-done (without_cards s xs) in
+        omega (arith, same, is.few)
+
+    pub next-so_far : (u : Machine) (entry now : Bool) (marks2 : List Bool) → u ≡ step t → now ≡ ((calm && quiet) && entry)
+        → ((earlier : List Runs) → AreMarks earlier marks → AreMarks (next_writes t ∷ earlier) marks2 × (entry ≡ is_calm_entry earlier t))
+        → IsSoFar whole last now (left - 1) u ys marks2
+    next-so_far u entry now marks2 made all kept =
+        let c = without_cards s xs in
+        let e = is.earlier in
+        let noted = kept e is.marks in
+        let later = is_calm_behind (next_writes t ∷ e) (left - 1) (without_cards u ys) in
+        let on : calm_on e (left - 1) (settled c).scene ≡ (entry && later) =
+        ap (calm_on e (left - 1)) came
+        ∙ ap (λ b. b && is_calm_behind (next_writes t ∷ e) (left - 1) (without_cards (step t) ys)) (sym noted.1)
+        ∙ ap (λ m. entry && is_calm_behind (next_writes t ∷ e) (left - 1) (without_cards m ys)) (sym made) in
+        record {
+          earlier = next_writes t ∷ e;
+          marks = noted.0;
+          calm =
+              ap (λ b. b && later) all ∙ regroup calm quiet entry later
+              ∙ ap (λ b. calm && (b && (entry && later))) still
+              ∙ ap (λ b. calm && (is_quiet c && b)) (sym on)
+              ∙ ap (λ b. calm && b) (sym (calm-goes_on e left c some goes_on))
+              ∙ is.calm;
+          done =
+              ap (λ m. (run (left - 1) (without_cards m ys)).last.done) made
+              ∙ ap (λ d. (run (left - 1) (stepped d)).last.done) (sym came)
+              ∙ sym (ap (λ r. r.last.done) (run-goes_on left c some goes_on))
+              ∙ is.done;
+          few =
+              let one : u.done ≡ t.done + 1 = ap (λ m. m.done) made ∙ step-done t in
+              omega (arith, one, few-now, some);
+        }

@@ -1,0 +1,35 @@
+-- The last tick that is told.
+use Rattle.std.proofs.Common.{◌≡◌, ℕ, List, [], ◌∷◌, refl, ◌∙◌, ap}
+use Rattle.st_state.specs.Machine.{Machine}
+use Rattle.st_exec.specs.Run.{Signal}
+use Rattle.st_run.specs.Events.{Timed}
+use Rattle.st_run.specs.Order.{last_tick}
+use Rattle.st_run.specs.TimedRun.{timed_run}
+use Rattle.st_run.specs.Told.{Told, told}
+use Rattle.st_sweep.specs.Sweep.{without_cards, ticks}
+
+unfoldable pub last_told : ℕ → List Told → ℕ
+last_told t [] = t
+last_told t (x ∷ xs) = last_told x.tick xs
+
+pub told-last : (t : ℕ) (xs : List Timed) → last_told t (told xs) ≡ last_tick t xs
+unfolding last_told told last_tick
+told-last t [] = refl
+told-last t (x ∷ xs) = told-last x.tick xs
+
+pub last_told-next : (t : ℕ) (x : Told) (xs rest : List Told) → rest ≡ x ∷ xs → last_told t rest ≡ last_told x.tick xs
+unfolding last_told
+last_told-next t x xs rest same = rw same refl
+
+pub last_told-end : (t : ℕ) (rest : List Told) → rest ≡ [] → last_told t rest ≡ t
+unfolding last_told
+last_told-end t rest same = rw same refl
+
+-- what a whole run tells
+pub told-whole : (ds : List ℕ) (n left : ℕ) (s : Machine) (xs : List Signal) (cards : List (List ℕ)) (rest : List Told)
+    → rest ≡ told (timed_run ds n left (record { machine = s; signals = xs; cards = cards }) []) → cards ≡ []
+    → last_told 0 rest ≡ ticks ds n left (without_cards s xs)
+unfolding ticks
+told-whole ds n left s xs cards rest tells none =
+    let run = λ (ys : List (List ℕ)). timed_run ds n left (record { machine = s; signals = xs; cards = ys }) [] in
+    ap (last_told 0) tells ∙ told-last 0 (run cards) ∙ ap (λ ys. last_tick 0 (run ys)) none

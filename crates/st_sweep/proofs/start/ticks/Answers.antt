@@ -1,0 +1,18 @@
+use Rattle.std.proofs.Common.{sym, ◌∙◌, ap}
+use Rattle.st_run.specs.Together.{signals_of}
+use Rattle.st_sweep.specs.Starts.{ticks_from}
+use Rattle.st_sweep.proofs.ToldTicks.{told-whole, last_told-next, last_told-end}
+use Rattle.st_sweep.proofs.start.ticks.Goals as goal
+
+pub run-init : goal.run-init
+run-init g c = record {
+  same =
+      told-whole _ g.row.N c.args.budget _ (signals_of c.args.signals.now) _ _ c.new-run.ensures c.empty.ensures
+      ∙ ap (λ s. ticks_from s g.row.N c.args.budget (signals_of c.args.signals.now)) c.start.view_is;
+}
+
+pub run-preserved : goal.run-preserved
+run-preserved g c = record { same = sym (last_told-next c.run.tick _ _ _ c.in-Some.ensures) ∙ c.run.invariant.same }
+
+pub returns : goal.returns
+returns g c = sym (last_told-end c.run.tick _ c.in_default.ensures) ∙ c.run.invariant.same

@@ -1,0 +1,8 @@
+use Rattle.std.proofs.Common.{[], sym, subst}
+use Rattle.st_sweep.specs.Marks.{AreMarks}
+use Rattle.st_sweep.proofs.MarkLemmas.{marks-none}
+use Rattle.st_sweep.proofs.written.Written.new.Goals as goal
+
+pub returns : goal.returns
+returns c =
+    subst (AreMarks []) (sym (c.in-Ok.ensures.items_if_clones_equal (λ y same. same))) (marks-none c.number_of_words.result)

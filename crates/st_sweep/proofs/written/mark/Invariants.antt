@@ -1,0 +1,14 @@
+use Rattle.std.proofs.Common.{◌≡◌, ◌+◌, ◌≤◌, length}
+use Rattle.st_sweep.specs.Marks.{marked}
+use Rattle.st_sweep.proofs.written.mark.Given as goal
+
+abbrev pub invariant-words : goal.invariant-words
+invariant-words l = record {
+  place : l.w + l.left ≡ l.first + l.len;
+  few : l.left ≤ l.len;
+  long : length l.marks.items ≡ length l.fn.marks.items;
+  same : marked l.marks.items l.w l.left ≡ marked l.fn.marks.items l.first l.len;
+}
+
+abbrev pub decreases-words : goal.decreases-words
+decreases-words l = l.left

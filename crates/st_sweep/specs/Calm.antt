@@ -1,0 +1,81 @@
+-- A run is calm where all reads take the same time, nothing breaks off what runs ahead, and no entry uses a word that an
+-- earlier one writes.
+use Rattle.std.specs.Prelude.{ℕ, zero, suc, ◌+◌, Bool, true, false, not, ◌==◌, ◌&&◌, ◌||◌, nat_lt, is_none, List, [], ◌∷◌, length, Option, None, Some}
+use Rattle.std.specs.List.{list_all, list_any}
+use Rattle.st_state.specs.Machine.{Machine}
+use Rattle.st_prep.specs.Fetch.{place_of}
+use Rattle.st_prep.specs.Plan.{needs, sight, plan}
+use Rattle.st_prep.specs.declared.entries.Words.{Words}
+use Rattle.st_exec.specs.Completion.{is_missed}
+use Rattle.st_exec.specs.Step.{interrupt, rests}
+use Rattle.st_exec.specs.Run.{Scene, with_due_signals, with_due_orders, settled, stepped}
+use Rattle.st_rows.specs.Entries.{is_among}
+use Rattle.st_rows.specs.declared.entry.Runs.{Runs}
+use Rattle.st_segment.specs.Entries.{words_to_write}
+
+-- ---- delays
+
+abbrev pub are_equal : List ℕ → Bool
+are_equal [] = true
+are_equal (d ∷ ds) = list_all (λ x. x == d) ds
+
+-- ---- words that earlier entries write
+
+-- one of them writes the word w, or one of the n words from the word w on
+unfoldable pub is_written : List Runs → ℕ → Bool
+is_written earlier w = list_any (is_among w) earlier
+
+unfoldable pub are_written : List Runs → ℕ → ℕ → Bool
+are_written earlier w zero = false
+are_written earlier w (suc n) = is_written earlier w || are_written earlier (w + 1) n
+
+-- the same of the words of two runs, and of the index-side word
+unfoldable pub one_is_written : List Runs → Words → Bool
+one_is_written earlier w = are_written earlier w.first w.len || are_written earlier w.first2 w.len2
+
+unfoldable pub side_is_written : List Runs → Option ℕ → Bool
+side_is_written earlier None = false
+side_is_written earlier (Some w) = is_written earlier w
+
+-- ---- entries
+
+-- the words that the next entry of a state writes, and its index-side word
+abbrev pub next_writes : Machine → Runs
+next_writes s = words_to_write (plan s (interrupt s)).writes
+
+abbrev pub next_side : Machine → Option ℕ
+next_side s = (needs (sight s (place_of s (interrupt s)))).index_read
+
+-- the next entry takes no interrupt and misses no branch, and no earlier entry writes its index-side word or one of its
+-- operand words
+unfoldable pub is_calm_entry : List Runs → Machine → Bool
+is_calm_entry earlier s =
+    is_none (interrupt s)
+    && not (is_missed (plan s (interrupt s)) s)
+    && not (side_is_written earlier (next_side s))
+    && not (one_is_written earlier (plan s (interrupt s)).reads)
+
+-- ---- what comes between two entries
+
+-- no card is put into storage, and where the machine waits, nothing comes that ends the wait
+unfoldable pub is_quiet : Scene → Bool
+is_quiet c =
+    let after = (settled c).scene in
+    not (nat_lt (length after.cards) (length c.cards))
+    && (rests after.machine
+    || not (rests (with_due_orders (with_due_signals c.machine c.signals c.cards)).scene.machine))
+
+-- ---- the run
+
+-- the run from a scene on, in which so many entries may still be done, behind earlier entries that write these words
+unfoldable pub is_calm_behind : List Runs → ℕ → Scene → Bool
+is_calm_behind earlier zero c = is_quiet c
+is_calm_behind earlier (suc left) c =
+    let s = (settled c).scene.machine in
+    is_quiet c
+    && (rests s
+    || is_calm_entry earlier s && is_calm_behind (next_writes s ∷ earlier) left (stepped (settled c).scene))
+
+-- the whole run of a scene, with these delays
+abbrev pub is_calm : List ℕ → ℕ → Scene → Bool
+is_calm ds left c = are_equal ds && is_calm_behind [] left c

@@ -1,0 +1,5 @@
+pub mod Calm
+pub mod Sweep
+pub mod Marks
+pub mod SideBySide
+pub mod Starts

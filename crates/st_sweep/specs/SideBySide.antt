@@ -1,0 +1,25 @@
+-- What a sweep tells of a run.
+use Rattle.std.specs.Prelude.{ℕ, ◌≡◌, ◌≤◌, ◌<◌, false, List, [], ◌∷◌, map, length, slice_index, None}
+use Rattle.st_state.specs.Machine.{Machine}
+use Rattle.st_exec.specs.Run.{Signal, Scene, run}
+use Rattle.st_sweep.specs.Calm.{is_calm}
+use Rattle.st_sweep.specs.Sweep.{without_cards, ticks}
+use Rattle.st_sweep.specs.Starts.{Start}
+use Rattle.st_sweep.specs.declared.start.Four.{Four}
+use Rattle.st_sweep.specs.declared.sweeping.Swept.{Swept}
+
+-- the ticks on machines of one to eight levels, the number done at the end, and whether the run is calm
+abbrev pub swept : List ℕ → ℕ → Scene → Swept
+swept ds left c = record {
+  ticks = map (λ n. ticks ds n left c) (1 ∷ 2 ∷ 3 ∷ 4 ∷ 5 ∷ 6 ∷ 7 ∷ 8 ∷ []);
+  done = (run left c).last.done;
+  calm = is_calm ds left c;
+}
+
+-- four times the same machine
+abbrev pub four_of : Start → Four
+four_of s = record { first = s; second = s; third = s; fourth = s }
+
+-- none is greater than one before it
+abbrev pub AreNotRising : List ℕ → Type 0
+AreNotRising xs = (i j : ℕ) → i ≤ j → j < length xs → slice_index xs j ≤ slice_index xs i

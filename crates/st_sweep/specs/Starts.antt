@@ -1,0 +1,26 @@
+-- Machines before their first entry.
+use Rattle.std.specs.Prelude.{ℕ, ◌≡◌, false, List, None}
+use Rattle.st_state.specs.Machine.{Machine, opening}
+use Rattle.st_exec.specs.Run.{Signal}
+use Rattle.st_sweep.specs.Sweep.{without_cards, ticks}
+
+-- a state and the delays
+pub record Start : Type 0 where
+  pub machine : Machine
+  pub delays : List ℕ
+
+-- at the start of an image
+abbrev pub start_of : List ℕ → ℕ → List ℕ → Start
+start_of image start ds = record { machine = opening image start; delays = ds }
+
+-- nothing has happened in the state
+pub record IsFresh (s : Machine) : Type 0 where
+  pub done : s.done ≡ 0
+  pub enabled : s.enabled ≡ false
+  pub waiting : s.waiting ≡ false
+  pub reader : s.reader ≡ None
+  pub printer : s.printer ≡ None
+
+-- the ticks of its run, with these signals, on n levels
+abbrev pub ticks_from : Start → ℕ → ℕ → List Signal → ℕ
+ticks_from s n left xs = ticks s.delays n left (without_cards s.machine xs)

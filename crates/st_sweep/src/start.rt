@@ -1,0 +1,147 @@
+//! Machines before their first entry, and the ticks of their runs.
+ghost use Rattle.std.specs.Prelude.{◌≡◌, ◌≤◌, ◌<◌, ◌^◌, ℕ, [], ◌∷◌, length, slice_index, IfOk};
+ghost use Rattle.std.specs.List.{AllPass};
+ghost use Rattle.st_bits.specs.Storage.{words_of_storage};
+ghost use Rattle.st_bits.specs.declared.limits.TheConstants.{MOST_INSTRUCTIONS};
+ghost use Rattle.st_bits.specs.declared.register.TheConstants.{FIRST_STORAGE_WORD};
+ghost use Rattle.st_card.specs.Limits.{is_signal};
+ghost use Rattle.st_run.specs.Together.{signals_of};
+ghost use Rattle.st_sweep.specs.Starts.{ticks_from, start_of};
+ghost use Rattle.st_sweep.specs.SideBySide.{four_of};
+
+use st_banks::Delays;
+use st_bits::NoMemory;
+use st_card::Signal;
+use st_exch::Hopper;
+use st_run::Run;
+use st_state::State;
+use std::alloc::Global;
+use std::marker::Model;
+
+/// A machine before its first entry.
+#[derive(Drop)]
+pub(crate) struct Start {
+    state: State,
+    delays: Delays,
+}
+
+impl Model for Start {
+    ghost use Rattle.st_sweep.specs.Starts.{Start, IsFresh};
+
+    ghost Value = { Start };
+
+    ghost view = { λ s. record { machine = s.state; delays = s.delays } };
+
+    ghost invariant = { λ s. IsFresh s.state };
+}
+
+impl Start {
+    /// The machine that begins with this image at this address, and has these delays. The one error is that memory ran
+    /// out; no later call takes any.
+    pub fn new(alloc: Global, image: &[u64], start: u32, delays: &[u8]) -> Result<Start, NoMemory>
+        requires whole { length image.now ≡ words_of_storage }
+        requires registers { (w : ℕ) → w < FIRST_STORAGE_WORD → slice_index image.now w ≡ 0 }
+        requires counter { start < 2 ^ 19 }
+        requires some { 1 ≤ length delays.now }
+        requires few { length delays.now ≤ 4096 }
+        ensures { IfOk result (λ s. s ≡ start_of image.now start delays.now) }
+    {
+        let Ok(delays) = Delays::new(alloc, delays) else {
+            return Err(NoMemory);
+        };
+        let state = State::new(alloc, image, start)?;
+        Ok(Start { state, delays })
+    }
+}
+
+/// The tick at which the last entry of a run is done on N levels, 0 where none is.
+fn ticks<const N: usize>(start: Start, signals: &[Signal], budget: u64) -> u64
+    requires some { 1 ≤ N }
+    requires few { N ≤ 8 }
+    requires signals { AllPass is_signal signals.now }
+    requires some_done { 1 ≤ budget }
+    requires few_done { budget ≤ MOST_INSTRUCTIONS }
+    ensures { result ≡ ticks_from start N budget (signals_of signals.now) }
+{
+    let Start { state, delays } = start;
+    let mut run = Run::<N>::new(state, delays, signals, Hopper::empty(), &[], budget);
+    let mut tick = 0;
+    'run: while let Some(told) = run.next() {
+        tick = told.tick;
+    }
+    tick
+}
+
+/// Four machines before their first entry.
+#[derive(Drop)]
+pub(crate) struct Four {
+    first: Start,
+    second: Start,
+    third: Start,
+    fourth: Start,
+}
+
+impl Four {
+    /// Four times the same machine. The one error is that memory ran out.
+    pub fn new(alloc: Global, image: &[u64], start: u32, delays: &[u8]) -> Result<Four, NoMemory>
+        requires whole { length image.now ≡ words_of_storage }
+        requires registers { (w : ℕ) → w < FIRST_STORAGE_WORD → slice_index image.now w ≡ 0 }
+        requires counter { start < 2 ^ 19 }
+        requires some { 1 ≤ length delays.now }
+        requires few { length delays.now ≤ 4096 }
+        ensures { IfOk result (λ f. f ≡ four_of (start_of image.now start delays.now)) }
+    {
+        Ok(Four {
+            first: Start::new(alloc, image, start, delays)?,
+            second: Start::new(alloc, image, start, delays)?,
+            third: Start::new(alloc, image, start, delays)?,
+            fourth: Start::new(alloc, image, start, delays)?,
+        })
+    }
+}
+
+/// The ticks of runs on one to four levels.
+pub(crate) fn ticks_on_few(four: Four, signals: &[Signal], budget: u64) -> [u64; 4]
+    requires signals { AllPass is_signal signals.now }
+    requires some_done { 1 ≤ budget }
+    requires few_done { budget ≤ MOST_INSTRUCTIONS }
+    ensures { let xs = signals_of signals.now in
+        result ≡ ticks_from four.first 1 budget xs ∷ ticks_from four.second 2 budget xs
+        ∷ ticks_from four.third 3 budget xs ∷ ticks_from four.fourth 4 budget xs ∷ [] }
+{
+    let Four {
+        first,
+        second,
+        third,
+        fourth,
+    } = four;
+    [
+        ticks::<1>(first, signals, budget),
+        ticks::<2>(second, signals, budget),
+        ticks::<3>(third, signals, budget),
+        ticks::<4>(fourth, signals, budget),
+    ]
+}
+
+/// The ticks of runs on five to eight levels.
+pub(crate) fn ticks_on_many(four: Four, signals: &[Signal], budget: u64) -> [u64; 4]
+    requires signals { AllPass is_signal signals.now }
+    requires some_done { 1 ≤ budget }
+    requires few_done { budget ≤ MOST_INSTRUCTIONS }
+    ensures { let xs = signals_of signals.now in
+        result ≡ ticks_from four.first 5 budget xs ∷ ticks_from four.second 6 budget xs
+        ∷ ticks_from four.third 7 budget xs ∷ ticks_from four.fourth 8 budget xs ∷ [] }
+{
+    let Four {
+        first,
+        second,
+        third,
+        fourth,
+    } = four;
+    [
+        ticks::<5>(first, signals, budget),
+        ticks::<6>(second, signals, budget),
+        ticks::<7>(third, signals, budget),
+        ticks::<8>(fourth, signals, budget),
+    ]
+}

@@ -1,0 +1,121 @@
+//! Which words the entries of a run wrote so far.
+ghost use Rattle.std.specs.Prelude.{◌≡◌, ℕ, ◌+◌, ◌≤◌, List, [], ◌∷◌, IfOk, length, get_or, false};
+ghost use Rattle.st_bits.specs.Storage.{words_of_storage};
+ghost use Rattle.st_prep.specs.Ranges.{IsRuns, AreInside};
+ghost use Rattle.st_rows.specs.declared.entry.Runs.{Runs};
+ghost use Rattle.st_segment.specs.Entries.{words_to_write};
+ghost use Rattle.st_sweep.specs.Calm.{is_written, are_written, one_is_written, side_is_written};
+ghost use Rattle.st_sweep.specs.Marks.{AreMarks, marked};
+
+use st_bits::NoMemory;
+use st_bits::limits::WORDS;
+use st_prep::Words;
+use std::alloc::Global;
+use std::marker::Model;
+
+/// The words of storage that were written so far.
+#[derive(Drop)]
+pub(crate) struct Written {
+    marks: Vec<bool>,
+}
+
+// Clauses see a mark for each word.
+impl Model for Written {
+    ghost use Rattle.std.specs.Prelude.{◌≡◌, List, Bool, length};
+    ghost use Rattle.st_bits.specs.Storage.{words_of_storage};
+
+    ghost Value = { List Bool };
+
+    ghost view = { λ w. w.marks.items };
+
+    ghost invariant = { λ w. length w.marks.items ≡ words_of_storage };
+}
+
+/// The words of storage.
+fn number_of_words() -> usize
+    ensures { result ≡ words_of_storage }
+{
+    WORDS as usize
+}
+
+/// Whether a word has a mark.
+fn is_marked(marks: &[bool], w: usize) -> bool
+    ensures { result ≡ get_or marks.now w false }
+{
+    marks.get(w).copied().unwrap_or(false)
+}
+
+/// Whether one of the words of a run has a mark.
+fn has_mark(marks: &[bool], first: u32, len: u8) -> bool
+    ensures { (earlier : List Runs) → AreMarks earlier marks.now → result ≡ are_written earlier first len }
+{
+    let mut w = first as usize;
+    let mut left = len;
+    'words: while left > 0 {
+        if is_marked(marks, w) {
+            return true;
+        }
+        w += 1;
+        left -= 1;
+    }
+    false
+}
+
+/// The words of a run get their marks.
+fn mark(marks: &mut Vec<bool>, first: u32, len: u8)
+    requires { 1 ≤ len → first + len ≤ length marks.old.items }
+    ensures marked { marks.new.items ≡ marked marks.old.items first len }
+    ensures long { length marks.new.items ≡ length marks.old.items }
+{
+    let mut w = first as usize;
+    let mut left = len;
+    'words: while left > 0 {
+        marks[w] = true;
+        w += 1;
+        left -= 1;
+    }
+}
+
+impl Written {
+    ghost use Rattle.st_sweep.specs.Marks.{AreMarks, marked};
+
+    /// No word was written. The one error is that memory ran out.
+    pub fn new(alloc: Global) -> Result<Written, NoMemory>
+        ensures { IfOk result (λ w. AreMarks [] w) }
+    {
+        let Ok(marks) = vec![in alloc; false; number_of_words()] else {
+            return Err(NoMemory);
+        };
+        Ok(Written { marks })
+    }
+
+    /// Whether one of the words of two runs was.
+    #[tactic(auto, unfolding(crate::specs::Calm::one_is_written))]
+    pub fn has_words(&self, words: Words) -> bool
+        ensures { (earlier : List Runs) → AreMarks earlier self.now → result ≡ one_is_written earlier words }
+    {
+        has_mark(&self.marks, words.first, words.len)
+            || has_mark(&self.marks, words.first2, words.len2)
+    }
+
+    /// Whether the index-side word was, if there is one.
+    #[tactic(auto, unfolding(crate::specs::Calm::side_is_written))]
+    pub fn has_side(&self, side: Option<u32>) -> bool
+        ensures { (earlier : List Runs) → AreMarks earlier self.now → result ≡ side_is_written earlier side }
+    {
+        match side {
+            Some(w) => is_marked(&self.marks, w as usize),
+            None => false,
+        }
+    }
+
+    /// The words of two runs are written.
+    pub fn put(&mut self, words: Words)
+        requires runs { IsRuns words }
+        requires inside { AreInside words }
+        ensures { (earlier : List Runs) → AreMarks earlier self.old → AreMarks (words_to_write words ∷ earlier) self.new }
+    {
+        mark(&mut self.marks, words.first, words.len);
+        mark(&mut self.marks, words.first2, words.len2);
+    }
+}
