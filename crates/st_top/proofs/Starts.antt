@@ -1,5 +1,7 @@
 -- A run that is prepared starts from the scene that is meant.
-use Rattle.std.proofs.Common.{◌≡◌, ℕ, List, All, refl, sym, ◌∙◌, ap, subst}
+use Rattle.std.proofs.Common.{◌≡◌, ◌<◌, ℕ, List, All, sym, ◌∙◌, ap, subst}
+use Rattle.std.specs.Prelude.{Result, Ok, Err, IfOk}
+use Rattle.st_exch.proofs.CardLemmas.{cards-size, cards-below}
 use Rattle.st_card.specs.Controls.{Asked}
 use Rattle.st_state.specs.Machine.{Machine, IsMachine, opening}
 use Rattle.st_exec.specs.Run.{Signal, Scene}
@@ -35,3 +37,11 @@ is_scene image start asked job m cards e is f all = record {
   machine = subst IsMachine e is;
   cards = subst (All IsCard) f all;
 }
+
+-- the cards of a job's reader
+are_cards : (job : List ℕ) → All (λ x. x < 256) job → All IsCard (reader_cards job)
+are_cards job bytes = λ k d lt. record { size = cards-size job k d lt; below = cards-below job bytes k d lt }
+
+pub read_cards : {E : Type 0} (job : List ℕ) (r : Result (List (List ℕ)) E) → All (λ x. x < 256) job → IfOk r (λ cards. cards ≡ reader_cards job) → IfOk r (All IsCard)
+read_cards job (Ok cards) bytes e = subst (All IsCard) (sym e) (are_cards job bytes)
+read_cards job (Err x) bytes e = tt

@@ -24,11 +24,11 @@ use Rattle.st_top.specs.declared.answer.Status.TheVariants.{Done, Refused, Usage
 use Rattle.st_top.specs.declared.reporting.TheConstants.{LEVELS}
 
 -- a line is in time
-InTime : ℕ → Event → Type 0
+abbrev InTime : ℕ → Event → Type 0
 InTime b e = e.ticks ≤ b * (e.done + 1)
 
 -- so is all that is told
-TimedInTime : ℕ → Timed → Type 0
+abbrev TimedInTime : ℕ → Timed → Type 0
 TimedInTime b x = x.tick ≤ b * (x.done + 1)
 
 moment-time : (b done tick : ℕ) (lines : List (List ℕ)) → tick ≤ b * (done + 1) → All (InTime b) (at_moment done tick lines)
@@ -51,7 +51,6 @@ behind-time b [] e later all = All-head (InTime b) e later all
 behind-time b (x ∷ xs) e later all = behind-time b xs e later (All-tail (InTime b) x (xs ++ e ∷ later) all)
 
 stopped-time : (b : ℕ) (s t : OutputState) (events : List Event) (done tick : ℕ) → All (InTime b) events → StoppedAt s t events done tick → tick ≤ b * (done + 1)
-unfolding InTime
 stopped-time b s t events done tick all h =
     let there : InTime b h.failed = behind-time b h.earlier h.failed h.later (subst (All (InTime b)) h.order all) in
     subst (λ k. k ≤ b * (done + 1)) (sym h.ticks_then) (subst (λ n. h.failed.ticks ≤ b * (n + 1)) (sym h.done_then) there)
@@ -69,7 +68,7 @@ module _ (most : ℕ) (asked : Asked) (start : Scene) (are : AreDelays most aske
       run-ends most LEVELS asked.delays are few asked.budget start asked.snaps 0 is
 
   events-time : (listed : List (List ℕ)) → All (InTime (64 * (most + 4))) (at_moment 0 0 listed ++ run_report asked start)
-  unfolding run_report TimedInTime
+  unfolding run_report
   events-time listed =
       let b = 64 * (most + 4) in
       let few : LEVELS ≤ 8 = omega arith in
