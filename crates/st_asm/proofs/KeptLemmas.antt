@@ -19,7 +19,7 @@ use Rattle.st_card.specs.declared.cards.Card.{Card}
 use Rattle.st_card.specs.declared.cards.CardKind.{CardKind}
 use Rattle.st_card.specs.declared.cards.CardKind.TheVariants.{Comment, Control, Statement as StatementCard}
 use Rattle.st_card.specs.declared.faults.Fault.{Fault}
-use Rattle.st_card.specs.declared.faults.Fault.TheVariants.{BadControlCard, CardAfterEnd, NotYetBuilt}
+use Rattle.st_card.specs.declared.faults.Fault.TheVariants.{BadControlCard, CardAfterEnd}
 use Rattle.st_card.proofs.LimitLemmas.{added-kept}
 use Rattle.st_expr.specs.Name.{is_name, is_name_byte, padded}
 use Rattle.st_strap.specs.Order.{judged, mapped}
@@ -28,7 +28,7 @@ use Rattle.st_strap.specs.declared.statement.Statement.{Statement}
 use Rattle.st_strap.proofs.StatementLemmas.{read-is, read-named}
 use Rattle.st_asm.specs.Pass.{Refusal, onward, pass, unless_faulty, then_for}
 use Rattle.st_asm.specs.Lines.{name_field, statement_field, name_in, silent, saying}
-use Rattle.st_asm.specs.Forming.{Found, unread, is_built, first_fault_of, with_statement, with_asked, with_end, form_control, form_statement, form_kind, form_card, form_pass}
+use Rattle.st_asm.specs.Forming.{Found, unread, first_fault_of, with_statement, with_asked, with_end, form_control, form_statement, form_kind, form_card, form_pass}
 use Rattle.st_asm.specs.Symbols.{table}
 use Rattle.st_asm.specs.Values.{wrapped, values_of}
 use Rattle.st_asm.specs.Checks.{value_fault}
@@ -117,8 +117,8 @@ form_kind-numbers s card fault text Comment = card-pushed s.lines (silent card)
 form_kind-numbers s card fault text Control =
     let P : Found → Type 0 = λ t. cards_in t.lines ≡ cards_in s.lines ++ card ∷ [] in
     ok-if P s.ended _ (Err BadControlCard)
-    (λ e. ok-judged P BadControlCard (added s.asked text) (λ asked. with_asked s card asked)
-    (λ asked is. ok-if P (is_built asked) _ (Err NotYetBuilt) (λ b. card-pushed s.lines (silent card)) (λ b. tt)))
+    (λ e. ok-judged P BadControlCard (added s.asked text) (λ asked. Ok (with_asked s card asked))
+    (λ asked is. card-pushed s.lines (silent card)))
     (λ e. tt)
 form_kind-numbers s card fault text StatementCard =
     let P : Found → Type 0 = λ t. cards_in t.lines ≡ cards_in s.lines ++ card ∷ [] in
@@ -182,18 +182,14 @@ unfolding form_control form_statement
 form_kind-kept s card fault text Comment is = record {
   lines = All-push IsLine s.lines (silent card) is.lines (silent-is card);
   limits = is.limits;
-  built = is.built;
 }
 form_kind-kept s card fault text Control is =
     ok-if IsDeck s.ended _ (Err BadControlCard)
-    (λ e. ok-judged IsDeck BadControlCard (added s.asked text) (λ asked. with_asked s card asked)
-    (λ asked more. ok-if IsDeck (is_built asked) _ (Err NotYetBuilt)
-    (λ built. record {
+    (λ e. ok-judged IsDeck BadControlCard (added s.asked text) (λ asked. Ok (with_asked s card asked))
+    (λ asked more. record {
       lines = All-push IsLine s.lines (silent card) is.lines (silent-is card);
       limits = added-kept s.asked asked text more is.limits;
-      built = built;
-    })
-    (λ b. tt)))
+    }))
     (λ e. tt)
 form_kind-kept s card fault text StatementCard is =
     ok-if IsDeck s.ended (Err CardAfterEnd) _ (λ e. tt)
@@ -204,7 +200,6 @@ form_kind-kept s card fault text StatementCard is =
       lines = All-push IsLine s.lines (saying card (name_in (name_field text)) st) is.lines
           (saying-is card (name_field text) (statement_field text) st read);
       limits = is.limits;
-      built = is.built;
     })))
 
 form-kept : (job : List ℕ) (s : Found) (card : Card) → IsDeck s → IfOk (form_card job s card) IsDeck
@@ -228,8 +223,7 @@ unread-limits = record {
 }
 
 unread-is : IsDeck unread
-unfolding is_built
-unread-is = record { lines = All-nil IsLine; limits = unread-limits; built = refl }
+unread-is = record { lines = All-nil IsLine; limits = unread-limits }
 
 ended-kept : (P : Found → Type 0) (cards : ℕ) (r : Result Found Refusal) → IfOk r P → IfOk (then_for (with_end cards) r) P
 ended-kept P cards (Ok found) is = ok-if P found.ended (Ok found) _ (λ e. is) (λ e. tt)
@@ -429,10 +423,6 @@ defaults-within asked is =
       delays.1,
     )
 
-defaults-built : (asked : Asked) → IsTrue (is_built asked) → IsTrue (is_built (with_defaults asked))
-unfolding with_defaults is_built
-defaults-built asked is = is
-
 -- what the three passes leave is sound
 pub together-sound : (job : List ℕ) (found : Found) (named : Named) (laid : Laid) → form_pass job (cards_of job) ≡ Ok found →
     name_pass found.lines ≡ Ok named → value_pass (table named.symbols) found.lines named.places ≡ Ok laid →
@@ -457,7 +447,6 @@ together-sound job found named laid formed is_named is_laid sound =
       numbers = λ k d below. numbered_row k d below;
       symbols = names.symbols;
       limits = asked.0;
-      built = defaults-built found.asked deck.built;
       budget = asked.1;
       delays = asked.2;
     }

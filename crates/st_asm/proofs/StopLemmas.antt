@@ -7,14 +7,14 @@ use Rattle.st_card.specs.declared.cards.Card.{Card}
 use Rattle.st_card.specs.declared.cards.CardKind.{CardKind}
 use Rattle.st_card.specs.declared.cards.CardKind.TheVariants.{Comment, Control, Statement as StatementCard}
 use Rattle.st_card.specs.declared.faults.Fault.{Fault}
-use Rattle.st_card.specs.declared.faults.Fault.TheVariants.{BadControlCard, CardAfterEnd, NoEnd, NotYetBuilt}
+use Rattle.st_card.specs.declared.faults.Fault.TheVariants.{BadControlCard, CardAfterEnd, NoEnd}
 use Rattle.st_strap.specs.Faults.{fault_in, faults_on}
 use Rattle.st_strap.specs.Order.{judged, mapped}
 use Rattle.st_strap.specs.Saying.{statement_of}
 use Rattle.st_strap.proofs.FaultLemmas.{card-fault, fault-mapped}
 use Rattle.st_asm.specs.Pass.{Refusal, onward, pass, then_for, unless_faulty}
 use Rattle.st_asm.specs.Lines.{name_field, statement_field}
-use Rattle.st_asm.specs.Forming.{Found, unread, is_built, before_end, first_fault_of, with_end, with_asked, with_statement, form_control, form_statement, form_kind, form_card, form_pass}
+use Rattle.st_asm.specs.Forming.{Found, unread, before_end, first_fault_of, with_end, with_asked, with_statement, form_control, form_statement, form_kind, form_card, form_pass}
 use Rattle.st_asm.specs.Symbols.{table}
 use Rattle.st_asm.specs.Naming.{Named, name_pass}
 use Rattle.st_asm.specs.Valuing.{Laid, value_pass}
@@ -220,20 +220,16 @@ or-none : (o : Option Fault) → option_or o None ≡ o
 or-none None = refl
 or-none (Some fault) = refl
 
-built-fault : (b : Bool) (found : Found) → fault_in {A = Found} (if b then Ok found else Err NotYetBuilt) ≡ (if b then None else Some NotYetBuilt)
-built-fault true found = refl
-built-fault false found = refl
-
 asked-fault : (found : Found) (card : ℕ) (o : Option Asked) →
-    fault_in (judged BadControlCard o (λ asked. with_asked found card asked)) ≡ asking_fault o
+    fault_in (judged BadControlCard o (λ asked. Ok (with_asked found card asked))) ≡ asking_fault o
 asked-fault found card None = refl
-asked-fault found card (Some asked) = built-fault (is_built asked) _
+asked-fault found card (Some asked) = refl
 
 control-fault : (found : Found) (card : ℕ) (text : List ℕ) → fault_in (form_control found card text)
     ≡ (if found.ended then asking_fault (added found.asked text) else Some BadControlCard)
 unfolding form_control
 control-fault found card text =
-    elim found.ended as (λ b. fault_in (if b then judged BadControlCard (added found.asked text) (λ asked. with_asked found card asked) else Err BadControlCard)
+    elim found.ended as (λ b. fault_in (if b then judged BadControlCard (added found.asked text) (λ asked. Ok (with_asked found card asked)) else Err BadControlCard)
     ≡ (if b then asking_fault (added found.asked text) else Some BadControlCard)) [
       | true ↦ asked-fault found card (added found.asked text)
       | false ↦ refl

@@ -1,12 +1,12 @@
 -- The form pass: each card by itself, what the control cards ask for, and where the end is.
-use Rattle.std.specs.Prelude.{ℕ, ◌+◌, ◌==◌, ◌&&◌, Bool, true, false, not, List, [], ◌∷◌, ◌++◌, length, Option, Some, None, Result, Ok, Err, if◌then◌else◌}
+use Rattle.std.specs.Prelude.{ℕ, ◌+◌, Bool, true, false, List, [], ◌∷◌, ◌++◌, length, Option, Some, None, Result, Ok, Err, if◌then◌else◌}
 use Rattle.st_card.specs.Cards.{text_in}
 use Rattle.st_card.specs.Controls.{Asked, nothing, added}
 use Rattle.st_card.specs.declared.cards.Card.{Card}
 use Rattle.st_card.specs.declared.cards.CardKind.{CardKind}
 use Rattle.st_card.specs.declared.cards.CardKind.TheVariants.{Comment, Control, Statement as StatementCard}
 use Rattle.st_card.specs.declared.faults.Fault.{Fault}
-use Rattle.st_card.specs.declared.faults.Fault.TheVariants.{BadName, BadControlCard, CardAfterEnd, NoEnd, NotYetBuilt}
+use Rattle.st_card.specs.declared.faults.Fault.TheVariants.{BadName, BadControlCard, CardAfterEnd, NoEnd}
 use Rattle.st_strap.specs.Order.{judged, mapped}
 use Rattle.st_strap.specs.Saying.{statement_of}
 use Rattle.st_strap.specs.declared.statement.Statement.{Statement}
@@ -29,10 +29,6 @@ found_in d = record { ended = d.ended; asked = d.controls; lines = d.lines.items
 -- before the first card
 abbrev pub unread : Found
 unread = record { ended = false; asked = nothing; lines = [] }
-
--- whether all that is asked for is built: `/TIME`, `/SNAP` and `/CHART` are not yet
-unfoldable pub is_built : Asked → Bool
-is_built asked = not asked.time && not asked.chart && length asked.snaps == 0
 
 -- the faults of a statement card that count also behind the end: all that it has by itself but a bad column 1
 abbrev pub before_end : Option Fault → Option Fault
@@ -63,17 +59,15 @@ with_statement found card name statement = record {
   lines = found.lines ++ saying card (name_in name) statement ∷ [];
 }
 
--- a control card more, where all that is asked for then is built
-abbrev pub with_asked : Found → ℕ → Asked → Result Found Fault
+-- a control card more, with all that is asked for then
+abbrev pub with_asked : Found → ℕ → Asked → Found
 with_asked found card asked =
-    if is_built asked
-    then Ok (record { ended = found.ended; asked = asked; lines = found.lines ++ silent card ∷ [] })
-    else Err NotYetBuilt
+    record { ended = found.ended; asked = asked; lines = found.lines ++ silent card ∷ [] }
 
 -- what a control card does
 unfoldable pub form_control : Found → ℕ → List ℕ → Result Found Fault
 form_control found card text =
-    if found.ended then judged BadControlCard (added found.asked text) (λ asked. with_asked found card asked)
+    if found.ended then judged BadControlCard (added found.asked text) (λ asked. Ok (with_asked found card asked))
     else Err BadControlCard
 
 -- what a statement card does, with the fault that it has by itself

@@ -1,10 +1,10 @@
 -- What always holds of what the assembler gives.
-use Rattle.std.specs.Prelude.{◌≡◌, ℕ, ◌+◌, ◌<◌, ◌≤◌, ◌^◌, List, length, slice_index, slice_index_or, map, All, IsAscii, IsTrue, Option, IfSome}
+use Rattle.std.specs.Prelude.{◌≡◌, ℕ, ◌+◌, ◌<◌, ◌≤◌, ◌^◌, List, length, slice_index, slice_index_or, map, All, IsAscii, Option, IfSome}
 use Rattle.st_bits.specs.declared.register.TheConstants.{FIRST_STORAGE_WORD}
 use Rattle.st_bits.specs.Storage.{words_of_storage}
 use Rattle.st_card.specs.Limits.{IsWithinLimits}
 use Rattle.st_strap.specs.WellFormed.{IsWellFormedIfAny}
-use Rattle.st_asm.specs.Forming.{Found, is_built}
+use Rattle.st_asm.specs.Forming.{Found}
 use Rattle.st_asm.specs.Naming.{Named}
 use Rattle.st_asm.specs.Valuing.{Laid}
 use Rattle.st_asm.specs.Assembly.{Assembly}
@@ -39,11 +39,10 @@ pub record IsLine (line : Line) : Type 0 where
   pub well : IsWellFormedIfAny line.statement
   pub name : IfSome line.name IsAscii
 
--- so does each card of a deck, whose controls keep their limits and are built
+-- so does each card of a deck, whose controls keep their limits
 pub record IsDeck (found : Found) : Type 0 where
   pub lines : All IsLine found.lines
   pub limits : IsWithinLimits found.asked
-  pub built : IsTrue (is_built found.asked)
 
 -- what is laid so far is an image, a start and rows
 pub record IsSoundLayout (laid : Laid) : Type 0 where
@@ -71,6 +70,5 @@ pub record IsSound (cards : ℕ) (a : Assembly) : Type 0 where
   pub numbers : (k : ℕ) (d : Listed) → k < cards → (slice_index_or a.rows k d).card ≡ k + 1
   pub symbols : All IsSymbol a.symbols
   pub limits : IsWithinLimits a.asked
-  pub built : IsTrue (is_built a.asked)
   pub budget : 1 ≤ a.asked.budget
   pub delays : 1 ≤ length a.asked.delays

@@ -8,11 +8,11 @@ use Rattle.st_card.specs.declared.cards.Card.{Card}
 use Rattle.st_card.specs.declared.cards.CardKind.{CardKind}
 use Rattle.st_card.specs.declared.cards.CardKind.TheVariants.{Comment, Control, Statement as StatementCard}
 use Rattle.st_card.specs.declared.faults.Fault.{Fault}
-use Rattle.st_card.specs.declared.faults.Fault.TheVariants.{BadControlCard, CardAfterEnd, NoEnd, NotYetBuilt}
+use Rattle.st_card.specs.declared.faults.Fault.TheVariants.{BadControlCard, CardAfterEnd, NoEnd}
 use Rattle.st_strap.specs.Faults.{faults_on}
 use Rattle.st_asm.specs.Pass.{Refusal, pass}
 use Rattle.st_asm.specs.Lines.{name_field, statement_field}
-use Rattle.st_asm.specs.Forming.{Found, unread, is_built, before_end, form_card, form_pass}
+use Rattle.st_asm.specs.Forming.{Found, unread, before_end, form_card, form_pass}
 use Rattle.st_asm.specs.Symbols.{table}
 use Rattle.st_asm.specs.Naming.{Named, name_pass}
 use Rattle.st_asm.specs.Valuing.{value_pass}
@@ -76,7 +76,7 @@ StopsInOrder job = (refusal : Refusal) → (assembly job ≡ Err refusal)
 -- the fault of a control card behind the end, by what is then asked for
 abbrev pub asking_fault : Option Asked → Option Fault
 asking_fault None = Some BadControlCard
-asking_fault (Some asked) = if is_built asked then None else Some NotYetBuilt
+asking_fault (Some asked) = None
 
 -- the faults of a card in the form pass, in the order in which they count. Those of its bytes stand first; of a
 -- control card then that it stands before the end, and what it asks for; of a statement card that it stands

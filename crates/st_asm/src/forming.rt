@@ -137,17 +137,8 @@ fn add_control(deck: &mut Deck, card: u32, text: &[u8]) -> Result<(), Stop>
     match deck.controls.add(card, text) {
         Err(CardError::Refused { fault, .. }) => Err(Stop::Faulty(fault)),
         Err(CardError::NoMemory) => Err(Stop::NoMemory),
-        Ok(()) if is_built(&deck.controls) => add_line(deck, silent(card)),
-        Ok(()) => Err(Stop::Faulty(Fault::NotYetBuilt)),
+        Ok(()) => add_line(deck, silent(card)),
     }
-}
-
-/// Whether all that is asked for is built: times, charts and snapshots are not.
-#[tactic(auto, unfolding(crate::specs::Forming::is_built))]
-pub fn is_built(controls: &Controls) -> bool
-    ensures { result ≡ spec.is_built controls.now }
-{
-    !controls.time && !controls.chart && controls.snaps.is_empty()
 }
 
 // A statement card more, with the fault that it has by itself.

@@ -19,7 +19,6 @@ mod valuing;
 
 pub use alone::{LaidBits, laid_alone};
 pub use assembling::{Assembled, assemble};
-pub use forming::is_built;
 pub use laws::{cards_have_their_first_fault, passes_stop_at_the_first_fault};
 pub use naming::Symbol;
 pub use stop::AsmError;

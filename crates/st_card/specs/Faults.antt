@@ -1,7 +1,7 @@
 -- The names of the faults of cards.
 use Rattle.std.specs.Prelude.{ℕ, List, codes}
 use Rattle.st_card.specs.declared.faults.Fault.{Fault}
-use Rattle.st_card.specs.declared.faults.Fault.TheVariants.{NotAscii, CardTooLong, BadName, UnknownOperation, BadDataDescription, BadProgressive, BadFieldCount, BadExpression, BadIndex, NumberTooLarge, BadControlCard, CardAfterEnd, NoEnd, TooManyCards, NotYetBuilt, NameTwice, UndefinedSymbol, SymbolNotEarlier, TooManyNames, AddressOutOfRange, ValueDoesNotFit, NotOnABoundary, LocationOutOfStorage, BadObjectCard}
+use Rattle.st_card.specs.declared.faults.Fault.TheVariants.{NotAscii, CardTooLong, BadName, UnknownOperation, BadDataDescription, BadProgressive, BadFieldCount, BadExpression, BadIndex, NumberTooLarge, BadControlCard, CardAfterEnd, NoEnd, TooManyCards, NameTwice, UndefinedSymbol, SymbolNotEarlier, TooManyNames, AddressOutOfRange, ValueDoesNotFit, NotOnABoundary, LocationOutOfStorage, BadObjectCard}
 
 -- the name of a fault
 abbrev pub name_of : Fault → List ℕ
@@ -19,7 +19,6 @@ name_of BadControlCard = codes "BAD CONTROL CARD"
 name_of CardAfterEnd = codes "CARD AFTER END"
 name_of NoEnd = codes "NO END"
 name_of TooManyCards = codes "TOO MANY CARDS"
-name_of NotYetBuilt = codes "NOT YET BUILT"
 name_of NameTwice = codes "NAME TWICE"
 name_of UndefinedSymbol = codes "UNDEFINED SYMBOL"
 name_of SymbolNotEarlier = codes "SYMBOL NOT EARLIER"

@@ -37,8 +37,6 @@ pub enum Fault {
     NoEnd,
     /// The job has more than 20,000 cards.
     TooManyCards,
-    /// The card has a form that is not built yet.
-    NotYetBuilt,
     /// The name stands on an earlier card.
     NameTwice,
     /// No card defines the symbol, and it is no system symbol.
@@ -90,7 +88,6 @@ fn text_of(fault: Fault) -> &'static str
         Fault::CardAfterEnd => "CARD AFTER END",
         Fault::NoEnd => "NO END",
         Fault::TooManyCards => "TOO MANY CARDS",
-        Fault::NotYetBuilt => "NOT YET BUILT",
         Fault::NameTwice => "NAME TWICE",
         Fault::UndefinedSymbol => "UNDEFINED SYMBOL",
         Fault::SymbolNotEarlier => "SYMBOL NOT EARLIER",

@@ -13,4 +13,3 @@ pub mod ReadBack
 pub mod Completions
 pub mod BadLines
 pub mod AnswerLemmas
-pub mod Askings

@@ -3,4 +3,3 @@ pub mod Draft
 pub mod Meaning
 pub mod Object
 pub mod Answers
-pub mod Asking

@@ -1,7 +1,6 @@
 //! Object texts: a program as text, and back. `docs/object-text.md` has the format.
 #![tactic(auto, using(st_bits::specs::Storage::words_of_storage_is))]
 
-mod asking;
 mod drafts;
 mod images;
 mod items;
@@ -11,7 +10,6 @@ mod reading;
 mod spelling;
 mod writing;
 
-pub use asking::controls_in;
 pub use images::Image;
 pub use laws::{
     accepted_texts_are_written, lines_are_kept, lines_are_read_back, refused_texts_have_a_bad_line,

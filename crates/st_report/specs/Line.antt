@@ -126,3 +126,11 @@ abbrev pub lev_line : ℕ → Option (ℕ × ℕ) → Bool → List ℕ
 lev_line address index ready =
     codes "LEV " ++ half_address address ++ codes " X " ++ change_text index
     ++ codes " READY " ++ flag ready ++ lf
+
+-- the tick of the last completion on a machine with n levels
+abbrev pub levels_line : ℕ → ℕ → List ℕ
+levels_line n t = codes "LEVELS " ++ decimal n ++ codes " TICKS " ++ decimal t ++ lf
+
+-- whether a run on machines of one to eight levels is calm
+abbrev pub calm_line : Bool → List ℕ
+calm_line calm = codes "CALM " ++ flag calm ++ lf

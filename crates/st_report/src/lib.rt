@@ -8,6 +8,7 @@ mod levels;
 pub mod pieces;
 mod run;
 mod state_block;
+mod sweep;
 
 use arrayvec::ArrayString;
 pub use cards::{line_listed, line_symbol};
@@ -17,6 +18,7 @@ pub use run::{
     line_back, line_done, line_end, line_int, line_prt, line_ticks, line_time, line_trc,
 };
 pub use state_block::{line_dump, line_en, line_ic, line_mem, line_reg};
+pub use sweep::{line_calm, line_levels};
 
 /// One line with its line end, of at most 128 bytes.
 pub type Line = ArrayString<128>;

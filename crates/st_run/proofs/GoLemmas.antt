@@ -1,8 +1,7 @@
 -- Before the next entry: a snapshot, or that entry is done.
-use Rattle.std.specs.Prelude.{IfSome, All}
+use Rattle.std.specs.Prelude.{IfSome}
 use Rattle.std.proofs.Common.{◌≡◌, ℕ, ◌+◌, ◌-◌, ◌<◌, ◌≤◌, ◌^◌, List, [], ◌∷◌, Option, None, Some, refl, sym, ◌∙◌, ap, subst, arith}
 use Rattle.std.proofs.lemmas.List.Elements.{All-tail}
-use Rattle.st_state.specs.Machine.{Machine}
 use Rattle.st_prep.specs.Plan.{plan}
 use Rattle.st_exec.specs.Step.{interrupt, address}
 use Rattle.st_rows.specs.declared.front.Row.{Row as FrontRow}
@@ -12,10 +11,10 @@ use Rattle.st_ahead.specs.declared.events.Row.{Row}
 use Rattle.st_run.specs.Moments.{Moment, Standing, next_row, next_moment}
 use Rattle.st_run.specs.TimedRun.{completion, timed_from, timed_behind}
 use Rattle.st_run.specs.Order.{AreRising}
-use Rattle.st_run.specs.Told.{What, Done, Told, told_of, told}
-use Rattle.st_run.specs.Together.{Together, IsBefore, IsBehind, standing_of, moment_of, at_tick}
-use Rattle.st_run.specs.Telling.{AreInTime, IsAtFirst, IsShown, IsLeft, first_tick}
-use Rattle.st_run.specs.Ticking.{AreTicked, AreMade, at_completion}
+use Rattle.st_run.specs.Told.{Done, Told, told_of, told}
+use Rattle.st_run.specs.Together.{Together, IsBefore, standing_of, moment_of, at_tick}
+use Rattle.st_run.specs.Telling.{AreInTime, IsShown, IsLeft, first_tick}
+use Rattle.st_run.specs.Ticking.{AreMade, at_completion}
 use Rattle.st_run.proofs.Turns.{behind-done, behind-none}
 use Rattle.st_run.proofs.ToldLemmas.{once}
 use Rattle.st_run.proofs.TickLemmas.{row-same}

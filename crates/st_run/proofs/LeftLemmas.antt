@@ -1,34 +1,30 @@
 -- What is told behind an entry that has just been done, and how the run goes on there.
-use Rattle.std.specs.Prelude.{map, is_some, if◌then◌else◌, ◌||◌, IsSome, IfSome, option_map, ◌≢◌}
-use Rattle.std.proofs.Common.{◌≡◌, ℕ, ◌+◌, ◌-◌, ◌<◌, ◌≤◌, ◌^◌, Bool, true, false, List, [], ◌∷◌, ◌++◌, Option, None, Some, refl, sym, ◌∙◌, ap, subst, length, arith}
+use Rattle.std.specs.Prelude.{map, is_some, if◌then◌else◌, ◌||◌, IsSome, option_map, ◌≢◌}
+use Rattle.std.proofs.Common.{◌≡◌, ℕ, ◌+◌, ◌-◌, ◌<◌, ◌^◌, Bool, true, false, List, [], ◌∷◌, ◌++◌, Option, None, Some, refl, sym, ◌∙◌, ap, subst, arith}
 use Rattle.st_state.specs.Machine.{Machine}
 use Rattle.st_prep.specs.Fetch.{address_by, place_of}
-use Rattle.st_prep.specs.Plan.{plan, prepared, prepared_by, suppressed, entry as entry_of, sight, aim}
+use Rattle.st_prep.specs.Plan.{plan, prepared, prepared_by, suppressed, entry as entry_of, sight}
 use Rattle.st_prep.specs.declared.entries.Place.{Place}
 use Rattle.st_prep.specs.declared.entries.Aim.{Aim}
-use Rattle.st_exec.specs.Step.{interrupt, rests, step, address}
+use Rattle.st_exec.specs.Step.{interrupt, rests, address}
 use Rattle.st_exec.specs.Run.{Scene, settled}
 use Rattle.st_exec.proofs.Runs.{step-done}
 use Rattle.st_rows.specs.declared.front.Front.{Front}
-use Rattle.st_segment.specs.Ahead.{Ahead, prepared_before}
-use Rattle.st_ahead.specs.Overlap.{Overlap, seen, oldest_row, levels_of}
-use Rattle.st_ahead.specs.Calls.{completed, row_done}
-use Rattle.st_ahead.specs.declared.events.Row.{Row}
+use Rattle.st_segment.specs.Ahead.{prepared_before}
+use Rattle.st_ahead.specs.Overlap.{seen, oldest_row, levels_of}
 use Rattle.st_run.specs.Moments.{Moment, Standing, next_state, next_row, ends_segment, has_card, has_waited, next_front, standing, entries_ahead, next_moment}
 use Rattle.st_run.specs.TimedRun.{between, completion, last_events, timed_from, timed_behind}
 use Rattle.st_run.specs.Order.{AreRising}
-use Rattle.st_run.specs.Told.{What, Done, Told, told_of, told}
-use Rattle.st_run.specs.Together.{Together, scene_of, IsBefore, IsBehind, standing_of, moment_of, at_tick, GoesOn, Stops, AreTexts}
-use Rattle.st_run.specs.Telling.{Waiting, whats, at_once, told_at_end, rest_of, IsTurn, IsRun, AreInTime, IsAtFirst, IsShown, IsLeft, first_tick}
-use Rattle.st_run.specs.Ticking.{AreTicked, AreMade, at_completion}
+use Rattle.st_run.specs.Told.{Done, Told, told_of, told}
+use Rattle.st_run.specs.Together.{Together, scene_of, IsBefore, standing_of, moment_of, GoesOn, Stops, AreTexts}
+use Rattle.st_run.specs.Telling.{Waiting, whats, at_once, told_at_end, rest_of, IsTurn, IsRun, AreInTime, IsLeft}
 use Rattle.st_run.specs.Leaving.{IsWay, IsDecided}
 use Rattle.st_run.specs.declared.leaving.Decided.{Decided}
 use Rattle.st_run.specs.declared.turn.Turn.{Turn}
 use Rattle.st_run.specs.declared.turn.Turn.TheVariants as turns
-use Rattle.st_run.proofs.Turns.{timed-rests, timed-budget, timed-goes_on, behind-done, behind-none, nothing-ahead}
+use Rattle.st_run.proofs.Turns.{timed-rests, timed-budget, timed-goes_on, nothing-ahead}
 use Rattle.st_run.proofs.ToldLemmas.{once, told-append, dropped_at, told-between, told-last, told-completion}
-use Rattle.st_run.proofs.MomentLemmas.{still, ready-before, ready-still, moment-next, behind-next, row-before}
-use Rattle.st_run.proofs.ProgressLemmas.{Quiet, rest-quiet}
+use Rattle.st_run.proofs.MomentLemmas.{still, ready-before, ready-still, row-before}
 
 -- ---- the run ends, or goes on
 

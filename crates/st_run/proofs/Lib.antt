@@ -8,10 +8,6 @@ pub mod EndLemmas
 pub mod SceneLemmas
 pub mod DoneLemmas
 pub mod Bounds
-pub mod EndedLemmas
-pub mod CameLemmas
-pub mod ChoiceLemmas
-pub mod LevelLemmas
 pub mod TickLemmas
 pub mod WaitingLemmas
 pub mod ToldLemmas
@@ -23,5 +19,9 @@ pub mod GoLemmas
 pub mod NextLemmas
 pub mod StartLemmas
 pub mod ViewLemmas
-pub mod SameLemmas
+pub mod EndedLemmas
+pub mod CameLemmas
+pub mod ChoiceLemmas
+pub mod LevelLemmas
+pub mod PartLemmas
 pub mod LastLemmas

@@ -1,22 +1,22 @@
 -- The moment at which the next entry of a machine is done.
-use Rattle.std.specs.Prelude.{is_some, if◌then◌else◌, IsSome, IfSome}
-use Rattle.std.proofs.Common.{◌≡◌, ℕ, ◌+◌, ◌-◌, ◌<◌, ◌≤◌, ◌^◌, Bool, true, false, List, [], Option, None, Some, refl, sym, ◌∙◌, ap, subst, arith}
+use Rattle.std.specs.Prelude.{is_some, if◌then◌else◌, IfSome}
+use Rattle.std.proofs.Common.{◌≡◌, ℕ, ◌<◌, ◌≤◌, ◌^◌, Bool, true, false, List, Option, None, Some, refl, sym, ◌∙◌, ap, subst}
 use Rattle.st_state.specs.Machine.{Machine}
 use Rattle.st_prep.specs.Plan.{plan}
 use Rattle.st_prep.proofs.Choices.{of_choice}
 use Rattle.st_prep.proofs.PlanLemmas.{plan-prepared}
-use Rattle.st_exec.specs.Completion.{executed, is_missed, guess}
-use Rattle.st_exec.specs.Step.{interrupt, rests, step}
-use Rattle.st_exec.specs.Run.{Scene, Signal, stepped}
+use Rattle.st_exec.specs.Completion.{executed, is_missed}
+use Rattle.st_exec.specs.Step.{interrupt, step}
+use Rattle.st_exec.specs.Run.{Scene}
 use Rattle.st_rows.specs.Ranges.{AreDelays}
 use Rattle.st_rows.specs.Rows.{row, after}
 use Rattle.st_rows.specs.declared.front.Front.{Front}
 use Rattle.st_segment.specs.Ahead.{Ahead, ahead, prepared_before}
 use Rattle.st_segment.specs.Entries.{entry}
 use Rattle.st_ahead.specs.Overlap.{Overlap, seen, oldest_row, with_counter, levels_of, banks_at_its_end}
-use Rattle.st_ahead.specs.Calls.{completed, row_done}
+use Rattle.st_ahead.specs.Calls.{completed}
 use Rattle.st_run.specs.Scenes.{IsScene}
-use Rattle.st_run.specs.Moments.{Moment, Standing, taken, next_row, front_after, entries_behind, reads_until, next_moment}
+use Rattle.st_run.specs.Moments.{Moment, Standing, next_row, front_after, entries_behind, next_moment}
 use Rattle.st_run.specs.Together.{Together, scene_of, IsBefore, IsBehind, standing_of, moment_of}
 use Rattle.st_run.specs.Ticking.{IsReady, at_completion}
 use Rattle.st_run.proofs.SceneLemmas.{interrupt-below, stepped-scene}

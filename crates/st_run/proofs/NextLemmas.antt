@@ -1,12 +1,11 @@
 -- What waits is told before the run goes on.
 use Rattle.std.specs.Prelude.{map, IsSome}
-use Rattle.std.proofs.Common.{◌≡◌, ℕ, ◌<◌, ◌^◌, Bool, List, [], ◌∷◌, ◌++◌, Option, None, Some, refl, sym, ◌∙◌, ap, subst}
+use Rattle.std.proofs.Common.{◌≡◌, ℕ, ◌<◌, ◌^◌, Bool, List, [], ◌∷◌, ◌++◌, sym, ◌∙◌, ap, subst}
 use Rattle.std.proofs.lemmas.List.Elements.{All-tail}
 use Rattle.st_ahead.specs.Overlap.{levels_of}
-use Rattle.st_run.specs.Told.{What, Told, told}
-use Rattle.st_run.specs.TimedRun.{timed_behind}
-use Rattle.st_run.specs.Together.{Together, IsBefore, standing_of}
-use Rattle.st_run.specs.Telling.{Waiting, whats, at_once, rest_of, rest_by, told_at_end, IsTurn, IsRun, AreInTime}
+use Rattle.st_run.specs.Told.{What, Told}
+use Rattle.st_run.specs.Together.{Together}
+use Rattle.st_run.specs.Telling.{Waiting, whats, at_once, rest_of, rest_by, told_at_end, IsRun, AreInTime}
 use Rattle.st_run.specs.declared.turn.Turn.{Turn}
 use Rattle.st_run.specs.declared.turn.Turn.TheVariants as turns
 use Rattle.st_run.proofs.ProgressLemmas.{Quiet, rest-quiet}

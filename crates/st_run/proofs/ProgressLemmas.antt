@@ -1,39 +1,29 @@
 -- How a run goes on from one thing that it tells to the next.
-use Rattle.std.specs.Prelude.{map, reverse, is_some, if◌then◌else◌, nat_lt, ◌||◌, IsSome, IfSome, All}
-use Rattle.std.proofs.Common.{◌≡◌, ℕ, ◌+◌, ◌-◌, ◌<◌, ◌≤◌, ◌^◌, Bool, true, false, List, [], ◌∷◌, ◌++◌, Option, None, Some, refl, sym, ◌∙◌, ap, subst, append-nil, length, arith}
+use Rattle.std.specs.Prelude.{map, reverse, if◌then◌else◌, IsSome, IfSome}
+use Rattle.std.proofs.Common.{◌≡◌, ℕ, ◌+◌, ◌-◌, ◌<◌, ◌≤◌, ◌^◌, Bool, true, false, List, [], ◌∷◌, ◌++◌, Option, None, Some, refl, sym, ◌∙◌, ap, subst, length, arith}
 use Rattle.std.proofs.lemmas.Bool.{lt-ltb, le-ltb}
-use Rattle.std.proofs.lemmas.List.Elements.{All-nil, All-head, All-tail}
+use Rattle.std.proofs.lemmas.List.Elements.{All-nil, All-tail}
 use Rattle.st_state.specs.Machine.{Machine}
-use Rattle.st_prep.specs.Fetch.{address_by, place_of, index_words}
-use Rattle.st_prep.specs.Plan.{plan, prepared, prepared_by, suppressed, entry as entry_of, sight, aim}
-use Rattle.st_prep.specs.declared.entries.Place.{Place}
-use Rattle.st_prep.specs.declared.entries.Aim.{Aim}
-use Rattle.st_exec.specs.Step.{interrupt, rests, step, address}
-use Rattle.st_exec.specs.Run.{Scene, settled}
-use Rattle.st_exec.proofs.Runs.{step-done}
+use Rattle.st_prep.specs.Fetch.{index_words}
+use Rattle.st_exec.specs.Step.{interrupt, rests}
+use Rattle.st_exec.specs.Run.{Scene}
 use Rattle.st_rows.specs.declared.front.Front.{Front}
 use Rattle.st_segment.specs.Ahead.{Ahead, prepared_before}
 use Rattle.st_segment.specs.Guesses.{split_words}
 use Rattle.st_ahead.specs.Overlap.{Overlap, seen, oldest_row, levels_of, with_counter, last_tick}
 use Rattle.st_ahead.specs.Shown.{index_of}
-use Rattle.st_ahead.specs.Calls.{completed, row_done}
-use Rattle.st_ahead.specs.declared.events.Row.{Row}
-use Rattle.st_run.specs.Events.{Timed, Level, snapshot, level_at, with_index_words}
-use Rattle.st_run.specs.Moments.{Moment, Standing, next_state, next_scene, next_row, ends_segment, next_front, standing, entries_ahead, next_moment}
-use Rattle.st_run.specs.TimedRun.{ticks_before, snapshot_at, between, completion, last_events, timed_from, timed_behind}
+use Rattle.st_run.specs.Events.{Level, snapshot, level_at, with_index_words}
+use Rattle.st_run.specs.Moments.{next_row, entries_ahead, next_moment}
+use Rattle.st_run.specs.TimedRun.{ticks_before, snapshot_at, timed_behind}
 use Rattle.st_run.specs.Order.{AreRising}
-use Rattle.st_run.specs.Told.{What, Done, Dropped, Interrupted, Shown, Ended, Told, told_of, told}
-use Rattle.st_run.specs.Together.{Together, scene_of, IsBefore, IsBehind, standing_of, moment_of, at_tick, GoesOn, Stops, AreTexts, text_told}
-use Rattle.st_run.specs.Telling.{Waiting, taken_told, whats, at_once, told_at_end, rest_of, rest_by, seen_of, ahead_of, IsTurn, IsRun, AreInTime, IsAtFirst, IsShown, IsLeft, first_tick}
-use Rattle.st_run.specs.Ticking.{AreTicked, AreMade, at_completion}
-use Rattle.st_run.specs.Leaving.{IsWay, IsDecided}
-use Rattle.st_run.specs.declared.leaving.Decided.{Decided}
+use Rattle.st_run.specs.Told.{What, Dropped, Interrupted, Shown, Ended, Told, told_of, told}
+use Rattle.st_run.specs.Together.{Together, scene_of, IsBefore, standing_of, text_told}
+use Rattle.st_run.specs.Telling.{Waiting, taken_told, whats, at_once, told_at_end, rest_of, rest_by, seen_of, ahead_of, IsRun, AreInTime, IsShown, first_tick}
 use Rattle.st_run.specs.declared.turn.Turn.{Turn}
 use Rattle.st_run.specs.declared.turn.Turn.TheVariants as turns
-use Rattle.st_run.proofs.Turns.{timed-rests, timed-budget, timed-goes_on, behind-snapshot, behind-done, behind-none, same-words, nothing-ahead}
-use Rattle.st_run.proofs.ToldLemmas.{once, told-append, dropped_at, told-between, told-last, told-completion}
-use Rattle.st_run.proofs.TickLemmas.{calm}
-use Rattle.st_run.proofs.MomentLemmas.{still, ready-before, ready-still, moment-next, behind-next, row-before}
+use Rattle.st_run.proofs.Turns.{behind-snapshot, same-words}
+use Rattle.st_run.proofs.ToldLemmas.{once}
+use Rattle.st_run.proofs.MomentLemmas.{still, ready-before, ready-still, row-before}
 
 -- ---- nothing waits
 

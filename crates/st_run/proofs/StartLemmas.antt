@@ -1,11 +1,10 @@
 -- The start of a run, where no interrupt is enabled, nothing waits and no order is given.
 use Rattle.std.specs.Prelude.{map, reverse, slice_index, is_some, nat_lt, nat_le, if◌then◌else◌, All}
 use Rattle.std.specs.List.Sorted.{IsStrictlyIncreasing}
-use Rattle.std.proofs.Common.{◌≡◌, ◌≢◌, ℕ, zero, suc, ◌+◌, ◌-◌, ◌*◌, ◌<◌, ◌≤◌, ◌^◌, Bool, true, false, ◌||◌, List, [], ◌∷◌, ◌++◌, length, Option, None, Some, refl, sym, ◌∙◌, ap, subst, arith}
-use Rattle.std.proofs.Math.Nat.{mul-le-mul_left}
+use Rattle.std.proofs.Common.{◌≡◌, ◌≢◌, ℕ, zero, suc, ◌+◌, ◌-◌, ◌<◌, ◌≤◌, ◌^◌, Bool, false, ◌||◌, List, [], ◌∷◌, ◌++◌, length, Option, None, refl, sym, ◌∙◌, ap, subst, arith}
 use Rattle.std.proofs.lemmas.Bool.{le-ltb}
-use Rattle.std.proofs.lemmas.List.Elements.{All-nil, All-cons, All-append, All-head, All-tail, All-weaker}
-use Rattle.st_state.specs.Machine.{Machine, IsMachine}
+use Rattle.std.proofs.lemmas.List.Elements.{All-nil, All-cons, All-append, All-head, All-tail}
+use Rattle.st_state.specs.Machine.{Machine}
 use Rattle.st_state.specs.Interrupts.{signalled}
 use Rattle.st_state.specs.Orders.{next_device}
 use Rattle.st_state.specs.declared.devices.Order.{Order}
@@ -14,16 +13,16 @@ use Rattle.st_exec.specs.Step.{interrupt, rests}
 use Rattle.st_exec.specs.Run.{Signal, Scene, Happening, Ends, with_due_signals, with_due_orders, with_order_at_rest, with_signals_at_rest, with_wait, settled, interrupts_by, if_due, Reached, nothing, and_then, with_reader, with_printer, with_device}
 use Rattle.st_rows.specs.Ranges.{AreDelays}
 use Rattle.st_rows.specs.Rows.{opening}
-use Rattle.st_ahead.specs.Overlap.{Overlap, started, oldest_row}
+use Rattle.st_ahead.specs.Overlap.{started}
 use Rattle.st_segment.specs.Ahead.{Ahead}
 use Rattle.st_exec.proofs.Runs.{step-done}
 use Rattle.st_run.specs.Events.{Timed, drop_of}
-use Rattle.st_run.specs.Scenes.{IsCard, IsScene}
-use Rattle.st_run.specs.Moments.{Moment, Standing, start, unread, next_scene, next_state, has_card, has_waited, ends_segment, next_segment, next_front, standing, next_moment}
+use Rattle.st_run.specs.Scenes.{IsScene}
+use Rattle.st_run.specs.Moments.{Moment, Standing, start, unread, next_state, has_card, has_waited, ends_segment, next_segment, next_front, standing, next_moment}
 use Rattle.st_run.specs.TimedRun.{at, ticks_before, ticks_from, snapshot_at, last_snapshot_at, drops, drops_if_ends, happening_at, between, completion, until_done, last_events, timed_from, timed_behind, timed_run}
 use Rattle.st_run.specs.Order.{AreRising}
 use Rattle.st_run.specs.Told.{Told, told_of, told}
-use Rattle.st_run.specs.Together.{Together, scene_of, with_scene, IsBefore, standing_of}
+use Rattle.st_run.specs.Together.{Together, with_scene, IsBefore}
 use Rattle.st_run.specs.Telling.{Waiting, whats, rest_of, IsRun, AreInTime}
 use Rattle.st_run.specs.declared.turn.Turn.TheVariants as turns
 use Rattle.st_run.proofs.ProgressLemmas.{Quiet, rest-quiet}

@@ -1,13 +1,13 @@
 -- Ticks before the next entry is done, and that at which it is done.
 use Rattle.std.specs.Prelude.{is_none, IfSome}
 use Rattle.std.specs.Option.{option_map_or}
-use Rattle.std.proofs.Common.{◌≡◌, ℕ, ◌+◌, ◌-◌, ◌<◌, ◌≤◌, ◌==◌, Bool, true, false, if◌then◌else◌, List, Option, None, Some, refl, sym, ◌∙◌, ap, subst, arith}
+use Rattle.std.proofs.Common.{◌≡◌, ℕ, ◌+◌, ◌≤◌, ◌==◌, true, false, if◌then◌else◌, List, Option, None, Some, refl, sym, ◌∙◌, ap, subst, arith}
 use Rattle.std.proofs.lemmas.Bool.Decides.{nat_tests}
 use Rattle.st_state.specs.Machine.{Machine}
 use Rattle.st_exec.specs.Step.{interrupt, rests}
 use Rattle.st_rows.specs.declared.front.Front.{Front}
-use Rattle.st_ahead.specs.Overlap.{Overlap, seen, oldest_row, interrupt_due}
-use Rattle.st_ahead.specs.Calls.{is_done, completed, row_done, ticked, passed, settled}
+use Rattle.st_ahead.specs.Overlap.{Overlap, seen, oldest_row}
+use Rattle.st_ahead.specs.Calls.{is_done, completed, row_done, ticked, settled}
 use Rattle.st_ahead.specs.declared.events.Row.{Row}
 use Rattle.st_run.specs.Ticking.{IsReady, at_completion, AreTicked}
 

@@ -1,6 +1,6 @@
 -- What is told of what comes between two entries, and at the end.
 use Rattle.std.specs.Prelude.{map, reverse, if◌then◌else◌}
-use Rattle.std.proofs.Common.{◌≡◌, ℕ, ◌+◌, ◌<◌, ◌^◌, Bool, true, false, List, [], ◌∷◌, ◌++◌, Option, None, Some, refl, sym, ◌∙◌, ap, append_assoc, arith}
+use Rattle.std.proofs.Common.{◌≡◌, ℕ, ◌+◌, Bool, true, false, List, [], ◌∷◌, ◌++◌, Option, None, Some, refl, sym, ◌∙◌, ap, append_assoc}
 use Rattle.std.specs.Prelude.{All}
 use Rattle.std.proofs.lemmas.List.{reverse-append, map-append}
 use Rattle.std.proofs.lemmas.List.Elements.{All-head, All-tail}
@@ -8,12 +8,12 @@ use Rattle.st_state.specs.Machine.{Machine}
 use Rattle.st_exec.specs.Step.{interrupt, rests}
 use Rattle.st_exec.specs.Run.{Happening, Ends, settled, interrupts_by}
 use Rattle.st_segment.specs.Ahead.{Ahead}
-use Rattle.st_run.specs.Events.{Timed, Event, address_of, drop_of}
+use Rattle.st_run.specs.Events.{Timed, address_of, drop_of}
 use Rattle.st_run.specs.Moments.{Moment, Standing, next_state, ends_segment, next_moment}
 use Rattle.st_run.specs.TimedRun.{at, ticks_before, ticks_from, last_snapshot_at, snapshot_at, drops, drops_if_ends, happening_at, between, completion, until_done, last_events, timed_from, timed_behind}
 use Rattle.st_run.specs.Told.{What, Dropped, Shown, Ended, Told, what_happens, told_of, told}
 use Rattle.st_run.specs.Together.{text_told, AreTexts}
-use Rattle.st_run.specs.Telling.{Waiting, taken_told, whats, at_once, told_at_end}
+use Rattle.st_run.specs.Telling.{taken_told, whats, at_once, told_at_end}
 use Rattle.st_run.proofs.DoneLemmas.{settled-done}
 
 -- told so many done, at a tick

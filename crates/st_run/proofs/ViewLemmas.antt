@@ -1,9 +1,8 @@
 -- What is shown of the levels is what they are.
-use Rattle.std.specs.Prelude.{map, slice_index, IfSome, option_map, nat_lt, unwrap_or, if◌then◌else◌, All, replicate}
+use Rattle.std.specs.Prelude.{map, slice_index, IfSome, option_map, nat_lt, replicate}
 use Rattle.std.specs.List.{AllZip}
-use Rattle.std.proofs.Common.{◌≡◌, ℕ, zero, suc, ◌+◌, ◌-◌, ◌<◌, ◌≤◌, Bool, true, false, List, [], ◌∷◌, ◌++◌, length, take, drop, get_or, Option, None, Some, refl, sym, ◌∙◌, ap, subst, arith}
+use Rattle.std.proofs.Common.{◌≡◌, ℕ, zero, suc, ◌+◌, ◌-◌, ◌<◌, false, List, [], ◌∷◌, ◌++◌, length, drop, Option, None, Some, refl, sym, ◌∙◌, ap, subst}
 use Rattle.std.proofs.lemmas.List.{get_or-take, get_or-drop}
-use Rattle.std.proofs.lemmas.Bool.{cases_Bool}
 use Rattle.st_bits.specs.declared.operations.HalfOp.{HalfOp}
 use Rattle.st_bits.specs.declared.operations.HalfOp.TheVariants.{Lx, Lv, Lc, Lr, Sx, Sv, Sc, Sr, Sva, VPlus, VPlusC, Kv, Lvs, Lvi, Lci, Lri, VPlusI, VMinusI, VPlusIC, VPlusICR, Kvi, Kc, Kci, Cb, Cbr, R, Ex}
 use Rattle.st_format.specs.declared.instruction.Instr.{Instr}
@@ -11,7 +10,6 @@ use Rattle.st_format.specs.declared.instruction.Instr.TheVariants.{Half, Branch,
 use Rattle.st_state.specs.Machine.{Machine, IsMachine, word}
 use Rattle.st_prep.specs.declared.entries.IndexChange.{IndexChange}
 use Rattle.st_prep.specs.declared.entries.Place.{Place}
-use Rattle.st_prep.specs.declared.entries.Prepared.{Prepared}
 use Rattle.st_prep.specs.declared.entries.Aim.{Aim}
 use Rattle.st_prep.specs.EarlyChange.{unchanged, compared, changed, half_change, progressive_change, change}
 use Rattle.st_prep.specs.Fetch.{index_words}
@@ -20,7 +18,6 @@ use Rattle.st_prep.specs.Ranges.{IsChange}
 use Rattle.st_prep.proofs.Choices.{of_choice}
 use Rattle.st_prep.proofs.PlanLemmas.{plan-prepared}
 use Rattle.st_exec.specs.Completion.{guess}
-use Rattle.st_exec.specs.Step.{interrupt}
 use Rattle.st_exec.proofs.UnwrittenLemmas.{guessed-machine}
 use Rattle.st_rows.specs.Rows.{row, after}
 use Rattle.st_rows.specs.declared.front.Front.{Front}
@@ -29,13 +26,12 @@ use Rattle.st_segment.specs.Ahead.{Ahead, ahead, prepared_before, plan_of}
 use Rattle.st_ahead.specs.Overlap.{Overlap, seen, levels_of, last_tick}
 use Rattle.st_ahead.specs.Shown.{kept_by, level_shown, shown}
 use Rattle.st_ahead.specs.declared.events.LevelView.{LevelView}
-use Rattle.st_run.specs.Events.{Level, Changed, changed_by, level_at}
+use Rattle.st_run.specs.Events.{changed_by, level_at}
 use Rattle.st_run.specs.Telling.{Waiting, IsLevel, AreLevels, IsRun, ahead_of}
 use Rattle.st_run.specs.declared.turn.Turn.{Turn}
 use Rattle.st_run.specs.declared.turn.Turn.TheVariants as turns
 use Rattle.st_run.specs.Together.{Together, IsBefore}
 use Rattle.st_run.proofs.SceneLemmas.{interrupt-below}
-use Rattle.st_run.proofs.MomentLemmas.{ready-before, ready-still, still}
 
 -- ---- the word that an early change replaces
 

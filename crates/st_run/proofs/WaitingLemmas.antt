@@ -1,9 +1,9 @@
 -- What waits to be told, one thing after another.
 use Rattle.std.specs.Prelude.{map, reverse, option_map}
-use Rattle.std.proofs.Common.{◌≡◌, ℕ, ◌<◌, false, true, length, arith, List, [], ◌∷◌, ◌++◌, Option, None, Some, refl, sym, ◌∙◌, ap, append-nil}
+use Rattle.std.proofs.Common.{◌≡◌, ℕ, ◌<◌, false, true, length, arith, List, [], ◌∷◌, ◌++◌, Option, None, Some, refl, ◌∙◌, ap}
 use Rattle.std.proofs.lemmas.List.{reverse-append}
 use Rattle.st_state.specs.Machine.{Machine}
-use Rattle.st_run.specs.Told.{What, Dropped, Printed, Interrupted}
+use Rattle.st_run.specs.Told.{Dropped, Printed, Interrupted}
 use Rattle.st_run.specs.Together.{text_told}
 use Rattle.st_run.specs.Telling.{Waiting, taken_told, whats}
 

@@ -1,11 +1,11 @@
 //! An overlapped machine with what is still to come to it.
-ghost use Rattle.std.specs.Prelude.{◌≡◌, ◌≤◌, ℕ, List};
+ghost use Rattle.std.specs.Prelude.{◌≡◌, ℕ, List};
 ghost use Rattle.std.specs.List.{AllPass};
 ghost use Rattle.st_card.specs.Limits.{is_signal};
 ghost use Rattle.st_exec.specs.Run.{with_due_signals};
 ghost use Rattle.st_ahead.specs.Calls.{MaySignal};
 ghost use Rattle.st_ahead.specs.Shown.{shown};
-ghost use Rattle.st_run.specs.Together.{signals_of, scene_of, with_scene};
+ghost use Rattle.st_run.specs.Together.{signals_of, with_scene};
 
 use st_ahead::{Machine, View};
 use st_card::Signal;

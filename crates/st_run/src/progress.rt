@@ -1,11 +1,10 @@
 //! How far a run has come, and how it goes on.
-ghost use Rattle.std.specs.Prelude.{◌≡◌, ℕ, ◌+◌, ◌-◌, ◌<◌, ◌≤◌, ◌^◌, if◌then◌else◌, [], ◌∷◌, MatchOption, IfSome};
+ghost use Rattle.std.specs.Prelude.{◌≡◌, ◌-◌, ◌<◌, ◌≤◌, if◌then◌else◌, [], ◌∷◌, MatchOption, IfSome};
 ghost use Rattle.st_state.specs.Machine.{Machine};
 ghost use Rattle.st_ahead.specs.Overlap.{levels_of};
 ghost use Rattle.st_run.specs.TimedRun.{timed_from, timed_behind};
-ghost use Rattle.st_run.specs.Order.{AreRising};
 ghost use Rattle.st_run.specs.Told.{told as told_events};
-ghost use Rattle.st_run.specs.Together.{IsBehind, moment_of, standing_of};
+ghost use Rattle.st_run.specs.Together.{moment_of, standing_of};
 ghost use Rattle.st_run.specs.Telling.{whats, told_at_end, rest_of, told_with, first_tick, IsRun, IsShown, IsLeft, AreInTime};
 ghost use Rattle.st_run.specs.declared.turn.Turn.TheVariants as turns;
 
@@ -16,7 +15,6 @@ use crate::told::{Told, What};
 use crate::turn::Turn;
 use crate::waiting::Waiting;
 use arrayvec::ArrayVec;
-use st_ahead::Row;
 use st_state::State;
 
 /// A run between two things that it tells: the machine with what is still to come to it, the snapshots that are still to

@@ -1,5 +1,5 @@
 //! A whole run, one thing after another.
-ghost use Rattle.std.specs.Prelude.{◌≡◌, ℕ, ◌+◌, ◌-◌, ◌<◌, ◌≤◌, ◌^◌, false, None, [], ◌∷◌, MatchOption, All};
+ghost use Rattle.std.specs.Prelude.{◌≡◌, ◌≤◌, false, None, [], ◌∷◌, MatchOption, All};
 ghost use Rattle.std.specs.List.{AllPass};
 ghost use Rattle.std.specs.List.Sorted.{IsStrictlyIncreasing};
 ghost use Rattle.st_bits.specs.declared.limits.TheConstants.{MOST_INSTRUCTIONS};

@@ -1,6 +1,4 @@
 //! What is told of a run.
-ghost use Rattle.std.specs.Prelude.{◌≡◌};
-
 use arrayvec::ArrayString;
 use st_ahead::Row;
 

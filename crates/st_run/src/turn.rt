@@ -1,6 +1,4 @@
 //! Where a run stands between two things that it tells.
-ghost use Rattle.std.specs.Prelude.{◌≡◌};
-
 /// Where a run stands.
 #[derive(Clone, Copy, Debug, PartialEq, Eq)]
 pub(crate) enum Turn {

@@ -1,5 +1,5 @@
 //! What is told between two entries.
-ghost use Rattle.std.specs.Prelude.{◌≡◌, ◌++◌, ◌≤◌, [], ◌∷◌, None, MatchOption, IfSome, IsSome, List};
+ghost use Rattle.std.specs.Prelude.{◌≡◌, [], ◌∷◌, None, MatchOption, IfSome, IsSome, List};
 ghost use Rattle.std.specs.Option.{IfNone};
 ghost use Rattle.st_state.specs.Machine.{Machine};
 ghost use Rattle.st_run.specs.Events.{Level};

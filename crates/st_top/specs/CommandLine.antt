@@ -3,7 +3,7 @@ use Rattle.std.specs.Prelude.{ℕ, ◌==◌, Bool, true, false, not, codes, List
 use Rattle.st_text.specs.Bytes.{minus_sign}
 use Rattle.clap.specs.Words.{App, new_app, new_rule, with_rule}
 use Rattle.clap.specs.Simple.{on_top}
-use Rattle.st_top.specs.Command.{command_named}
+use Rattle.st_top.specs.Command.{command_named, command_with}
 use Rattle.st_top.specs.declared.command.Command.{Command}
 
 -- whether a word may be an argument: it is not empty, and does not begin with `-`
@@ -17,7 +17,10 @@ three_words =
     with_rule (with_rule (with_rule (on_top (λ shape. record shape { no_binary_name = true }) (new_app (codes "stretch")))
     (new_rule (codes "command"))) (new_rule (codes "number"))) (new_rule (codes "cards"))
 
--- the command that the first two arguments are: no command has a number yet
-abbrev pub command_by : Option (List ℕ) → Option (List ℕ) → Option Command
-command_by command None = option_and_then command_named command
-command_by command (Some number) = None
+-- the command that three arguments are: none of them has to be there, but a seed comes with a number of cards
+abbrev pub command_by : Option (List ℕ) → Option (List ℕ) → Option (List ℕ) → Option Command
+command_by command None None = option_and_then command_named command
+command_by command None (Some cards) = None
+command_by command (Some number) None = None
+command_by None (Some number) (Some cards) = None
+command_by (Some word) (Some number) (Some cards) = command_with word number cards

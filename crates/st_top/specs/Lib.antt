@@ -6,7 +6,6 @@ pub mod StepsBack
 pub mod Beside
 pub mod Listing
 pub mod ObjectText
-pub mod Loading
 pub mod Output
 pub mod Answers
 pub mod Layers

@@ -13,7 +13,6 @@ use Rattle.st_top.specs.Signals.{signals_of}
 use Rattle.st_top.specs.Listing.{listing}
 use Rattle.st_top.specs.StepsBack.{end_of, run_report}
 use Rattle.st_top.specs.ObjectText.{program_in, object_lines, deck_lines}
-use Rattle.st_top.specs.Loading.{loaded}
 use Rattle.st_object.specs.Object.{Program, read_text}
 use Rattle.st_dis.specs.Deck.{card_count}
 use Rattle.st_card.specs.declared.faults.Fault.TheVariants.{TooManyCards, BadObjectCard}
@@ -92,7 +91,7 @@ disassembled_by (Err n) = refused (record { card = n; fault = BadObjectCard })
 unfoldable pub output_of : Command → List ℕ → Output
 output_of Run job = ran_by job (assembly job)
 output_of Assemble job = assembled_by (assembly job)
-output_of Load text = loaded_by (loaded text)
+output_of Load text = loaded_by (read_text text)
 output_of Disassemble text = disassembled_by (read_text text)
 
 -- the delays of storage with which an assembled job, or a program that is loaded, runs
@@ -108,5 +107,5 @@ loaded_delays (Err n) = []
 unfoldable pub delays_of : Command → List ℕ → List ℕ
 delays_of Run job = assembled_delays (assembly job)
 delays_of Assemble job = []
-delays_of Load text = loaded_delays (loaded text)
+delays_of Load text = loaded_delays (read_text text)
 delays_of Disassemble text = []

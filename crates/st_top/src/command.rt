@@ -1,14 +1,15 @@
 //! The words of a command line.
-ghost use Rattle.std.specs.Prelude.{◌≡◌, ◌<◌, ◌≤◌, IfOk, None, Ok, false, true, length, map, option_map};
+ghost use Rattle.std.specs.Prelude.{◌≡◌, ◌<◌, ◌≤◌, IfOk, MatchOption, None, Ok, false, true, length, map, option_map};
 ghost use Rattle.std.specs.List.{list_all};
 ghost use Rattle.std.specs.String.{string_bytes};
 ghost use Rattle.clap.specs.Words.{app_of, kind_of};
-ghost use Rattle.st_top.specs.Command.{command_named, command_of};
+ghost use Rattle.st_top.specs.Command.{command_named, command_of, command_with, number_in};
 ghost use Rattle.st_top.specs.CommandLine.{is_plain as is_plain_word, three_words, command_by as command_by_words};
 
 use clap::error::ErrorKind;
 use clap::{Arg, Command as Parser, Error};
 use st_bits::NoMemory;
+use st_card::{Reading, read_number};
 use std::alloc::{AllocError, Global};
 
 /// What the words of a command line ask for.
@@ -22,10 +23,23 @@ pub enum Command {
     Load,
     /// Read an object text and write the deck that assembles to it.
     Disassemble,
+    /// Make the deck of a seed with 1 to 4,000 drawn cards, run it and write its report.
+    Soak {
+        /// The seed.
+        number: u64,
+        /// The number of drawn cards.
+        cards: u32,
+    },
 }
 
 /// The most words of a command line.
 const MOST_WORDS: usize = 3;
+
+/// The most digits of a number.
+const MOST_DIGITS: usize = 20;
+
+/// The most drawn cards of a made deck.
+const MOST_CARDS: u64 = 4_000;
 
 /// Whether a word may be an argument: it is not empty, and does not begin with `-`.
 fn is_plain(word: &str) -> bool
@@ -62,7 +76,7 @@ fn three<'a>(alloc: Global) -> Result<Parser<'a>, AllocError>
         .arg(Arg::new(alloc, "cards"))
 }
 
-/// The command that a word is.
+/// The command that a word is by itself.
 fn command_named_by(word: &str) -> Option<Command>
     ensures { result ≡ command_named word.now }
 {
@@ -75,14 +89,46 @@ fn command_named_by(word: &str) -> Option<Command>
     }
 }
 
-/// The command that the first two arguments are.
-fn command_by(command: Option<&str>, number: Option<&str>) -> Option<Command>
-    ensures { result ≡ command_by_words (option_map (λ s. s.now) command.entry)
-        (option_map (λ s. s.now) number.entry) }
+/// The number that a word of 1 to 20 decimal digits is, where it is from `least` to `most`.
+#[tactic(auto, unfolding(crate::specs::Command::number_in))]
+fn number_by(word: &str, least: u64, most: u64) -> Option<u64>
+    ensures value { result ≡ number_in least most word.now }
+    ensures few { MatchOption result (Unit {0}) (λ n. n ≤ most) }
 {
-    match number {
-        Some(_) => None,
-        None => command_named_by(command?),
+    let digits = word.as_bytes();
+    if MOST_DIGITS < digits.len() {
+        return None;
+    }
+    match read_number(digits, most) {
+        Reading::Good(number) if least <= number => Some(number),
+        _ => None,
+    }
+}
+
+/// The command that a word is with a seed and a number of cards.
+fn command_with_by(word: &str, number: &str, cards: &str) -> Option<Command>
+    ensures { result ≡ command_with word.now number.now cards.now }
+{
+    if word != "soak" {
+        return None;
+    }
+    let number = number_by(number, 0, u64::MAX)?;
+    let cards = number_by(cards, 1, MOST_CARDS)?;
+    Some(Command::Soak {
+        number,
+        cards: cards as u32,
+    })
+}
+
+/// The command that three arguments are.
+fn command_by(command: Option<&str>, number: Option<&str>, cards: Option<&str>) -> Option<Command>
+    ensures { result ≡ command_by_words (option_map (λ s. s.now) command.entry)
+        (option_map (λ s. s.now) number.entry) (option_map (λ s. s.now) cards.entry) }
+{
+    match (number, cards) {
+        (None, None) => command_named_by(command?),
+        (Some(number), Some(cards)) => command_with_by(command?, number, cards),
+        _ => None,
     }
 }
 
@@ -104,7 +150,11 @@ fn read_arguments(alloc: Global, words: &[String]) -> Result<Option<Command>, No
         return Err(NoMemory);
     };
     match parser.try_get_matches_from(words) {
-        Ok(matches) => Ok(command_by(matches.get_str("command"), matches.get_str("number"))),
+        Ok(matches) => Ok(command_by(
+            matches.get_str("command"),
+            matches.get_str("number"),
+            matches.get_str("cards"),
+        )),
         Err(error) if is_memory(&error) => Err(NoMemory),
         Err(_) => Ok(None),
     }

@@ -9,7 +9,6 @@ mod command;
 mod execution;
 mod layer_error;
 mod listing;
-mod loading;
 mod moment;
 mod objects;
 mod past;

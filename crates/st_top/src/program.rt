@@ -13,7 +13,6 @@ use crate::answer::{Answer, Status};
 use crate::command::{Command, read_words};
 use crate::execution::{execute, execute_loaded};
 use crate::layer_error::LayerError;
-use crate::loading::load;
 use crate::objects::{answer_deck, answer_object, image_of};
 use crate::refusal::refuse;
 use st_asm::assemble;
@@ -50,7 +49,7 @@ fn load_job<K: Sink>(alloc: Global, text: &[u8], out: &mut K) -> Result<Answer, 
     requires { length text.now ≤ 2000000 }
     ensures { Ends (K.output out.old) (K.output out.new) (output_of Load text.now) (delays_of Load text.now) result }
 {
-    let program = load(alloc, text)?;
+    let program = read_object(alloc, text)?;
     Ok(execute_loaded(alloc, &program, out))
 }
 

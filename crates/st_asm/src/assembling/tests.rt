@@ -42,10 +42,6 @@ const FAULTY: [(&[u8], u32, Fault); 50] = [
     (b"         END,32.0\n/BUDGET 0", 2, Fault::BadControlCard),
     (b"         END,32.0\nX", 2, Fault::CardAfterEnd),
     (b"", 1, Fault::NoEnd),
-    (b"         END,32.0\n/TIME", 2, Fault::NotYetBuilt),
-    (b"         END,32.0\n/SNAP 5", 2, Fault::NotYetBuilt),
-    (b"         END,32.0\n/CHART", 2, Fault::NotYetBuilt),
-    (b"         END,32.0\n/LIST\n/TIME", 3, Fault::NotYetBuilt),
     (
         b" A       NOP\n A       NOP\n         END,32.0",
         2,

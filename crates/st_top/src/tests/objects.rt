@@ -14,25 +14,15 @@ const REPORT: &str =
 REG 17 0019000000000000\n";
 
 /// Object texts that are refused, and their bad lines.
-const REFUSED: [Case; 4] = [
+const REFUSED: [Case; 2] = [
     Case {
         shows: "a word in lower-case digits",
         job: "OBJECT\nSTART 32.0\nW 32 001903000000097a\nBUDGET 1000\nDELAY 1\nFIN\n",
         report: "CARD 3 BAD OBJECT CARD\n",
     },
     Case {
-        shows: "ticks, which are not built",
-        job: "OBJECT\nSTART 32.0\nBUDGET 1\nDELAY 1\nTIME\nFIN\n",
-        report: "CARD 5 BAD OBJECT CARD\n",
-    },
-    Case {
-        shows: "a snapshot, which is not built, before a bad line",
-        job: "OBJECT\nSTART 32.0\nBUDGET 1\nDELAY 1\nSNAP 5\nFIN\nFIN\n",
-        report: "CARD 5 BAD OBJECT CARD\n",
-    },
-    Case {
-        shows: "a bad line before what is not built",
-        job: "OBJECT\nSTART 32.0\nBUDGET 0\nDELAY 1\nCHART\nFIN\n",
+        shows: "a budget of nothing, before a line behind the last",
+        job: "OBJECT\nSTART 32.0\nBUDGET 0\nDELAY 1\nCHART\nFIN\nFIN\n",
         report: "CARD 3 BAD OBJECT CARD\n",
     },
 ];

@@ -1,7 +1,7 @@
 //! Jobs that are refused.
 use super::answer_to;
 use super::decks::Case;
-use super::decks::refused::{REFUSED, UNBUILT};
+use super::decks::refused::REFUSED;
 use crate::{Answer, Status};
 use std::process::Abort;
 use std::test::Fail;
@@ -31,9 +31,4 @@ fn assert_refused(rt: &(impl Abort + AllocGlobal), cases: &[Case]) -> Result<(),
 #[test]
 fn the_first_faulty_card_of_the_earliest_pass_is_named(rt: HostRuntime) -> Result<(), Fail> {
     assert_refused(&rt, &REFUSED)
-}
-
-#[test]
-fn what_is_not_built_is_refused(rt: HostRuntime) -> Result<(), Fail> {
-    assert_refused(&rt, &UNBUILT)
 }

@@ -1,9 +1,7 @@
-use Rattle.std.proofs.Common.{refl, ap}
+use Rattle.std.proofs.Common.{ap}
 use Rattle.std.specs.Prelude.{option_map}
-use Rattle.st_exec.proofs.BesideEntries.{beside-same}
-use Rattle.st_run.specs.Together.{IsSince}
 use Rattle.st_run.proofs.ChoiceLemmas.{decided}
-use Rattle.st_run.proofs.SameLemmas.{left-same}
+use Rattle.st_run.proofs.PartLemmas.{left-parts}
 use Rattle.st_run.proofs.leaving.leave.Goals as goal
 
 pub returns-clause-decided : goal.returns-clause-decided
@@ -14,14 +12,10 @@ returns-clause-decided g c =
 
 pub returns-clause-delays : goal.returns-clause-delays
 returns-clause-delays g c =
-    let since = c.come-over.ensures.came.since c.args.driven.now c.requires
-    (record { machine = refl; alike = λ open_still. beside-same c.args.driven.now.machine.state }) in
-    (left-same c.args.driven.now.machine c.come-over.result.0 c.come-over.new.driven c.decide.result.turn c.args.left c.decide.result
-    c.decide.new.driven.machine since c.decide.ensures.choice).delays
+    (left-parts c.args.driven.now c.come-over.new.driven c.decide.new.driven _ c.come-over.result.0 c.args.left c.decide.result c.requires
+    c.come-over.ensures.came c.decide.ensures.choice).delays
 
 pub returns-clause-levels : goal.returns-clause-levels
 returns-clause-levels g c =
-    let since = c.come-over.ensures.came.since c.args.driven.now c.requires
-    (record { machine = refl; alike = λ open_still. beside-same c.args.driven.now.machine.state }) in
-    (left-same c.args.driven.now.machine c.come-over.result.0 c.come-over.new.driven c.decide.result.turn c.args.left c.decide.result
-    c.decide.new.driven.machine since c.decide.ensures.choice).levels
+    (left-parts c.args.driven.now c.come-over.new.driven c.decide.new.driven _ c.come-over.result.0 c.args.left c.decide.result c.requires
+    c.come-over.ensures.came c.decide.ensures.choice).levels

@@ -1,6 +1,5 @@
 use Rattle.std.specs.Prelude.{IfSome}
-use Rattle.std.proofs.Common.{◌≡◌, ◌≤◌, ◌-◌, ℕ, Option, List, sym, ◌∙◌, ap, subst, arith}
-use Rattle.st_run.specs.Together.{Together}
+use Rattle.std.proofs.Common.{◌≤◌, ◌-◌, ℕ, Option, List, sym, subst, arith}
 use Rattle.st_run.specs.Order.{AreRising}
 use Rattle.st_run.specs.Told.{Told}
 use Rattle.st_run.specs.Telling.{AreInTime}

@@ -2,7 +2,7 @@
 use super::Case;
 
 /// Refused at a card, for a reason that stays.
-pub const REFUSED: [Case; 9] = [
+pub const REFUSED: [Case; 10] = [
     Case {
         shows: "the empty job has no END",
         job: "",
@@ -85,49 +85,6 @@ pub const REFUSED: [Case; 9] = [
 /BACK 65
 ",
         report: "CARD 4 BAD CONTROL CARD
-",
-    },
-];
-
-/// Refused as long as what they ask for is not built.
-pub const UNBUILT: [Case; 5] = [
-    Case {
-        shows: "ticks",
-        job: "         LVI,$X1,100.0
-         BEW
-         END,32.0
-/TIME
-",
-        report: "CARD 4 NOT YET BUILT
-",
-    },
-    Case {
-        shows: "a chart",
-        job: "         LVI,$X1,100.0
-         BEW
-         END,32.0
-/CHART
-",
-        report: "CARD 4 NOT YET BUILT
-",
-    },
-    Case {
-        shows: "snapshots",
-        job: "         LVI,$X1,100.0
-         BEW
-         END,32.0
-/SNAP 26
-",
-        report: "CARD 4 NOT YET BUILT
-",
-    },
-    Case {
-        shows: "ticks, before an undefined name on an earlier card",
-        job: "         B,FAR
-         END,32.0
-/TIME
-",
-        report: "CARD 3 NOT YET BUILT
 ",
     },
     Case {

@@ -1,0 +1,26 @@
+//! The lines of one job on machines of one to eight levels.
+ghost use Rattle.std.specs.Prelude.{◌≡◌};
+ghost use Rattle.st_report.specs.Line.{levels_line, calm_line};
+
+use crate::Line;
+use crate::pieces::{begun, ended, push_decimal, push_flag, push_short_decimal};
+
+/// `LEVELS n TICKS t`: the number of levels, and the tick of the last completion.
+pub fn line_levels(levels: u8, ticks: u64) -> Line
+    ensures { result.bytes ≡ levels_line levels ticks }
+{
+    let mut line = begun("LEVELS ");
+    push_short_decimal(&mut line, u32::from(levels));
+    line.push_str(" TICKS ");
+    push_decimal(&mut line, ticks);
+    ended(line)
+}
+
+/// `CALM 1` or `CALM 0`: whether the run is calm.
+pub fn line_calm(calm: bool) -> Line
+    ensures { result.bytes ≡ calm_line calm }
+{
+    let mut line = begun("CALM ");
+    push_flag(&mut line, calm);
+    ended(line)
+}

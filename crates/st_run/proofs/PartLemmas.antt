@@ -1,0 +1,55 @@
+-- What comes between two entries leaves the delays and the number of levels.
+use Rattle.std.proofs.Common.{◌≡◌, ℕ, ◌+◌, Bool, true, false, List, length, Option, None, Some, refl, sym, ◌∙◌, subst}
+use Rattle.st_prep.proofs.Choices.{of_choice}
+use Rattle.st_exec.proofs.BesideEntries.{beside-same}
+use Rattle.st_exec.specs.Step.{rests}
+use Rattle.st_exec.specs.Run.{settled}
+use Rattle.st_rows.specs.Rows.{opening}
+use Rattle.st_ahead.specs.Overlap.{Overlap, levels_of, interrupt_due}
+use Rattle.st_ahead.specs.Calls.{banks_left, ended, settled as settled_of, settled_by}
+use Rattle.st_run.specs.Together.{Together, scene_of, IsBehind, IsSince, closed_if}
+use Rattle.st_run.specs.Between.{Came, IsChoice}
+use Rattle.st_run.specs.declared.turn.Turn.{Turn}
+use Rattle.st_run.specs.declared.turn.Turn.TheVariants.{Before, AtEnd, Over}
+use Rattle.st_run.specs.declared.leaving.Decided.{Decided}
+
+-- one machine has the delays and the levels of another
+pub record HasParts (o p : Overlap) : Type 0 where
+  pub delays : p.delays ≡ o.delays
+  pub levels : p.levels ≡ o.levels
+
+parts-then : (o p q : Overlap) → HasParts o p → HasParts p q → HasParts o q
+parts-then o p q first second = record { delays = second.delays ∙ first.delays; levels = second.levels ∙ first.levels }
+
+ended-parts : (o : Overlap) → HasParts o (ended o)
+unfolding ended
+ended-parts o =
+    of_choice (λ (q : Overlap). HasParts o q) o.ended o
+    (record o { front = opening (banks_left o o.closing) (o.now + 1 + length (levels_of o)); ended = true })
+    (record { delays = refl; levels = refl }) (record { delays = refl; levels = refl })
+
+settled-parts : (due : Option ℕ) (waits : Bool) (behind : Option ℕ) (o : Overlap) → HasParts o (settled_by due waits behind o)
+settled-parts (Some i) waits behind o = record { delays = (ended-parts o).delays; levels = (ended-parts o).levels }
+settled-parts None true behind o = ended-parts o
+settled-parts None false (Some h) o = record { delays = (ended-parts o).delays; levels = (ended-parts o).levels }
+settled-parts None false None o = record { delays = refl; levels = refl }
+
+choice-parts : (turn : Turn) (left : ℕ) (over : Bool) (o p : Overlap) (d : Decided) → IsChoice turn left over o d p → HasParts o p
+unfolding settled_of
+choice-parts Before left over o p d h =
+    subst {A = Overlap} (λ q. HasParts o q) (sym h.2) (settled-parts (interrupt_due o) (rests o.state) o.behind o)
+choice-parts (AtEnd resting) left over o p d h = subst {A = Overlap} (λ q. HasParts o q) (sym h.4) (ended-parts o)
+choice-parts Over left over o p d h = absurd h
+
+closed-parts : (over : Bool) (o : Overlap) → HasParts o (closed_if over o)
+closed-parts true o = ended-parts o
+closed-parts false o = record { delays = refl; levels = refl }
+
+pub left-parts : (b t n : Together) (text : Option (List ℕ)) (over : Bool) (left : ℕ) (d : Decided) → IsBehind b
+    → Came (settled (scene_of b)) text false over b t → IsChoice d.turn left over t.machine d n.machine → HasParts b.machine n.machine
+left-parts b t n text over left d is came choice =
+    let since : IsSince b.machine over t = came.since b is (record { machine = refl; alike = λ open_still. beside-same b.machine.state }) in
+    let closed : HasParts b.machine t.machine =
+    subst {A = Overlap} (λ q. HasParts b.machine q) (sym since.machine)
+    (record { delays = (closed-parts over b.machine).delays; levels = (closed-parts over b.machine).levels }) in
+    parts-then b.machine t.machine n.machine closed (choice-parts d.turn left over t.machine n.machine d choice)
