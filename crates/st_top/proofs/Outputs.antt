@@ -1,6 +1,6 @@
 -- What the answer of a run says of its output.
 use Rattle.std.proofs.Common.{◌≡◌, ℕ, List, [], sym, ◌∙◌, ap, subst}
-use Rattle.std.specs.Prelude.{Result, Ok, Err, OnOk, OnErr}
+use Rattle.std.specs.Prelude.{Option, Result, Ok, Err, OnOk, OnErr}
 use Rattle.st_io.specs.Output.{OutputState, Wrote}
 use Rattle.st_io.specs.declared.Failed.{Failed}
 use Rattle.st_lines.specs.Lines.{text}
@@ -11,7 +11,7 @@ use Rattle.st_state.specs.Machine.{Machine, opening}
 use Rattle.st_exch.specs.Reader.{reader_cards}
 use Rattle.st_exec.specs.Run.{Signal, Scene}
 use Rattle.st_top.specs.Signals.{signals_of}
-use Rattle.st_top.specs.Listing.{listing}
+use Rattle.st_top.specs.Listing.{front}
 use Rattle.st_object.specs.Object.{Program}
 use Rattle.st_top.specs.Output.{Output, lines_alone, output_of_run, ran_by, start_of, loaded_by, loaded_start}
 use Rattle.st_top.specs.Answers.{WroteAll, Writes}
@@ -42,8 +42,8 @@ start_is job a m signals cards p q r =
     ap with_machine p ∙ (ap with_signals q ∙ ap with_cards r)
 
 -- its output is that of the job
-pub output_is : (job : List ℕ) (a : Assembly) (c : Scene) → c ≡ start_of job a → output_of_run (listing job a) a.asked c ≡ ran_by job (Ok a)
-output_is job a c e = ap (output_of_run (listing job a) a.asked) e
+pub output_is : (made : Option (ℕ × ℕ)) (job : List ℕ) (a : Assembly) (c : Scene) → c ≡ start_of job a → output_of_run (front made job a) a.asked c ≡ ran_by made job (Ok a)
+output_is made job a c e = ap (output_of_run (front made job a) a.asked) e
 
 pub writes_output : (s t : OutputState) (output other : Output) (answer : Answer) → output ≡ other → Writes answer.status s t output answer → Writes answer.status s t other answer
 writes_output s t output other answer e h = subst (λ o. Writes answer.status s t o answer) e h

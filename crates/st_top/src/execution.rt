@@ -29,7 +29,7 @@ ghost use Rattle.st_state.specs.Machine.{opening};
 ghost use Rattle.st_exec.specs.Run.{run as run_from};
 ghost use Rattle.st_lines.specs.Event.{at_moment};
 ghost use Rattle.st_object.specs.Object.{IsProgram};
-ghost use Rattle.st_top.specs.Listing.{HasCards, listing};
+ghost use Rattle.st_top.specs.Listing.{HasCards, front};
 ghost use Rattle.st_top.specs.StepsBack.{run_report};
 ghost use Rattle.st_top.specs.Beside.{Follows};
 ghost use Rattle.st_top.specs.Signals.{signals_of};
@@ -38,7 +38,7 @@ ghost use Rattle.st_top.specs.Output.{ran_by, loaded_by, output_of_run};
 ghost use Rattle.st_top.specs.Answers.{Writes};
 
 use crate::answer::{Answer, Status};
-use crate::listing::write_listing;
+use crate::listing::write_front;
 use crate::past::Past;
 use crate::running::write_report;
 use crate::scene::Scene;
@@ -52,9 +52,10 @@ use st_object::Image;
 use st_state::State;
 use std::alloc::Global;
 
-/// Writes the listing of a job, where it is asked for, and runs it with its report.
+/// Writes what stands in front of the report of a job, and runs it with its report.
 fn write_output<K: Sink>(
     out: &mut K,
+    made: Option<(u64, u32)>,
     job: &[u8],
     cards: &[Card],
     program: &Assembled,
@@ -68,11 +69,11 @@ fn write_output<K: Sink>(
     requires parts { AllPass is_part program.now.controls.dumps }
     requires beside { Follows program.now.controls.back past.old scene.old [] }
     ensures { WritesEvents (K.output out.old) (K.output out.new)
-        (at_moment 0 0 (listing job.now (shown program.now))
+        (at_moment 0 0 (front made job.now (shown program.now))
         ++ run_report program.now.controls scene.old)
         (run_from program.now.controls.budget scene.old).last scene.new.machine result }
 {
-    write_listing(out, job, cards, program)?;
+    write_front(out, made, job, cards, program)?;
     write_report(out, scene, past, &program.controls)
 }
 
@@ -137,9 +138,10 @@ fn beside<'a>(
     Ok(Some((Scene::new(machine, signals(controls), cards), steps)))
 }
 
-/// Writes the listing of a job, where it is asked for, runs it with its report, and answers.
+/// Writes what stands in front of the report of a job, runs it with its report, and answers.
 fn answer_run<K: Sink>(
     out: &mut K,
+    made: Option<(u64, u32)>,
     job: &[u8],
     cards: &[Card],
     program: &Assembled,
@@ -153,21 +155,28 @@ fn answer_run<K: Sink>(
     requires parts { AllPass is_part program.now.controls.dumps }
     requires beside { Follows program.now.controls.back past.old scene.old [] }
     ensures writes { Writes result.status (K.output out.old) (K.output out.new)
-        (output_of_run (listing job.now (shown program.now)) program.now.controls scene.old)
+        (output_of_run (front made job.now (shown program.now)) program.now.controls scene.old)
         result }
     ensures ticks { result.ticks ≡ 0 }
 {
-    let written = write_output(out, job, cards, program, scene, past);
+    let written = write_output(out, made, job, cards, program, scene, past);
     answer_of(written, done_in(scene))
 }
 
-/// Runs a job that is assembled from its start, and writes the listing and the report.
-pub fn execute<K: Sink>(alloc: Global, job: &[u8], program: &Assembled, out: &mut K) -> Answer
+/// Runs a job that is assembled from its start, and writes its report. A deck that is made has its seed and its number of
+/// cards in `made`, and begins with their line.
+pub fn execute<K: Sink>(
+    alloc: Global,
+    made: Option<(u64, u32)>,
+    job: &[u8],
+    program: &Assembled,
+    out: &mut K,
+) -> Answer
     requires short { length job.now < 2 ^ 32 }
     requires sound { IsSound (length (cards_of job.now)) (shown program.now) }
     requires good { All (λ card. card.fault ≡ None) (cards_of job.now) }
     ensures writes { Writes result.status (K.output out.old) (K.output out.new)
-        (ran_by job.now (Ok (shown program.now))) result }
+        (ran_by made job.now (Ok (shown program.now))) result }
     ensures ticks { result.ticks ≡ 0 }
 {
     let Ok(cards) = split(alloc, job) else {
@@ -184,7 +193,15 @@ pub fn execute<K: Sink>(alloc: Global, job: &[u8], program: &Assembled, out: &mu
         return Answer::without_run(Status::NoMemory);
     };
     let mut scene = Scene::new(machine, signals(&program.controls), waiting);
-    answer_run(out, job, cards.as_slice(), program, &mut scene, &mut past)
+    answer_run(
+        out,
+        made,
+        job,
+        cards.as_slice(),
+        program,
+        &mut scene,
+        &mut past,
+    )
 }
 
 /// Runs a program that was loaded with its report, and answers.

@@ -11,4 +11,4 @@ returns-clause-writes g c =
     let a = shown c.args.program.now in
     let started = start_is job a _ _ _ (c.in-Ok-new-2.ensures ∙ ap (λ image. opening image c.args.program.now.start) c.as_slice.ensures.value)
     (ap signals_of c.signals.ensures) c.in-Ok-new.ensures in
-    writes_output _ _ _ _ _ (output_is job a _ (c.new-scene.ensures ∙ started)) c.answer_run.ensures.writes
+    writes_output _ _ _ _ _ (output_is c.args.made job a _ (c.new-scene.ensures ∙ started)) c.answer_run.ensures.writes
