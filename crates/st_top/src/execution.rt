@@ -32,7 +32,7 @@ ghost use Rattle.st_exec.specs.Run.{Scene as SceneOf};
 ghost use Rattle.st_lines.specs.Event.{at_moment};
 ghost use Rattle.st_object.specs.Object.{IsProgram};
 ghost use Rattle.st_run.specs.Told.{told};
-ghost use Rattle.st_top.specs.Listing.{HasCards, listing};
+ghost use Rattle.st_top.specs.Listing.{HasCards, front};
 ghost use Rattle.st_top.specs.StepsBack.{timed, end_of, run_report};
 ghost use Rattle.st_top.specs.Beside.{IsReady, StandsAtStart};
 ghost use Rattle.st_top.specs.Running.{WritesEvents};
@@ -40,7 +40,7 @@ ghost use Rattle.st_top.specs.Output.{scene_of, ran_by, loaded_by, output_of_run
 ghost use Rattle.st_top.specs.Answers.{Writes, KeepsTime};
 
 use crate::answer::{Answer, Status};
-use crate::listing::write_listing;
+use crate::listing::write_front;
 use crate::moment::Moment;
 use crate::past::Past;
 use crate::reporting::{LEVELS, budget, write_report};
@@ -57,9 +57,10 @@ use st_run::Run;
 use st_state::State;
 use std::alloc::Global;
 
-/// Writes the listing of a job, where it is asked for, and then the report of its run.
+/// Writes what stands in front of the report of a job, and then the report of its run.
 fn write_output<K: Sink>(
     out: &mut K,
+    made: Option<(u64, u32)>,
     job: &[u8],
     cards: &[Card],
     program: &Assembled,
@@ -77,10 +78,10 @@ fn write_output<K: Sink>(
     ensures { (start : SceneOf) → run.old.rest ≡ told (timed program.now.controls start)
         → StandsAtStart program.now.controls.back start past.old
         → WritesEvents (K.output out.old) (K.output out.new)
-        (at_moment 0 0 (listing job.now (shown program.now)) ++ run_report program.now.controls start)
+        (at_moment 0 0 (front made job.now (shown program.now)) ++ run_report program.now.controls start)
         (end_of program.now.controls start) moment.new result }
 {
-    write_listing(out, job, cards, program)?;
+    write_front(out, made, job, cards, program)?;
     write_report(out, run, past, moment, &program.controls)
 }
 
@@ -212,9 +213,10 @@ fn prepare<'a>(
     Ok((run, past))
 }
 
-/// Writes the listing of a job, where it is asked for, and the report of its run, and answers.
+/// Writes what stands in front of the report of a job, and the report of its run, and answers.
 fn answer_run<K: Sink>(
     out: &mut K,
+    made: Option<(u64, u32)>,
     job: &[u8],
     cards: &[Card],
     program: &Assembled,
@@ -230,21 +232,28 @@ fn answer_run<K: Sink>(
     ensures { (start : SceneOf) → run.old.rest ≡ told (timed program.now.controls start)
         → StandsAtStart program.now.controls.back start past.old
         → Writes result.status (K.output out.old) (K.output out.new)
-        (output_of_run (listing job.now (shown program.now)) program.now.controls start) result }
+        (output_of_run (front made job.now (shown program.now)) program.now.controls start) result }
 {
     let mut moment = Moment::start();
-    let written = write_output(out, job, cards, program, run, past, &mut moment);
+    let written = write_output(out, made, job, cards, program, run, past, &mut moment);
     answer_of(written, moment)
 }
 
-/// Runs a job that is assembled from its start, and writes the listing and the report.
+/// Runs a job that is assembled from its start, and writes its report. A deck that is made has its seed and its number of
+/// cards in `made`, and begins with their line.
 #[tactic(auto, using(st_bits::specs::Storage::words_of_storage_is, crate::proofs::Times::keeps_still))]
-pub fn execute<K: Sink>(alloc: Global, job: &[u8], program: &Assembled, out: &mut K) -> Answer
+pub fn execute<K: Sink>(
+    alloc: Global,
+    made: Option<(u64, u32)>,
+    job: &[u8],
+    program: &Assembled,
+    out: &mut K,
+) -> Answer
     requires short { length job.now < 2 ^ 32 }
     requires sound { IsSound (length (cards_of job.now)) (shown program.now) }
     requires good { All (λ card. card.fault ≡ None) (cards_of job.now) }
     ensures writes { Writes result.status (K.output out.old) (K.output out.new)
-        (ran_by job.now (Ok (shown program.now))) result }
+        (ran_by made job.now (Ok (shown program.now))) result }
     ensures in_time { KeepsTime program.now.controls.delays result }
 {
     let words = program.image.as_slice();
@@ -254,7 +263,15 @@ pub fn execute<K: Sink>(alloc: Global, job: &[u8], program: &Assembled, out: &mu
     let Ok((mut run, mut past)) = prepare(alloc, job, words, program.start, &program.controls) else {
         return Answer::without_run(Status::NoMemory);
     };
-    answer_run(out, job, cards.as_slice(), program, &mut run, &mut past)
+    answer_run(
+        out,
+        made,
+        job,
+        cards.as_slice(),
+        program,
+        &mut run,
+        &mut past,
+    )
 }
 
 /// Writes the report of the run of a program that was loaded, and answers.

@@ -2,11 +2,11 @@
 ghost use Rattle.std.specs.Prelude.{◌≡◌, ◌<◌, ◌≤◌, ◌^◌, None, false, map, length};
 ghost use Rattle.std.specs.List.{list_all};
 ghost use Rattle.std.specs.String.{string_bytes};
-ghost use Rattle.st_top.specs.Command.{command_of};
+ghost use Rattle.st_top.specs.Command.{command_of, IsWithinCards};
 ghost use Rattle.st_top.specs.CommandLine.{is_plain};
 ghost use Rattle.st_top.specs.declared.command.Command.TheVariants.{Run, Assemble, Load, Disassemble};
-ghost use Rattle.st_top.specs.Output.{output_of, delays_of};
-ghost use Rattle.st_top.specs.Answers.{Did, IsAnswer};
+ghost use Rattle.st_top.specs.Output.{output_of, delays_of, soaked, soaked_delays};
+ghost use Rattle.st_top.specs.Answers.{Did, Acted, IsAnswer, Writes, KeepsTime};
 ghost use Rattle.st_top.specs.Layers.{Ends, Tries};
 
 use crate::answer::{Answer, Status};
@@ -16,6 +16,7 @@ use crate::layer_error::LayerError;
 use crate::objects::{answer_deck, answer_object, image_of};
 use crate::refusal::refuse;
 use st_asm::assemble;
+use st_gen::make_deck;
 use st_io::{Sink, Source, read_all};
 use st_object::read_object;
 use std::alloc::Global;
@@ -30,7 +31,7 @@ fn run_job<K: Sink>(alloc: Global, job: &[u8], out: &mut K) -> Result<Answer, La
     ensures { Ends (K.output out.old) (K.output out.new) (output_of Run job.now) (delays_of Run job.now) result }
 {
     let program = assemble(alloc, job)?;
-    Ok(execute(alloc, job, &program, out))
+    Ok(execute(alloc, None, job, &program, out))
 }
 
 /// Assembles a job and writes its object text.
@@ -63,14 +64,36 @@ fn disassemble_text<K: Sink>(alloc: Global, text: &[u8], out: &mut K) -> Result<
     answer_deck(alloc, &program, out)
 }
 
-/// Does what a command asks for on a job that was read, as far as no layer refuses it.
+/// Makes a deck, assembles it and runs it.
+fn run_made<K: Sink>(
+    alloc: Global,
+    number: u64,
+    cards: u32,
+    out: &mut K,
+) -> Result<Answer, LayerError>
+    requires { cards ≤ 4000 }
+    ensures { Ends (K.output out.old) (K.output out.new) (soaked number cards)
+        (soaked_delays number cards) result }
+{
+    let Ok(deck) = make_deck(alloc, number, cards) else {
+        return Err(LayerError::NoMemory);
+    };
+    let made = Some((number, cards));
+    let job = deck.as_slice();
+    let program = assemble(alloc, job)?;
+    Ok(execute(alloc, made, job, &program, out))
+}
+
+/// Does what a command asks for on a job that was read, as far as no layer refuses it. `soak` does not look at the job.
+#[tactic(auto, unfolding(crate::specs::Output::output_of, crate::specs::Output::delays_of))]
 fn try_job<K: Sink>(
     alloc: Global,
     command: Command,
     job: &[u8],
     out: &mut K,
 ) -> Result<Answer, LayerError>
-    requires { length job.now ≤ 2000000 }
+    requires job { length job.now ≤ 2000000 }
+    requires cards { IsWithinCards command }
     ensures { Ends (K.output out.old) (K.output out.new) (output_of command job.now)
         (delays_of command job.now) result }
 {
@@ -79,6 +102,7 @@ fn try_job<K: Sink>(
         Command::Assemble => assemble_job(alloc, job, out),
         Command::Load => load_job(alloc, job, out),
         Command::Disassemble => disassemble_text(alloc, job, out),
+        Command::Soak { number, cards } => run_made(alloc, number, cards, out),
     }
 }
 
@@ -89,6 +113,7 @@ fn try_command<S: Source, K: Sink>(
     job: &mut S,
     out: &mut K,
 ) -> Result<Answer, LayerError>
+    requires { IsWithinCards command }
     ensures { Tries command (S.input job.old) (S.input job.new) (K.output out.old)
         (K.output out.new) result }
 {
@@ -99,6 +124,7 @@ fn try_command<S: Source, K: Sink>(
 /// Reads a job, and does what a command asks for, or says why it does not.
 #[tactic(auto, using(st_bits::specs::Storage::words_of_storage_is, crate::proofs::Times::keeps_still))]
 fn answer<S: Source, K: Sink>(alloc: Global, command: Command, job: &mut S, out: &mut K) -> Answer
+    requires { IsWithinCards command }
     ensures { Did command result.status
         (S.input job.old) (S.input job.new) (K.output out.old) (K.output out.new) result }
 {
@@ -111,10 +137,42 @@ fn answer<S: Source, K: Sink>(alloc: Global, command: Command, job: &mut S, out:
     }
 }
 
+/// Runs a made deck, or says why it does not.
+#[tactic(auto, using(st_bits::specs::Storage::words_of_storage_is, crate::proofs::Times::keeps_still))]
+fn answer_made<K: Sink>(alloc: Global, number: u64, cards: u32, out: &mut K) -> Answer
+    requires { cards ≤ 4000 }
+    ensures writes { Writes result.status (K.output out.old) (K.output out.new)
+        (soaked number cards) result }
+    ensures in_time { KeepsTime (soaked_delays number cards) result }
+{
+    match run_made(alloc, number, cards, out) {
+        Ok(answer) => answer,
+        Err(LayerError::Refused { card, fault }) => refuse(out, card, fault),
+        Err(LayerError::TooLong | LayerError::Unread | LayerError::NoMemory) => {
+            Answer::without_run(Status::NoMemory)
+        }
+    }
+}
+
+/// Does what a command asks for, or says why it does not.
+fn act<S: Source, K: Sink>(alloc: Global, command: Command, job: &mut S, out: &mut K) -> Answer
+    requires { IsWithinCards command }
+    ensures { Acted command result.status
+        (S.input job.old) (S.input job.new) (K.output out.old) (K.output out.new) result }
+{
+    match command {
+        Command::Soak { number, cards } => answer_made(alloc, number, cards, out),
+        Command::Run | Command::Assemble | Command::Load | Command::Disassemble => {
+            answer(alloc, command, job, out)
+        }
+    }
+}
+
 /// Does what the words of the command line, after the program's name, ask for, on a job of at most 2,000,000
 /// bytes. `run` assembles it, runs it and writes its report; `assemble` assembles it and writes its object text;
 /// `load` takes it as an object text, runs that and writes its report; `disassemble` takes it as an object text and
-/// writes its deck. Each line is written by itself, and all memory is taken before the first one.
+/// writes its deck. `soak` reads no job: it makes the deck of a seed and a number of cards, and does with it what `run`
+/// does, behind a line that names them. Each line is written by itself, and all memory is taken before the first one.
 pub fn stretch<S: Source, K: Sink>(
     alloc: Global,
     words: &[String],
@@ -135,7 +193,7 @@ pub fn stretch<S: Source, K: Sink>(
     ensures few { 3 < length words.now → result.status ≡ Status.Usage }
 {
     match read_words(alloc, words) {
-        Ok(Some(command)) => answer(alloc, command, job, out),
+        Ok(Some(command)) => act(alloc, command, job, out),
         Ok(None) => Answer::without_run(Status::Usage),
         Err(_) => Answer::without_run(Status::NoMemory),
     }
