@@ -1,5 +1,5 @@
 //! The cards of the deck.
-ghost use Rattle.std.specs.Prelude.{◌≡◌, ◌++◌, OnOk, IfOk};
+ghost use Rattle.std.specs.Prelude.{◌≡◌, ◌+◌, ◌*◌, ◌≤◌, ◌++◌, OnOk, IfOk, length};
 ghost use Rattle.st_gen.specs.Deck.{next, after_card, after_cards, card, drawn_card, drawn_cards, control, delay_card, delay_cards, closing_cards, made_deck};
 
 use crate::form::form_of;
@@ -110,7 +110,8 @@ fn push_deck(deck: &mut Vec<u8>, number: u64, cards: u32) -> Result<(), AllocErr
 /// ticks. `soak` asks for 1 to 4,000 cards; this call makes a deck of any number. The one error is that memory ran out.
 /// `docs/deck.md` has the rules.
 pub fn make_deck(alloc: Global, number: u64, cards: u32) -> Result<Vec<u8>, NoMemory>
-    ensures { IfOk result (λ deck. deck.items ≡ made_deck number cards) }
+    ensures deck { IfOk result (λ deck. deck.items ≡ made_deck number cards) }
+    ensures short { IfOk result (λ deck. length deck.items ≤ 40 * cards + 300) }
 {
     let mut deck = Vec::new(alloc);
     push_deck(&mut deck, number, cards).map_err(|_| NoMemory)?;

@@ -24,3 +24,4 @@ pub mod CameLemmas
 pub mod ChoiceLemmas
 pub mod LevelLemmas
 pub mod PartLemmas
+pub mod LastLemmas

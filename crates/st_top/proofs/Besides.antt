@@ -20,7 +20,7 @@ use Rattle.st_back.specs.Between.{AreAlikeAbove}
 use Rattle.st_back.specs.Steps.{Steps, none_of, newest, IsForth, IsStepKept, IsPut, has_room, states_before}
 use Rattle.st_back.specs.Undone.{noted}
 use Rattle.st_back.proofs.ManyLemmas.{between-states, forth-states}
-use Rattle.st_top.specs.Beside.{Beside, IsFresh, HasRoom, IsReady, IsMoved, IsStepped, IsBeside, Follows}
+use Rattle.st_top.specs.Beside.{Beside, IsFresh, HasRoom, IsReady, IsMoved, IsStepped, IsBeside, StandsAtStart}
 
 -- ---- the words from 32 up
 
@@ -195,17 +195,8 @@ order_at_rest c o h e =
 
 -- ---- beside a run
 
-pub follows_settled : (back : ℕ) (b d : Beside) (c : Scene) (before : List Machine) → IsMoved b d (settled b.0).scene → IsBeside back b c before → IsBeside back d (settled c).scene before
-follows_settled back b d c before h k =
-    let here : d.0 ≡ (settled c).scene = h.scene ∙ ap (λ (e : Scene). (settled e).scene) k.scene in
-    record {
-      some = k.some;
-      ready = h.ready;
-      deep = h.depth ∙ k.deep;
-      scene = here;
-      states = ap (λ (e : Scene). states_before d.1.kept e.machine) (sym here) ∙ (h.states
-          ∙ (ap (λ (e : Scene). states_before b.1.kept e.machine) k.scene ∙ k.states));
-    }
+pub beside_settled : (back : ℕ) (b d : Beside) (c : Scene) (before : List Machine) → IsMoved b d c → IsBeside back b before → IsBeside back d before
+beside_settled back b d c before h k = record { some = k.some; ready = h.ready; deep = h.depth ∙ k.deep; states = h.states ∙ k.states }
 
 drop-none : (a : ℕ) → drop {A = Machine} a [] ≡ []
 drop-none zero = refl
@@ -232,28 +223,18 @@ keep-more n xs x some =
     drop-append-le a ys (x ∷ []) first
     ∙ (ap (λ zs. zs ++ x ∷ []) (drop-drop a m xs ∙ ap (λ k. drop k xs) sum) ∙ sym (drop-append-le b xs (x ∷ []) second))
 
-pub follows_stepped : (back : ℕ) (b d : Beside) (c : Scene) (before : List Machine) → rests c.machine ≡ false → (rests b.0.machine ≡ false → IsStepped b d) → IsBeside back b c before → IsBeside back d (stepped c) (before ++ c.machine ∷ [])
-follows_stepped back b d c before going made k =
-    let h = made (ap (λ (e : Scene). rests e.machine) k.scene ∙ going) in
-    let here : d.0 ≡ stepped c = h.scene ∙ ap stepped k.scene in
-    record {
-      some = k.some;
-      ready = h.ready;
-      deep = h.depth ∙ k.deep;
-      scene = here;
-      states = ap (λ (e : Scene). states_before d.1.kept e.machine) (sym here) ∙ (h.states
-          ∙ (ap (λ n. keep_last n (states_before b.1.kept b.0.machine ++ b.0.machine ∷ [])) k.deep
-          ∙ (ap (λ (e : Scene). keep_last back (states_before b.1.kept e.machine ++ e.machine ∷ [])) k.scene
-          ∙ (ap (λ (ss : List Machine). keep_last back (ss ++ c.machine ∷ [])) k.states ∙ keep-more back before c.machine k.some))));
-    }
+pub beside_stepped : (back : ℕ) (b d : Beside) (before : List Machine) → IsStepped b d → IsBeside back b before → IsBeside back d (before ++ b.0.machine ∷ [])
+beside_stepped back b d before h k = record {
+  some = k.some;
+  ready = h.ready;
+  deep = h.depth ∙ k.deep;
+  states = h.states ∙ (ap (λ n. keep_last n (states_before b.1.kept b.0.machine ++ b.0.machine ∷ [])) k.deep
+      ∙ (ap (λ (ss : List Machine). keep_last back (ss ++ b.0.machine ∷ [])) k.states ∙ keep-more back before b.0.machine k.some));
+}
 
-pub follows_few : (back : ℕ) (b : Option Beside) (c : Scene) (before : List Machine) (n : ℕ) → c.machine.done < n → Follows back b c before → IfSome b (λ d. d.0.machine.done < n)
-follows_few back None c before n few h = tt
-follows_few back (Some b) c before n few h = let same : b.0.machine.done ≡ c.machine.done = ap (λ (e : Scene). e.machine.done) h.scene in omega (arith, few, same)
-
-pub follows_ready : (back : ℕ) (b : Option Beside) (c : Scene) (before : List Machine) → Follows back b c before → IfSome b IsReady
-follows_ready back None c before h = tt
-follows_ready back (Some b) c before h = h.ready
+pub start_ready : (back : ℕ) (start : Scene) (b : Option Beside) → StandsAtStart back start b → IfSome b IsReady
+start_ready back start None h = tt
+start_ready back start (Some b) h = h.0.ready
 
 -- ---- a card that is put
 
@@ -311,27 +292,19 @@ nothing_kept : (back : ℕ) (ks : List Kept) (s : Machine) → ks ≡ [] → sta
 unfolding states_before
 nothing_kept back ks s none = ap (λ js. states_before js s) none ∙ sym (drop-none (0 - back))
 
-pub begins_beside : (back : ℕ) (k : Steps) (b c : Scene) → 1 ≤ back → back ≤ 64 → k ≡ none_of back → b ≡ c → c.machine.reader ≡ None → IsBeside back (b, k) c []
-begins_beside back k b c some few none same free =
+pub begins_beside : (back : ℕ) (k : Steps) (b : Scene) → 1 ≤ back → back ≤ 64 → k ≡ none_of back → b.machine.reader ≡ None → IsBeside back (b, k) []
+begins_beside back k b some few none free =
     let depth : k.depth ≡ back = ap (λ j. j.depth) none in
     record {
       some = some;
       ready = record {
         some = omega (arith, some, depth);
         few = omega (arith, few, depth);
-        room = room_same None b.machine.reader k.kept (ap (λ (e : Scene). e.machine.reader) same ∙ free) tt;
+        room = room_same None b.machine.reader k.kept free tt;
       };
       deep = depth;
-      scene = same;
-      states = nothing_kept back k.kept c.machine (ap (λ j. j.kept) none);
+      states = nothing_kept back k.kept b.machine (ap (λ j. j.kept) none);
     }
-
-pub scene_of : (c : Scene) (m n : Machine) (xs ys : List Signal) (cs ds : List (List ℕ)) → c ≡ record { machine = m; signals = xs; cards = cs } → m ≡ n → xs ≡ ys → cs ≡ ds → c ≡ record { machine = n; signals = ys; cards = ds }
-scene_of c m n xs ys cs ds e p q r =
-    let with_machine : Machine → Scene = λ k. record { machine = k; signals = xs; cards = cs } in
-    let with_signals : List Signal → Scene = λ k. record { machine = n; signals = k; cards = cs } in
-    let with_cards : List (List ℕ) → Scene = λ k. record { machine = n; signals = ys; cards = k } in
-    e ∙ (ap with_machine p ∙ (ap with_signals q ∙ ap with_cards r))
 
 pub states_unread : (ks : List Kept) (s : Machine) (r : Option Order) → IsMachine s → states_before ks (record s { reader = r }) ≡ states_before ks s
 states_unread ks s r m = between-states ks s (record s { reader = r }) m (record { size = refl; words = λ w above. refl })

@@ -1,13 +1,14 @@
 -- What the parser makes of one to three plain words.
-use Rattle.std.proofs.Common.{◌≡◌, ◌≤◌, ◌==◌, ◌&&◌, ◌^◌, ◌-◌, ◌<◌, inl, inr, if◌then◌else◌, nat_eq, nat_le, sym, ℕ, List, [], ◌∷◌, Bool, true, false, not, Some, None, codes, length, Option, refl, ap, ◌∙◌, arith}
-use Rattle.std.proofs.lemmas.Bool.{and_cases, and_right, eqb-true, not-false, true≢false}
+use Rattle.std.proofs.Common.{◌≡◌, ◌≤◌, ◌==◌, ◌&&◌, ◌^◌, ◌-◌, ◌<◌, inl, inr, if◌then◌else◌, nat_eq, nat_le, sym, subst, ℕ, List, [], ◌∷◌, Bool, true, false, not, Some, None, codes, length, Option, refl, ap, ◌∙◌, arith}
+use Rattle.std.proofs.lemmas.Bool.{and_cases, and_right, and_parts, leb-true, eqb-true, not-false, true≢false}
+use Rattle.std.specs.Prelude.{MatchOption}
 use Rattle.std.specs.Cmp.Lexicographic.{pointwise}
 use Rattle.std.specs.List.{list_all}
 use Rattle.clap.specs.Words.{matches_of, takes, first_of}
 use Rattle.clap.proofs.OnLiterals.{clap_on_literals}
 use Rattle.std.specs.Char.{is_ascii_digit}
 use Rattle.st_card.specs.Number.{is_filled, is_number, value}
-use Rattle.st_top.specs.Command.{command_named, command_with, command_of, number_in, soak_of}
+use Rattle.st_top.specs.Command.{command_named, command_with, command_of, number_in, soak_of, IsWithinCards}
 use Rattle.st_top.specs.CommandLine.{is_plain, three_words, command_by}
 use Rattle.st_top.specs.declared.command.Command.{Command}
 
@@ -195,6 +196,44 @@ many_mean_nothing (w ∷ []) h = absurd (omega arith)
 many_mean_nothing (w ∷ n ∷ []) h = absurd (omega arith)
 many_mean_nothing (w ∷ n ∷ k ∷ []) h = absurd (omega arith)
 many_mean_nothing (w ∷ n ∷ k ∷ v ∷ ws) h = refl
+
+-- a command that words mean asks for at most 4000 cards
+abbrev pub AllowsCards : Option Command → Type 0
+AllowsCards command = MatchOption command (Unit {0}) IsWithinCards
+
+of_test : (t : Bool) (x y : Option Command) → AllowsCards x → AllowsCards y → AllowsCards (if t then x else y)
+of_test true x y p q = p
+of_test false x y p q = q
+
+number_test : (t : Bool) (n most : ℕ) → (t ≡ true → n ≤ most) → MatchOption (if t then Some n else None) (Unit {0}) (λ k. k ≤ most)
+number_test true n most h = h refl
+number_test false n most h = tt
+
+number_within : (least most : ℕ) (w : List ℕ) → MatchOption (number_in least most w) (Unit {0}) (λ n. n ≤ most)
+unfolding number_in
+number_within least most w =
+    number_test _ (value w) most (λ is. leb-true (value w) most (and_parts (is_number w && nat_le (length w) 20 && nat_le least (value w)) (nat_le (value w) most) is).1)
+
+soak_within : (number cards : Option ℕ) → MatchOption cards (Unit {0}) (λ n. n ≤ 4000) → AllowsCards (soak_of number cards)
+soak_within None cards h = tt
+soak_within (Some n) None h = tt
+soak_within (Some n) (Some k) h = h
+
+named_within : (w : List ℕ) → AllowsCards (command_named w)
+named_within w =
+    of_test (pointwise nat_eq w (codes "run")) _ _ tt (of_test (pointwise nat_eq w (codes "assemble")) _ _ tt
+    (of_test (pointwise nat_eq w (codes "load")) _ _ tt (of_test (pointwise nat_eq w (codes "disassemble")) _ _ tt tt)))
+
+pub commands_are_within : (ws : List (List ℕ)) → AllowsCards (command_of ws)
+commands_are_within [] = tt
+commands_are_within (w ∷ []) = named_within w
+commands_are_within (w ∷ n ∷ []) = tt
+commands_are_within (w ∷ n ∷ k ∷ []) =
+    of_test (pointwise nat_eq w (codes "soak")) _ _ (soak_within (number_in 0 (2 ^ 64 - 1) n) (number_in 1 4000 k) (number_within 1 4000 k)) tt
+commands_are_within (w ∷ n ∷ k ∷ v ∷ ws) = tt
+
+pub command_within : (command : Command) (ws : List (List ℕ)) → Some command ≡ command_of ws → IsWithinCards command
+command_within command ws e = subst AllowsCards (sym e) (commands_are_within ws)
 
 pub never_both : (b : Bool) → b ≡ true → b ≡ false → ⊥
 never_both true p q = absurd (cc)

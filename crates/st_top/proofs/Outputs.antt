@@ -8,42 +8,31 @@ use Rattle.st_lines.specs.Event.{StoppedAt}
 use Rattle.st_lines.proofs.Writing.{wrote_at_moment}
 use Rattle.st_asm.specs.Assembly.{Assembly}
 use Rattle.st_state.specs.Machine.{Machine, opening}
+use Rattle.st_top.specs.declared.moment.Moment.{Moment}
 use Rattle.st_exch.specs.Reader.{reader_cards}
 use Rattle.st_exec.specs.Run.{Signal, Scene}
 use Rattle.st_top.specs.Signals.{signals_of}
-use Rattle.st_top.specs.Listing.{listing}
 use Rattle.st_object.specs.Object.{Program}
-use Rattle.st_top.specs.Output.{Output, lines_alone, output_of_run, ran_by, start_of, loaded_by, loaded_start}
+use Rattle.st_top.specs.Output.{Output, lines_alone, output_of_run, ran_by, scene_of, start_of, loaded_by, loaded_start}
+use Rattle.st_top.proofs.Besides.{no_cards}
 use Rattle.st_top.specs.Answers.{WroteAll, Writes}
 use Rattle.st_top.specs.Running.{WritesEvents}
 use Rattle.st_top.specs.declared.answer.Answer.{Answer}
 use Rattle.st_top.specs.declared.answer.Status.TheVariants.{Done, WriteFault}
 
-pub writes_run : (s t : OutputState) (output : Output) (last m : Machine) (answer : Answer) (r : Result (Unit {0}) Failed) → output.status ≡ Done → output.done ≡ last.done → output.ticks ≡ 0 → WritesEvents s t output.events last m r → answer.done ≡ m.done → answer.ticks ≡ 0 → OnOk r (answer.status ≡ Done) → OnErr r (answer.status ≡ WriteFault) → Writes answer.status s t output answer
-writes_run s t output last m answer (Ok x) status done ticks w count none good bad =
+pub writes_run : (s t : OutputState) (output : Output) (last m : Moment) (answer : Answer) (r : Result (Unit {0}) Failed) → output.status ≡ Done → output.done ≡ last.done → output.ticks ≡ last.tick → WritesEvents s t output.events last m r → answer.done ≡ m.done → answer.ticks ≡ m.tick → OnOk r (answer.status ≡ Done) → OnErr r (answer.status ≡ WriteFault) → Writes answer.status s t output answer
+writes_run s t output last m answer (Ok x) status done ticks w count tick good bad =
     let all : WroteAll s t output answer = record {
       status = good ∙ sym status;
       wrote = w.whole;
-      done = count ∙ (ap (λ k. k.done) w.last_state ∙ sym done);
-      ticks = none ∙ sym ticks;
+      done = count ∙ (ap (λ (k : Moment). k.done) w.ended ∙ sym done);
+      ticks = tick ∙ (ap (λ (k : Moment). k.tick) w.ended ∙ sym ticks);
     } in
     subst (λ st. Writes st s t output answer) (sym good) all
-writes_run s t output last m answer (Err x) status done ticks w count none good bad =
+writes_run s t output last m answer (Err x) status done ticks w count tick good bad =
     let stopped : StoppedAt s t output.events answer.done answer.ticks =
-    subst (λ k. StoppedAt s t output.events answer.done k) (sym none) (subst (λ n. StoppedAt s t output.events n 0) (sym count) w.stopped) in
+    subst (λ k. StoppedAt s t output.events answer.done k) (sym tick) (subst (λ n. StoppedAt s t output.events n m.tick) (sym count) w.stopped) in
     subst (λ st. Writes st s t output answer) (sym bad) stopped
-
--- a scene is the start of a run where its parts are
-pub start_is : (job : List ℕ) (a : Assembly) (m : Machine) (signals : List Signal) (cards : List (List ℕ)) → m ≡ opening a.image a.start → signals ≡ signals_of a.asked.signals → cards ≡ reader_cards job → record { machine = m; signals = signals; cards = cards } ≡ start_of job a
-start_is job a m signals cards p q r =
-    let with_machine : Machine → Scene = λ k. record { machine = k; signals = signals; cards = cards } in
-    let with_signals : List Signal → Scene = λ k. record { machine = opening a.image a.start; signals = k; cards = cards } in
-    let with_cards : List (List ℕ) → Scene = λ k. record { machine = opening a.image a.start; signals = signals_of a.asked.signals; cards = k } in
-    ap with_machine p ∙ (ap with_signals q ∙ ap with_cards r)
-
--- its output is that of the job
-pub output_is : (job : List ℕ) (a : Assembly) (c : Scene) → c ≡ start_of job a → output_of_run (listing job a) a.asked c ≡ ran_by job (Ok a)
-output_is job a c e = ap (output_of_run (listing job a) a.asked) e
 
 pub writes_output : (s t : OutputState) (output other : Output) (answer : Answer) → output ≡ other → Writes answer.status s t output answer → Writes answer.status s t other answer
 writes_output s t output other answer e h = subst (λ o. Writes answer.status s t o answer) e h
@@ -54,13 +43,11 @@ wrote_alone s t ls answer w good done ticks =
     let all : WroteAll s t (lines_alone Done ls) answer = record { status = good; wrote = wrote_at_moment s t 0 0 ls w; done = done; ticks = ticks } in
     subst (λ st. Writes st s t (lines_alone Done ls) answer) (sym good) all
 
--- so it is with a program that is loaded
-pub loaded_scene : (p : Program) (c : Scene) (m : Machine) (signals : List Signal) (cards : List (List ℕ)) → c ≡ record { machine = m; signals = signals; cards = cards } → m ≡ opening p.words p.start → signals ≡ signals_of p.controls.signals → cards ≡ [] → c ≡ loaded_start p
-loaded_scene p c m signals cards e q r s =
-    let with_machine : Machine → Scene = λ k. record { machine = k; signals = signals; cards = cards } in
-    let with_signals : List Signal → Scene = λ k. record { machine = opening p.words p.start; signals = k; cards = cards } in
-    let with_cards : List (List ℕ) → Scene = λ k. record { machine = opening p.words p.start; signals = signals_of p.controls.signals; cards = k } in
-    e ∙ (ap with_machine q ∙ (ap with_signals r ∙ ap with_cards s))
+-- so it is with a program that is loaded, whose reader is empty
+pub loaded_scene : (p : Program) → scene_of p.words p.start p.controls [] ≡ loaded_start p
+loaded_scene p =
+    let with_cards : List (List ℕ) → Scene = λ cards. record { machine = opening p.words p.start; signals = signals_of p.controls.signals; cards = cards } in
+    ap with_cards no_cards
 
-pub loaded_is : (p : Program) (c : Scene) → c ≡ loaded_start p → output_of_run [] p.controls c ≡ loaded_by (Ok p)
-loaded_is p c e = ap (output_of_run [] p.controls) e
+pub loaded_is : (p : Program) → output_of_run [] p.controls (scene_of p.words p.start p.controls []) ≡ loaded_by (Ok p)
+loaded_is p = ap (output_of_run [] p.controls) (loaded_scene p)

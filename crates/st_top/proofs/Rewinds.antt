@@ -1,27 +1,21 @@
--- Stepping back from the end of a run.
+-- A run that a machine beside it makes, and stepping back from its end.
 use Rattle.std.proofs.Common.{◌≡◌, ◌≢◌, ◌≤◌, ◌==◌, ℕ, zero, suc, ◌+◌, ◌-◌, min, List, [], ◌∷◌, ◌++◌, Bool, true, false, length, take, drop, get_or, refl, sym, ◌∙◌, ap, subst, arith, length-append, append_assoc, if◌then◌else◌}
 use Rattle.std.proofs.lemmas.List.{length-drop, drop-append-le, take_all}
 use Rattle.std.proofs.lemmas.Bool.Decides.{nat_tests}
-use Rattle.std.specs.Prelude.{Option, None, Some, Result, Ok, Err, IsErr, OnOk}
 use Rattle.st_card.specs.Controls.{Asked}
-use Rattle.st_io.specs.Output.{OutputState, Wrote}
-use Rattle.st_io.specs.declared.Failed.{Failed}
-use Rattle.st_lines.specs.Lines.{text, WritesLines}
-use Rattle.st_lines.specs.Event.{lines_of, at_moment, StoppedAt}
-use Rattle.st_lines.proofs.Writing.{wrote_at_moment, stopped_at_moment, wrote_events, events_before, events_after}
 use Rattle.st_state.specs.Machine.{Machine}
 use Rattle.st_exec.specs.Step.{rests}
-use Rattle.st_exec.specs.Run.{Scene, settled, stepped, run}
-use Rattle.st_exec.proofs.Runs.{step-done}
+use Rattle.st_exec.specs.Run.{Scene, Ran, settled, stepped, ended, run}
+use Rattle.st_exec.proofs.Runs.{step-done, run-rests, run-budget, run-goes_on}
 use Rattle.st_back.specs.declared.kept.Kept.{Kept}
 use Rattle.st_back.specs.Steps.{Steps, IsBack, states_before}
 use Rattle.st_back.proofs.ManyLemmas.{back-states}
 use Rattle.st_report.specs.Line.{back_line}
-use Rattle.st_top.specs.Report.{block, report}
-use Rattle.st_top.specs.StepsBack.{states, block_before, back_lines, run_report}
-use Rattle.st_top.specs.Beside.{Beside, IsBeside, Follows, StandsAtEnd}
-use Rattle.st_top.specs.Running.{WritesEvents, RunWrites}
-use Rattle.st_top.proofs.Runs.{settled-done}
+use Rattle.st_run.proofs.DoneLemmas.{settled-done}
+use Rattle.st_top.specs.Report.{block}
+use Rattle.st_top.specs.StepsBack.{states, block_before, back_lines, last_state}
+use Rattle.st_top.specs.Beside.{Beside, IsMoved, IsStepped, IsBeside, HasRun}
+use Rattle.st_top.proofs.Besides.{beside_settled, beside_stepped}
 
 -- ---- the states of a run
 
@@ -49,30 +43,51 @@ states-goes_on (suc k) c some h =
 -- ---- how far the run has come
 
 -- the states so far, and those that are left
-pub record StatesSoFar (back budget : ℕ) (start : Scene) (left : ℕ) (c : Scene) (b : Option Beside) : Type 0 where
+pub record StatesSoFar (back budget : ℕ) (start : Scene) (left : ℕ) (b : Beside) : Type 0 where
   pub before : List Machine
-  pub all : states budget start ≡ before ++ states left c
-  pub counted : length before ≡ c.machine.done
-  pub follows : Follows back b c before
+  pub all : states budget start ≡ before ++ states left b.0
+  pub last : (run left b.0).last ≡ (run budget start).last
+  pub counted : length before ≡ b.0.machine.done
+  pub beside : IsBeside back b before
 
-pub states_begin : (back budget : ℕ) (start : Scene) (b : Option Beside) → start.machine.done ≡ 0 → Follows back b start [] → StatesSoFar back budget start budget start b
-states_begin back budget start b none h = record { before = []; all = refl; counted = sym none; follows = h }
+pub states_begin : (back budget : ℕ) (b : Beside) → b.0.machine.done ≡ 0 → IsBeside back b [] → StatesSoFar back budget b.0 budget b
+states_begin back budget b none h = record { before = []; all = refl; last = refl; counted = sym none; beside = h }
 
 -- the run ends
-pub states_end : (back budget : ℕ) (start : Scene) (left : ℕ) (c d : Scene) (b e : Option Beside) → d ≡ (settled c).scene → states left c ≡ (settled c).scene.machine ∷ [] → StatesSoFar back budget start left c b → ((n : ℕ) (k : Scene) (before : List Machine) → Follows n b k before → Follows n e (settled k).scene before) → StandsAtEnd back budget start d e
-states_end back budget start left c d b e same ends h moved = record {
-  before = h.before;
-  all = h.all ∙ (ap (λ (ss : List Machine). h.before ++ ss) ends ∙ ap (λ (k : Scene). h.before ++ k.machine ∷ []) (sym same));
-  counted = h.counted ∙ (sym (settled-done c) ∙ ap (λ (k : Scene). k.machine.done) (sym same));
-  follows = subst (λ (k : Scene). Follows back e k h.before) (sym same) (moved back c h.before h.follows);
-}
+states_end : (back budget : ℕ) (start : Scene) (left : ℕ) (b d : Beside) → IsMoved b d (settled b.0).scene
+    → states left b.0 ≡ (settled b.0).scene.machine ∷ [] → run left b.0 ≡ ended (settled b.0)
+    → StatesSoFar back budget start left b → HasRun back budget start d
+states_end back budget start left b d moved ends over h =
+    let same : d.0 ≡ (settled b.0).scene = moved.scene in
+    record {
+      before = h.before;
+      all = h.all ∙ (ap (λ (ss : List Machine). h.before ++ ss) ends ∙ ap (λ (k : Scene). h.before ++ k.machine ∷ []) (sym same));
+      last = ap (λ (k : Scene). k.machine) same ∙ (sym (ap (λ (r : Ran). r.last) over) ∙ h.last);
+      counted = h.counted ∙ (sym (settled-done b.0) ∙ ap (λ (k : Scene). k.machine.done) (sym same));
+      beside = beside_settled back b d (settled b.0).scene h.before moved h.beside;
+    }
+
+pub states_rest : (back budget : ℕ) (start : Scene) (left : ℕ) (b d : Beside) → IsMoved b d (settled b.0).scene
+    → rests d.0.machine ≡ true → StatesSoFar back budget start left b → HasRun back budget start d
+states_rest back budget start left b d moved at_rest h =
+    let there : rests (settled b.0).scene.machine ≡ true = ap (λ (k : Scene). rests k.machine) (sym moved.scene) ∙ at_rest in
+    states_end back budget start left b d moved (states-rests left b.0 there) (run-rests left b.0 there) h
+
+pub states_used : (back budget : ℕ) (start : Scene) (left : ℕ) (b d : Beside) → IsMoved b d (settled b.0).scene
+    → left ≡ 0 → StatesSoFar back budget start left b → HasRun back budget start d
+states_used back budget start left b d moved none h =
+    states_end back budget start left b d moved (states-budget left b.0 none) (run-budget left b.0 none) h
 
 -- the run goes on
-pub states_next : (back budget : ℕ) (start : Scene) (left : ℕ) (c d k : Scene) (b e f : Option Beside) → left ≢ 0 → rests d.machine ≡ false → d ≡ (settled c).scene → k ≡ stepped d → StatesSoFar back budget start left c b → ((n : ℕ) (g : Scene) (before : List Machine) → Follows n b g before → Follows n e (settled g).scene before) → ((n : ℕ) (g : Scene) (before : List Machine) → rests g.machine ≡ false → Follows n e g before → Follows n f (stepped g) (before ++ g.machine ∷ [])) → StatesSoFar back budget start (left - 1) k f
-states_next back budget start left c d k b e f some going same made h moved step =
-    let going_on : rests (settled c).scene.machine ≡ false = ap (λ (g : Scene). rests g.machine) (sym same) ∙ going in
-    let here : k ≡ stepped (settled c).scene = made ∙ ap stepped same in
+pub states_next : (back budget : ℕ) (start : Scene) (left : ℕ) (b d e : Beside) → left ≢ 0 → rests d.0.machine ≡ false
+    → IsMoved b d (settled b.0).scene → IsStepped d e → StatesSoFar back budget start left b → StatesSoFar back budget start (left - 1) e
+states_next back budget start left b d e some going moved step h =
+    let c = b.0 in
     let s = (settled c).scene in
+    let same : d.0 ≡ s = moved.scene in
+    let going_on : rests s.machine ≡ false = ap (λ (g : Scene). rests g.machine) (sym same) ∙ going in
+    let here : e.0 ≡ stepped s = step.scene ∙ ap stepped same in
+    let beside = beside_stepped back d e h.before step (beside_settled back b d s h.before moved h.beside) in
     let grown = length-append h.before (s.machine ∷ []) in
     let counted = h.counted in
     let was = settled-done c in
@@ -83,10 +98,23 @@ states_next back budget start left c d k b e f some going same made h moved step
       all = h.all ∙ (ap (λ (ss : List Machine). h.before ++ ss) (states-goes_on left c some going_on)
           ∙ (sym (append_assoc h.before (s.machine ∷ []) (states (left - 1) (stepped s)))
           ∙ ap (λ (g : Scene). (h.before ++ s.machine ∷ []) ++ states (left - 1) g) (sym here)));
+      last = ap (λ (g : Scene). (run (left - 1) g).last) here
+          ∙ (sym (ap (λ (r : Ran). r.last) (run-goes_on left c some going_on)) ∙ h.last);
       counted = more ∙ ap (λ (g : Scene). g.machine.done) (sym here);
-      follows = subst (λ (g : Scene). Follows back f g (h.before ++ s.machine ∷ [])) (sym here)
-          (step back s h.before going_on (moved back c h.before h.follows));
+      beside = subst (λ (g : Scene). IsBeside back e (h.before ++ g.machine ∷ [])) same beside;
     }
+
+-- how many instructions it counts
+pub states_few : (left budget : ℕ) (b d : Beside) → IsMoved b d (settled b.0).scene → b.0.machine.done + left ≡ budget → d.0.machine.done + left ≡ budget
+states_few left budget b d moved counted =
+    let same : d.0.machine.done ≡ b.0.machine.done = ap (λ (k : Scene). k.machine.done) moved.scene ∙ settled-done b.0 in
+    omega (arith, same, counted)
+
+pub states_count : (left budget : ℕ) (b d e : Beside) → left ≢ 0 → IsMoved b d (settled b.0).scene → IsStepped d e → b.0.machine.done + left ≡ budget → e.0.machine.done + (left - 1) ≡ budget
+states_count left budget b d e some moved step counted =
+    let few = states_few left budget b d moved counted in
+    let more : e.0.machine.done ≡ d.0.machine.done + 1 = ap (λ (k : Scene). k.machine.done) step.scene ∙ step-done d.0.machine in
+    omega (arith, some, few, more)
 
 -- ---- back to the oldest state
 
@@ -152,14 +180,13 @@ asked_for : (asked : Asked) (lines : List (List ℕ)) → 1 ≤ asked.back → l
 asked_for asked lines some =
     let test : (asked.back == 0) ≡ false = grind (arith, nat_tests) in sym (ap (λ b. if b then [] else lines) test)
 
-pub lines_before : (asked : Asked) (budget j : ℕ) (start c : Scene) (b : Beside) (t : Machine) → StandsAtEnd asked.back budget start c (Some b) → j ≡ length b.1.kept → t ∷ [] ≡ take 1 (states_before b.1.kept b.0.machine ++ b.0.machine ∷ []) → back_line j ∷ block asked.dumps t ≡ back_lines asked (states budget start) c.machine
-lines_before asked budget j start c b t h count oldest =
-    let f : IsBeside asked.back b c h.before = h.follows in
+pub lines_before : (asked : Asked) (j : ℕ) (start : Scene) (b : Beside) (t : Machine) → HasRun asked.back asked.budget start b → j ≡ length b.1.kept → t ∷ [] ≡ take 1 (states_before b.1.kept b.0.machine ++ b.0.machine ∷ []) → back_line j ∷ block asked.dumps t ≡ back_lines asked (states asked.budget start) (last_state asked start)
+lines_before asked j start b t h count oldest =
+    let f : IsBeside asked.back b h.before = h.beside in
     let k = asked.back in
     let n = length h.before in
-    let last = c.machine in
-    let all = states budget start in
-    let here : b.0.machine ≡ last = ap (λ (e : Scene). e.machine) f.scene in
+    let last = b.0.machine in
+    let all = states asked.budget start in
     let front = drop (n - k) h.before in
     let long : length b.1.kept ≡ length front = sym (length-states_before b.1.kept last) ∙ ap length f.states in
     let size = length-drop (n - k) h.before in
@@ -167,63 +194,18 @@ lines_before asked budget j start c b t h count oldest =
     let steps : j ≡ min k last.done = omega (arith, count, long, size, done) in
     let place : n - k ≡ last.done - min k last.done = omega (arith, done) in
     let few : n - k ≤ n = omega arith in
-    let rest : drop (n - k) all ≡ states_before b.1.kept b.0.machine ++ b.0.machine ∷ [] =
+    let rest : drop (n - k) all ≡ states_before b.1.kept last ++ last ∷ [] =
     ap (drop (n - k)) h.all ∙ (drop-append-le (n - k) h.before (last ∷ []) few
-    ∙ (ap (λ (ss : List Machine). ss ++ last ∷ []) (sym f.states)
-    ∙ ap (λ (m : Machine). states_before b.1.kept m ++ m ∷ []) (sym here))) in
+    ∙ ap (λ (ss : List Machine). ss ++ last ∷ []) (sym f.states)) in
     let first : get_or all (n - k) last ≡ t = first_at all (n - k) t last (oldest ∙ ap (take 1) (sym rest)) in
     let state : t ≡ get_or all (last.done - min k last.done) last = sym first ∙ ap (λ i. get_or all i last) place in
     ap (λ i. back_line i ∷ block asked.dumps t) steps
     ∙ (ap (λ (m : Machine). back_line (min k last.done) ∷ block asked.dumps m) state
-    ∙ asked_for asked (block_before asked.dumps (min k last.done) all last) f.some)
+    ∙ (asked_for asked (block_before asked.dumps (min k last.done) all last) f.some
+    ∙ ap (back_lines asked all) h.last))
 
-pub no_lines : (asked : Asked) (budget : ℕ) (start c : Scene) → StandsAtEnd asked.back budget start c None → [] ≡ back_lines asked (states budget start) c.machine
-no_lines asked budget start c h =
-    let none : asked.back ≡ 0 = h.follows in
+pub no_lines : (asked : Asked) (start : Scene) → asked.back ≡ 0 → [] ≡ back_lines asked (states asked.budget start) (last_state asked start)
+no_lines asked start none =
+    let last = last_state asked start in
     let test : (asked.back == 0) ≡ true = grind (arith, nat_tests, none) in
-    sym (ap (λ b. if b then [] else block_before asked.dumps (min asked.back c.machine.done) (states budget start) c.machine) test)
-
--- ---- the whole report
-
-pub report_cut : (s t : OutputState) (asked : Asked) (start : Scene) (m : Machine) (e : Failed) (r : Result (Unit {0}) Failed) → IsErr r → RunWrites s t asked (run asked.budget start) m (Err e) → WritesEvents s t (run_report asked start) (run asked.budget start).last m r
-unfolding run_report
-report_cut s t asked start m e (Ok x) f h = absurd (cc)
-report_cut s t asked start m e (Err x) f h =
-    let ran = run asked.budget start in
-    record {
-      whole = tt;
-      last_state = tt;
-      stopped = events_before s t (report asked ran.happened) (at_moment ran.last.done 0 (back_lines asked (states asked.budget start) ran.last)) m.done 0 h.stopped;
-    }
-
-pub report_then : (s t u : OutputState) (asked : Asked) (start : Scene) (m : Machine) (x : Unit {0}) (r : Result (Unit {0}) Failed) → RunWrites s t asked (run asked.budget start) m (Ok x) → WritesLines t u (back_lines asked (states asked.budget start) m) r → WritesEvents s u (run_report asked start) (run asked.budget start).last m r
-unfolding run_report
-report_then s t u asked start m x (Ok y) h w =
-    let ran = run asked.budget start in
-    let ss = states asked.budget start in
-    record {
-      whole = wrote_events s t u (report asked ran.happened) (at_moment ran.last.done 0 (back_lines asked ss ran.last)) h.whole
-          (subst (λ (k : Machine). Wrote t u (text (lines_of (at_moment k.done 0 (back_lines asked ss k))))) h.last_state
-          (wrote_at_moment t u m.done 0 (back_lines asked ss m) w.ok));
-      last_state = h.last_state;
-      stopped = tt;
-    }
-report_then s t u asked start m x (Err y) h w =
-    let ran = run asked.budget start in
-    let ss = states asked.budget start in
-    record {
-      whole = tt;
-      last_state = tt;
-      stopped = events_after s t u (report asked ran.happened) (at_moment ran.last.done 0 (back_lines asked ss ran.last)) m.done 0 h.whole
-          (subst (λ (k : Machine). StoppedAt t u (at_moment k.done 0 (back_lines asked ss k)) m.done 0) h.last_state
-          (stopped_at_moment t u m.done 0 (back_lines asked ss m) w.err));
-    }
-
--- no run ends after a failure
-pub never_ends : (P : Type 0) (r : Result (Unit {0}) Failed) → IsErr r → OnOk r P
-never_ends P (Ok x) e = absurd (cc)
-never_ends P (Err x) e = tt
-
-pub on_ok : {P : Type 0} (r : Result (Unit {0}) Failed) → P → OnOk r P
-on_ok (Ok x) p = p
-on_ok (Err x) p = tt
+    sym (ap (λ b. if b then [] else block_before asked.dumps (min asked.back last.done) (states asked.budget start) last) test)

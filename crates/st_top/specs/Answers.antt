@@ -1,15 +1,16 @@
 -- What each answer of the program says: when it comes, and what was read and written.
-use Rattle.std.specs.Prelude.{◌≡◌, ℕ, List, Option, None, Some}
+use Rattle.std.specs.Prelude.{◌≡◌, ℕ, ◌+◌, ◌*◌, ◌≤◌, List, All, Option, None, Some}
 use Rattle.st_io.specs.Count.{HasRisen}
 use Rattle.st_io.specs.Input.{InputState, CameWhole, CameWithin, CamePast}
 use Rattle.st_io.specs.Output.{OutputState, Wrote}
 use Rattle.st_lines.specs.Lines.{text}
 use Rattle.st_lines.specs.Event.{lines_of, StoppedAt}
-use Rattle.st_top.specs.Output.{Output, output_of}
+use Rattle.st_top.specs.Output.{Output, output_of, delays_of, soaked, soaked_delays}
 use Rattle.st_top.specs.declared.answer.Answer.{Answer}
 use Rattle.st_top.specs.declared.answer.Status.{Status}
 use Rattle.st_top.specs.declared.answer.Status.TheVariants.{Done, Refused, Usage, JobTooLong, ReadFault, WriteFault, NoMemory}
 use Rattle.st_top.specs.declared.command.Command.{Command}
+use Rattle.st_top.specs.declared.command.Command.TheVariants.{Run, Assemble, Load, Disassemble, Soak}
 
 -- the longest job, in bytes
 abbrev pub job_limit : ℕ
@@ -37,12 +38,19 @@ Writes Usage before after output answer = ⊥
 Writes JobTooLong before after output answer = ⊥
 Writes ReadFault before after output answer = ⊥
 
--- a job was read whole, and its output written
+-- where none of the delays exceeds a number, each instruction that is done, and one more, takes 64 times (that number
+-- and four) ticks at most
+abbrev pub KeepsTime : List ℕ → Answer → Type 0
+KeepsTime delays answer =
+    (most : ℕ) → All (λ delay. delay ≤ most) delays → answer.ticks ≤ 64 * (most + 4) * (answer.done + 1)
+
+-- a job was read whole, and its output written, in time
 pub record WroteOutput (command : Command) (status : Status) (input input' : InputState) (before after : OutputState)
     (answer : Answer) : Type 0 where
   pub job : List ℕ
   pub read : CameWhole input input' job_limit job
   pub written : Writes status before after (output_of command job) answer
+  pub in_time : KeepsTime (delays_of command job) answer
 
 -- what a command that reads a job did to its source and its sink, by the status
 abbrev pub Did : Command → Status → InputState → InputState → OutputState → OutputState → Answer → Type 0
@@ -68,8 +76,18 @@ IsRefusal JobTooLong = ⊥
 IsRefusal ReadFault = ⊥
 IsRefusal WriteFault = ⊥
 
+-- what a command did, by the status: `soak` reads no job
+abbrev pub Acted : Command → Status → InputState → InputState → OutputState → OutputState → Answer → Type 0
+Acted Run status input input' before after answer = Did Run status input input' before after answer
+Acted Assemble status input input' before after answer = Did Assemble status input input' before after answer
+Acted Load status input input' before after answer = Did Load status input input' before after answer
+Acted Disassemble status input input' before after answer = Did Disassemble status input input' before after answer
+Acted (Soak number cards) status input input' before after answer =
+    (input' ≡ input) × Writes status before after (soaked number cards) answer
+    × KeepsTime (soaked_delays number cards) answer
+
 -- what a call did, by the meaning of its words: words that mean nothing touch neither source nor sink
 abbrev pub IsAnswer : Option Command → InputState → InputState → OutputState → OutputState → Answer → Type 0
 IsAnswer None input input' before after answer =
     IsRefusal answer.status × (input' ≡ input) × (after ≡ before) × NothingRan answer
-IsAnswer (Some command) input input' before after answer = Did command answer.status input input' before after answer
+IsAnswer (Some command) input input' before after answer = Acted command answer.status input input' before after answer

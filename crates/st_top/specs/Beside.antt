@@ -1,12 +1,11 @@
--- A machine beside a run, of which the last steps are kept.
-use Rattle.std.specs.Prelude.{◌≡◌, ◌≤◌, ℕ, List, [], ◌∷◌, ◌++◌, length, Option, None, Some, MatchOption, Result, OnOk}
+-- A machine beside a run, which makes the same run by itself, and of which the last steps are kept.
+use Rattle.std.specs.Prelude.{◌≡◌, ◌≤◌, ℕ, List, [], ◌∷◌, ◌++◌, length, Option, None, Some, MatchOption}
 use Rattle.circular_buffer.specs.Buffer.{keep_last}
 use Rattle.st_state.specs.Machine.{Machine}
 use Rattle.st_state.specs.declared.devices.Order.{Order}
-use Rattle.st_exec.specs.Run.{Scene, stepped}
+use Rattle.st_exec.specs.Run.{Scene, stepped, run}
 use Rattle.st_back.specs.declared.kept.Kept.{Kept}
 use Rattle.st_back.specs.Steps.{Steps, newest, states_before}
-use Rattle.st_io.specs.declared.Failed.{Failed}
 use Rattle.st_top.specs.StepsBack.{states}
 
 -- where it stands, and the steps that can be undone
@@ -43,26 +42,27 @@ pub record IsStepped (old new : Beside) : Type 0 where
   pub states : states_before new.1.kept new.0.machine
       ≡ keep_last old.1.depth (states_before old.1.kept old.0.machine ++ old.0.machine ∷ [])
 
--- it stands at a scene, and steps back give the states before, as many of the last ones as it is deep
-pub record IsBeside (depth : ℕ) (b : Beside) (c : Scene) (before : List Machine) : Type 0 where
+-- steps back give the states before, as many of the last ones as it is deep
+pub record IsBeside (depth : ℕ) (b : Beside) (before : List Machine) : Type 0 where
   pub some : 1 ≤ depth
   pub ready : IsReady b
   pub deep : b.1.depth ≡ depth
-  pub scene : b.0 ≡ c
-  pub states : states_before b.1.kept c.machine ≡ keep_last depth before
+  pub states : states_before b.1.kept b.0.machine ≡ keep_last depth before
 
--- there is one exactly where steps back are asked for
-abbrev pub Follows : ℕ → Option Beside → Scene → List Machine → Type 0
-Follows back None c before = back ≡ 0
-Follows back (Some b) c before = IsBeside back b c before
-
--- it stands at the end of a run
-pub record StandsAtEnd (back budget : ℕ) (start c : Scene) (b : Option Beside) : Type 0 where
+-- it has made the whole run
+pub record HasRun (depth budget : ℕ) (start : Scene) (b : Beside) : Type 0 where
   pub before : List Machine
-  pub all : states budget start ≡ before ++ c.machine ∷ []
-  pub counted : length before ≡ c.machine.done
-  pub follows : Follows back b c before
+  pub all : states budget start ≡ before ++ b.0.machine ∷ []
+  pub last : b.0.machine ≡ (run budget start).last
+  pub counted : length before ≡ b.0.machine.done
+  pub beside : IsBeside depth b before
 
--- at Ok it does
-abbrev pub EndsBeside : ℕ → ℕ → Scene → Scene → Option Beside → Result (Unit {0}) Failed → Type 0
-EndsBeside back budget start c b result = OnOk result (StandsAtEnd back budget start c b)
+-- there is one exactly where steps back are asked for: at the start of a run
+abbrev pub StandsAtStart : ℕ → Scene → Option Beside → Type 0
+StandsAtStart back start None = back ≡ 0
+StandsAtStart back start (Some b) = IsBeside back b [] × (b.0 ≡ start)
+
+-- and at its end
+abbrev pub StandsAtEnd : ℕ → ℕ → Scene → Option Beside → Type 0
+StandsAtEnd back budget start None = back ≡ 0
+StandsAtEnd back budget start (Some b) = HasRun back budget start b

@@ -1,5 +1,5 @@
 -- What the words of a command line mean.
-use Rattle.std.specs.Prelude.{ℕ, ◌-◌, ◌^◌, ◌&&◌, nat_eq, nat_le, codes, if◌then◌else◌, List, [], ◌∷◌, length, Option, None, Some}
+use Rattle.std.specs.Prelude.{ℕ, ◌-◌, ◌^◌, ◌&&◌, ◌≤◌, nat_eq, nat_le, codes, if◌then◌else◌, List, [], ◌∷◌, length, Option, None, Some}
 use Rattle.std.specs.Cmp.Lexicographic.{pointwise}
 use Rattle.st_card.specs.Number.{is_number, value}
 use Rattle.st_top.specs.declared.command.Command.{Command}
@@ -25,6 +25,14 @@ abbrev pub soak_of : Option ℕ → Option ℕ → Option Command
 soak_of None cards = None
 soak_of (Some number) None = None
 soak_of (Some number) (Some cards) = Some (Soak number cards)
+
+-- a made deck has at most 4000 drawn cards
+abbrev pub IsWithinCards : Command → Type 0
+IsWithinCards (Soak number cards) = cards ≤ 4000
+IsWithinCards Run = Unit {0}
+IsWithinCards Assemble = Unit {0}
+IsWithinCards Load = Unit {0}
+IsWithinCards Disassemble = Unit {0}
 
 -- the command that a word is with a seed and a number of cards
 abbrev pub command_with : List ℕ → List ℕ → List ℕ → Option Command

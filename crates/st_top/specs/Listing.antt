@@ -1,11 +1,12 @@
 -- The listing of a job: a line for each card, and then one for each symbol.
-use Rattle.std.specs.Prelude.{◌≡◌, ℕ, if◌then◌else◌, List, [], ◌∷◌, ◌++◌, length, All, None}
+use Rattle.std.specs.Prelude.{◌≡◌, ℕ, if◌then◌else◌, List, [], ◌∷◌, ◌++◌, length, All, Option, None, Some}
 use Rattle.st_card.specs.Cards.{cards_of, text_in, IsCardOf}
 use Rattle.st_card.specs.declared.cards.Card.{Card}
 use Rattle.st_asm.specs.Assembly.{Assembly}
 use Rattle.st_asm.specs.Sound.{IsRow}
 use Rattle.st_asm.specs.declared.naming.Symbol.{Symbol}
 use Rattle.st_asm.specs.declared.valuing.Listed.{Listed}
+use Rattle.st_report.specs.Line.{soak_line}
 use Rattle.st_report.specs.Listing.{listed_line, symbol_line}
 
 -- the cards of a job that is assembled: each has its text in the job and no fault, and its row of the listing
@@ -34,3 +35,12 @@ symbols_lines (s ∷ ss) = symbol_line s.name s.value ∷ symbols_lines ss
 -- the listing of a job that is assembled, where it is asked for
 unfoldable pub listing : List ℕ → Assembly → List (List ℕ)
 listing job a = if a.asked.list then rows_lines job a.rows (cards_of job) ++ symbols_lines a.symbols else []
+
+-- the line of a made deck, by its seed and its number of cards
+abbrev pub made_lines : Option (ℕ × ℕ) → List (List ℕ)
+made_lines None = []
+made_lines (Some made) = soak_line made.0 made.1 ∷ []
+
+-- the lines in front of the report of a job that is assembled
+abbrev pub front : Option (ℕ × ℕ) → List ℕ → Assembly → List (List ℕ)
+front made job a = made_lines made ++ listing job a

@@ -1,25 +1,26 @@
 -- What the program writes for a command and a job.
-use Rattle.std.specs.Prelude.{ℕ, List, [], ◌∷◌, ◌++◌, nat_le, if◌then◌else◌, Result, Ok, Err}
+use Rattle.std.specs.Prelude.{ℕ, List, [], ◌∷◌, ◌++◌, nat_le, if◌then◌else◌, Option, None, Some, Result, Ok, Err}
 use Rattle.st_card.specs.Controls.{Asked}
 use Rattle.st_card.specs.Faults.{name_of}
 use Rattle.st_asm.specs.Pass.{Refusal}
 use Rattle.st_asm.specs.Assembly.{Assembly, assembly}
 use Rattle.st_state.specs.Machine.{opening}
 use Rattle.st_exch.specs.Reader.{reader_cards}
-use Rattle.st_exec.specs.Run.{Scene, run}
+use Rattle.st_exec.specs.Run.{Scene}
 use Rattle.st_lines.specs.Event.{Event, at_moment}
 use Rattle.st_report.specs.Line.{fault_line}
 use Rattle.st_top.specs.Signals.{signals_of}
-use Rattle.st_top.specs.Listing.{listing}
-use Rattle.st_top.specs.StepsBack.{run_report}
+use Rattle.st_top.specs.Listing.{front}
+use Rattle.st_top.specs.StepsBack.{end_of, run_report}
 use Rattle.st_top.specs.ObjectText.{program_in, object_lines, deck_lines}
 use Rattle.st_object.specs.Object.{Program, read_text}
 use Rattle.st_dis.specs.Deck.{card_count}
+use Rattle.st_gen.specs.Deck.{made_deck}
 use Rattle.st_card.specs.declared.faults.Fault.TheVariants.{TooManyCards, BadObjectCard}
 use Rattle.st_top.specs.declared.answer.Status.{Status}
 use Rattle.st_top.specs.declared.answer.Status.TheVariants.{Done, Refused}
 use Rattle.st_top.specs.declared.command.Command.{Command}
-use Rattle.st_top.specs.declared.command.Command.TheVariants.{Run, Assemble, Load, Disassemble}
+use Rattle.st_top.specs.declared.command.Command.TheVariants.{Run, Assemble, Load, Disassemble, Soak}
 
 -- the status, the lines, the number of instructions done and the tick of the last completion
 pub record Output : Type 0 where
@@ -36,27 +37,37 @@ lines_alone status lines = record { status = status; events = at_moment 0 0 line
 abbrev pub refused : Refusal → Output
 refused r = lines_alone Refused (fault_line r.card (name_of r.fault) ∷ [])
 
--- the start of a run: the machine, the signals that are asked for, and the cards of the reader
-abbrev pub start_of : List ℕ → Assembly → Scene
-start_of job a = record {
-  machine = opening a.image a.start;
-  signals = signals_of a.asked.signals;
+-- the start of a run: the machine of an image and a start, the signals that are asked for, and the cards of a job's reader
+abbrev pub scene_of : List ℕ → ℕ → Asked → List ℕ → Scene
+scene_of image start asked job = record {
+  machine = opening image start;
+  signals = signals_of asked.signals;
   cards = reader_cards job;
 }
+
+-- that of a job that is assembled
+abbrev pub start_of : List ℕ → Assembly → Scene
+start_of job a = scene_of a.image a.start a.asked job
 
 -- the output of a run from its start: the listing, and then the report
 abbrev pub output_of_run : List (List ℕ) → Asked → Scene → Output
 output_of_run listed asked start = record {
   status = Done;
   events = at_moment 0 0 listed ++ run_report asked start;
-  done = (run asked.budget start).last.done;
-  ticks = 0;
+  done = (end_of asked start).done;
+  ticks = (end_of asked start).tick;
 }
 
--- the output of `run`, by what a job gives
-abbrev pub ran_by : List ℕ → Result Assembly Refusal → Output
-ran_by job (Ok a) = output_of_run (listing job a) a.asked (start_of job a)
-ran_by job (Err r) = refused r
+-- the output of the run of a job, made by a seed with a number of cards or not, by what it gives
+abbrev pub ran_by : Option (ℕ × ℕ) → List ℕ → Result Assembly Refusal → Output
+ran_by made job (Ok a) = output_of_run (front made job a) a.asked (start_of job a)
+ran_by made job (Err r) = refused r
+
+-- the output of `soak`: that of the deck which a seed and a number of cards make
+abbrev pub soaked : ℕ → ℕ → Output
+soaked number cards =
+    let deck = made_deck number cards in
+    ran_by (Some (number, cards)) deck (assembly deck)
 
 -- the output of `assemble`, by what a job gives: its object text, line by line
 abbrev pub assembled_by : Result Assembly Refusal → Output
@@ -83,9 +94,31 @@ abbrev pub disassembled_by : Result Program ℕ → Output
 disassembled_by (Ok p) = deck_by p
 disassembled_by (Err n) = refused (record { card = n; fault = BadObjectCard })
 
--- the output of a command on a job
+-- the output of a command on a job; that of `soak` is the same for any job
 unfoldable pub output_of : Command → List ℕ → Output
-output_of Run job = ran_by job (assembly job)
+output_of Run job = ran_by None job (assembly job)
 output_of Assemble job = assembled_by (assembly job)
 output_of Load text = loaded_by (read_text text)
 output_of Disassemble text = disassembled_by (read_text text)
+output_of (Soak number cards) job = soaked number cards
+
+-- the delays of storage with which an assembled job, or a program that is loaded, runs
+abbrev pub assembled_delays : Result Assembly Refusal → List ℕ
+assembled_delays (Ok a) = a.asked.delays
+assembled_delays (Err r) = []
+
+abbrev pub loaded_delays : Result Program ℕ → List ℕ
+loaded_delays (Ok p) = p.controls.delays
+loaded_delays (Err n) = []
+
+-- the delays of storage of a made deck
+abbrev pub soaked_delays : ℕ → ℕ → List ℕ
+soaked_delays number cards = assembled_delays (assembly (made_deck number cards))
+
+-- the delays of storage with which a command runs a job
+unfoldable pub delays_of : Command → List ℕ → List ℕ
+delays_of Run job = assembled_delays (assembly job)
+delays_of Assemble job = []
+delays_of Load text = loaded_delays (read_text text)
+delays_of Disassemble text = []
+delays_of (Soak number cards) job = soaked_delays number cards

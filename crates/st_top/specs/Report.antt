@@ -1,12 +1,19 @@
--- The report of a run: its lines, each with the number of instructions done when it is written.
-use Rattle.std.specs.Prelude.{ℕ, ◌+◌, ◌-◌, ◌==◌, Bool, if◌then◌else◌, Option, None, Some, List, [], ◌∷◌, ◌++◌}
+-- The report of a run: its lines, each with the number of instructions done and the tick of the last completion when it
+-- is written.
+use Rattle.std.specs.Prelude.{ℕ, ◌+◌, ◌-◌, ◌==◌, Bool, if◌then◌else◌, List, [], ◌∷◌, ◌++◌, length, map, option_map}
 use Rattle.st_card.specs.Controls.{Asked}
 use Rattle.st_state.specs.Machine.{Machine, word}
-use Rattle.st_exch.specs.Printer.{printed}
-use Rattle.st_exec.specs.Run.{Happening, Prints, Interrupts, Executes, Ends}
 use Rattle.st_lines.specs.Lines.{lines_for}
 use Rattle.st_lines.specs.Event.{Event, at_moment}
-use Rattle.st_report.specs.Line.{prt_line, trc_line, int_line, end_line, done_line, ic_line, en_line, reg_line, dump_line, mem_line}
+use Rattle.st_report.specs.Line.{prt_line, trc_line, row_line, drop_line, int_line, time_line, snap_line, lev_line, end_line, done_line, ticks_line, ic_line, en_line, reg_line, dump_line, mem_line}
+use Rattle.st_run.specs.Events.{Level}
+use Rattle.st_run.specs.Told.{What, Done, Dropped, Printed, Interrupted, Shown, Ended, Told}
+
+-- a line that may not be asked for
+abbrev pub line_if : Bool → List ℕ → List (List ℕ)
+line_if asked line = if asked then line ∷ [] else []
+
+-- ---- a state
 
 -- the line of register w, where it is not zero
 abbrev pub register_lines : Machine → ℕ → List (List ℕ)
@@ -30,34 +37,46 @@ unfoldable pub block : List (ℕ × ℕ) → Machine → List (List ℕ)
 block dumps s =
     ic_line s.ic ∷ en_line s.enabled ∷ lines_for (register_lines s) 30 2 ++ dumps_lines s dumps
 
--- the line of an instruction that is done, where a trace is asked for
-abbrev pub trace_lines : Bool → Machine → ℕ → List (List ℕ)
-trace_lines trace s address = if trace then trc_line s.done address ∷ [] else []
+-- ---- what is told of a run
 
--- the lines of what happens
-abbrev pub lines_at : Asked → Happening → List (List ℕ)
-lines_at asked (Prints s words) = prt_line (printed words) ∷ []
-lines_at asked (Interrupts s i) = int_line i s.done ∷ block asked.dumps s
-lines_at asked (Executes s address) = trace_lines asked.trace s address
-lines_at asked (Ends s rests) = end_line rests ∷ done_line s.done ∷ block asked.dumps s
+-- an entry that is done, as the instruction of this number
+abbrev pub done_lines : Asked → ℕ → ℕ → ℕ → ℕ → ℕ → List (List ℕ)
+done_lines asked done address p r c =
+    line_if asked.trace (trc_line done address) ++ line_if asked.chart (row_line done address p r c)
 
--- the lines of the interrupt that the next step takes, if it takes one
-abbrev pub lines_by : Asked → Option ℕ → Machine → List (List ℕ)
-lines_by asked None s = []
-lines_by asked (Some i) s = lines_at asked (Interrupts s i)
+-- an interrupt: when it is taken, and the state
+abbrev pub interrupt_lines : Asked → ℕ → ℕ → ℕ → Machine → List (List ℕ)
+interrupt_lines asked done tick i s =
+    int_line i done ∷ line_if asked.time (time_line tick) ++ block asked.dumps s
 
--- the state in which it happens
-abbrev pub state_at : Happening → Machine
-state_at (Prints s words) = s
-state_at (Interrupts s i) = s
-state_at (Executes s address) = s
-state_at (Ends s rests) = s
+-- an entry ahead
+abbrev pub level_line : Level → List ℕ
+level_line level =
+    lev_line level.address (option_map (λ change. (change.number, change.before)) level.changed) level.ready
 
--- its lines with the number done; ticks are not modelled yet
-abbrev pub events_at : Asked → Happening → List Event
-events_at asked h = at_moment (state_at h).done 0 (lines_at asked h)
+-- a snapshot: the state, and the entries ahead of it, the oldest first
+abbrev pub snapshot_lines : Asked → ℕ → ℕ → Machine → List Level → List (List ℕ)
+snapshot_lines asked done at s levels =
+    snap_line at done (length levels) ∷ block asked.dumps s ++ map level_line levels
 
--- the report of what happened, in order
-abbrev pub report : Asked → List Happening → List Event
+-- the end: how the run ended, and the last state
+abbrev pub end_lines : Asked → ℕ → ℕ → Bool → Machine → List (List ℕ)
+end_lines asked done tick rests s =
+    end_line rests ∷ done_line done ∷ line_if asked.time (ticks_line tick) ++ block asked.dumps s
+
+-- the lines of what is told when so many instructions are done, the last of them at the tick
+abbrev pub lines_at : Asked → ℕ → ℕ → What → List (List ℕ)
+lines_at asked done tick (Done address p r c) = done_lines asked done address p r c
+lines_at asked done tick (Dropped address p) = line_if asked.chart (drop_line address p)
+lines_at asked done tick (Printed text) = prt_line text ∷ []
+lines_at asked done tick (Interrupted i s) = interrupt_lines asked done tick i s
+lines_at asked done tick (Shown at s levels) = snapshot_lines asked done at s levels
+lines_at asked done tick (Ended rests s) = end_lines asked done tick rests s
+
+abbrev pub lines_told : Asked → Told → List (List ℕ)
+lines_told asked t = lines_at asked t.done t.tick t.what
+
+-- the report of what is told, in order
+unfoldable pub report : Asked → List Told → List Event
 report asked [] = []
-report asked (h ∷ hs) = events_at asked h ++ report asked hs
+report asked (t ∷ ts) = at_moment t.done t.tick (lines_told asked t) ++ report asked ts

@@ -1,32 +1,33 @@
--- What is written of a run, and of what comes between two of its steps.
-use Rattle.std.specs.Prelude.{◌≡◌, List, Result, OnOk, OnErr}
-use Rattle.st_card.specs.Controls.{Asked}
+-- What is written of a run, and up to which moment.
+use Rattle.std.specs.Prelude.{◌≡◌, ℕ, List, [], ◌∷◌, Option, None, Some, Result, OnOk, OnErr}
 use Rattle.st_io.specs.Output.{OutputState, Wrote}
 use Rattle.st_io.specs.declared.Failed.{Failed}
 use Rattle.st_lines.specs.Lines.{text}
 use Rattle.st_lines.specs.Event.{Event, lines_of, StoppedAt}
-use Rattle.st_state.specs.Machine.{Machine}
-use Rattle.st_exec.specs.Run.{Scene, Reached, Ran, happens, stepped}
-use Rattle.st_top.specs.Report.{report}
+use Rattle.st_report.specs.Line.{lev_line}
+use Rattle.st_ahead.specs.declared.events.LevelView.{LevelView}
+use Rattle.st_time.specs.Shown.{change_of}
+use Rattle.st_run.specs.Told.{Told}
+use Rattle.st_top.specs.declared.moment.Moment.{Moment}
 
--- the next step of a scene
-abbrev pub stepping : Scene → Reached
-stepping c = record { scene = stepped c; happened = happens c.machine }
+-- when something is told
+abbrev pub moment_of : Told → Moment
+moment_of t = record { done = t.done; tick = t.tick }
 
--- at Ok all that happened on the way to a scene is written, and the scene is this one; else the writing stopped, and the
--- number done is that of the line
-pub record WritesReached (before after : OutputState) (asked : Asked) (r : Reached) (c : Scene) (result : Result (Unit {0}) Failed) : Type 0 where
-  pub whole : OnOk result (Wrote before after (text (lines_of (report asked r.happened))))
-  pub scene : OnOk result (c ≡ r.scene)
-  pub stopped : OnErr result (StoppedAt before after (report asked r.happened) c.machine.done 0)
+-- the moment of what is told last, or this one where nothing is told
+unfoldable pub last_moment : Moment → List Told → Moment
+last_moment m [] = m
+last_moment m (t ∷ ts) = last_moment (moment_of t) ts
 
--- at Ok all events are written, and the state is the last one; else the writing stopped, and the state is that of the
--- line
-pub record WritesEvents (before after : OutputState) (events : List Event) (last s : Machine) (result : Result (Unit {0}) Failed) : Type 0 where
+-- the lines of the levels that are shown at the front
+unfoldable pub views_lines : List (Option LevelView) → List (List ℕ)
+views_lines [] = []
+views_lines (None ∷ more) = []
+views_lines (Some level ∷ more) = lev_line level.address (change_of level) level.ready ∷ views_lines more
+
+-- at Ok all events are written, and the moment is that of the end; else the writing stopped, and the moment is that of
+-- the line
+pub record WritesEvents (before after : OutputState) (events : List Event) (last moment : Moment) (result : Result (Unit {0}) Failed) : Type 0 where
   pub whole : OnOk result (Wrote before after (text (lines_of events)))
-  pub last_state : OnOk result (s ≡ last)
-  pub stopped : OnErr result (StoppedAt before after events s.done 0)
-
--- the report of a run is written
-abbrev pub RunWrites : OutputState → OutputState → Asked → Ran → Machine → Result (Unit {0}) Failed → Type 0
-RunWrites before after asked ran s result = WritesEvents before after (report asked ran.happened) ran.last s result
+  pub ended : OnOk result (moment ≡ last)
+  pub stopped : OnErr result (StoppedAt before after events moment.done moment.tick)

@@ -1,4 +1,4 @@
--- The states of a run, and the one that is shown so many steps before its end.
+-- The states of a run, the one that is shown so many steps before its end, and the whole report.
 use Rattle.std.specs.Prelude.{ℕ, zero, suc, ◌-◌, ◌==◌, min, if◌then◌else◌, List, [], ◌∷◌, ◌++◌, slice_index_or}
 use Rattle.st_card.specs.Controls.{Asked}
 use Rattle.st_state.specs.Machine.{Machine}
@@ -6,7 +6,13 @@ use Rattle.st_exec.specs.Step.{rests}
 use Rattle.st_exec.specs.Run.{Scene, settled, stepped, run}
 use Rattle.st_lines.specs.Event.{Event, at_moment}
 use Rattle.st_report.specs.Line.{back_line}
+use Rattle.st_run.specs.Events.{Timed}
+use Rattle.st_run.specs.Order.{last_tick}
+use Rattle.st_run.specs.TimedRun.{timed_run}
+use Rattle.st_run.specs.Told.{told}
 use Rattle.st_top.specs.Report.{block, report}
+use Rattle.st_top.specs.declared.moment.Moment.{Moment}
+use Rattle.st_top.specs.declared.reporting.TheConstants.{LEVELS}
 
 -- the states of a run from a scene on, each after what comes before its step, up to the one in which the run ends
 unfoldable pub states : ℕ → Scene → List Machine
@@ -24,8 +30,23 @@ abbrev pub back_lines : Asked → List Machine → Machine → List (List ℕ)
 back_lines asked states last =
     if asked.back == 0 then [] else block_before asked.dumps (min asked.back last.done) states last
 
--- the report of a run: what happens, and at the moment of its end the state so many steps before it
+-- ---- the overlapped machine
+
+-- the run with its timetable
+abbrev pub timed : Asked → Scene → List Timed
+timed asked start = timed_run asked.delays LEVELS asked.budget start asked.snaps
+
+-- the last state of a run
+abbrev pub last_state : Asked → Scene → Machine
+last_state asked start = (run asked.budget start).last
+
+-- its end: how many instructions are done, and the tick of the last completion
+unfoldable pub end_of : Asked → Scene → Moment
+end_of asked start = record { done = (last_state asked start).done; tick = last_tick 0 (timed asked start) }
+
+-- the report of a run: what is told, and at the moment of its end the state so many steps before it
 unfoldable pub run_report : Asked → Scene → List Event
 run_report asked start =
-    let r = run asked.budget start in
-    report asked r.happened ++ at_moment r.last.done 0 (back_lines asked (states asked.budget start) r.last)
+    report asked (told (timed asked start))
+    ++ at_moment (end_of asked start).done (end_of asked start).tick
+    (back_lines asked (states asked.budget start) (last_state asked start))

@@ -11,7 +11,7 @@ ghost use Rattle.st_top.specs.Report.{block, register_lines, memory_lines, dump_
 use st_io::{Failed, Sink};
 use st_lines::write_line;
 use st_report::{Line, line_dump, line_en, line_ic, line_mem, line_reg};
-use st_state::State;
+use st_run::Seen;
 
 /// Writes a line of the report.
 pub fn put<K: Sink>(out: &mut K, line: &Line) -> Result<(), Failed>
@@ -22,12 +22,12 @@ pub fn put<K: Sink>(out: &mut K, line: &Line) -> Result<(), Failed>
 
 /// Writes the line of register `w`, where it is not zero.
 #[tactic(auto, using(st_lines::proofs::Progress::wrote_nothing, st_bits::specs::Storage::words_of_storage_is))]
-fn write_register<K: Sink>(out: &mut K, state: &State, w: u8) -> Result<(), Failed>
+fn write_register<K: Sink>(out: &mut K, seen: &Seen<'_>, w: u8) -> Result<(), Failed>
     requires { w < FIRST_STORAGE_WORD }
     ensures { WritesLines (K.output out.old) (K.output out.new)
-        (register_lines state.now w) result }
+        (register_lines seen.now w) result }
 {
-    let word = state.word(u32::from(w));
+    let word = seen.word(u32::from(w));
     if word == 0 {
         return Ok(());
     }
@@ -35,23 +35,23 @@ fn write_register<K: Sink>(out: &mut K, state: &State, w: u8) -> Result<(), Fail
 }
 
 /// Writes the lines of the registers that are not zero.
-fn write_registers<K: Sink>(out: &mut K, state: &State) -> Result<(), Failed>
+fn write_registers<K: Sink>(out: &mut K, seen: &Seen<'_>) -> Result<(), Failed>
     ensures { WritesLines (K.output out.old) (K.output out.new)
-        (lines_for (register_lines state.now) 30 2) result }
+        (lines_for (register_lines seen.now) 30 2) result }
 {
     for w in 2..32 {
-        write_register(out, state, w)?;
+        write_register(out, seen, w)?;
     }
     Ok(())
 }
 
 /// Writes the line of the word at `w`, where it is not zero.
 #[tactic(auto, using(st_lines::proofs::Progress::wrote_nothing, st_bits::specs::Storage::words_of_storage_is))]
-fn write_memory<K: Sink>(out: &mut K, state: &State, w: u32) -> Result<(), Failed>
+fn write_memory<K: Sink>(out: &mut K, seen: &Seen<'_>, w: u32) -> Result<(), Failed>
     requires { w < WORDS }
-    ensures { WritesLines (K.output out.old) (K.output out.new) (memory_lines state.now w) result }
+    ensures { WritesLines (K.output out.old) (K.output out.new) (memory_lines seen.now w) result }
 {
-    let content = state.word(w);
+    let content = seen.word(w);
     if content == 0 {
         return Ok(());
     }
@@ -59,14 +59,14 @@ fn write_memory<K: Sink>(out: &mut K, state: &State, w: u32) -> Result<(), Faile
 }
 
 /// Writes the lines of the words from `first` to `last` that are not zero.
-fn write_words<K: Sink>(out: &mut K, state: &State, first: u32, last: u32) -> Result<(), Failed>
+fn write_words<K: Sink>(out: &mut K, seen: &Seen<'_>, first: u32, last: u32) -> Result<(), Failed>
     requires order { first ≤ last }
     requires within { last < WORDS }
     ensures { WritesLines (K.output out.old) (K.output out.new)
-        (lines_for (memory_lines state.now) (last + 1 - first) first) result }
+        (lines_for (memory_lines seen.now) (last + 1 - first) first) result }
 {
     for w in first..last + 1 {
-        write_memory(out, state, w)?;
+        write_memory(out, seen, w)?;
     }
     Ok(())
 }
@@ -79,52 +79,50 @@ fn write_range<K: Sink>(out: &mut K, first: u32, last: u32) -> Result<(), Failed
 }
 
 /// Writes a dump: the words from `first` to `last`.
-fn write_dump<K: Sink>(out: &mut K, state: &State, first: u32, last: u32) -> Result<(), Failed>
+fn write_dump<K: Sink>(out: &mut K, seen: &Seen<'_>, first: u32, last: u32) -> Result<(), Failed>
     requires order { first ≤ last }
     requires within { last < WORDS }
     ensures { WritesLines (K.output out.old) (K.output out.new)
-        (dump_lines state.now first last) result }
+        (dump_lines seen.now first last) result }
 {
     write_range(out, first, last)?;
-    write_words(out, state, first, last)
+    write_words(out, seen, first, last)
 }
 
 /// Writes dumps, in order.
-fn write_dumps<K: Sink>(out: &mut K, state: &State, dumps: &[(u32, u32)]) -> Result<(), Failed>
+fn write_dumps<K: Sink>(out: &mut K, seen: &Seen<'_>, dumps: &[(u32, u32)]) -> Result<(), Failed>
     requires { AllPass is_part dumps.now }
     ensures { WritesLines (K.output out.old) (K.output out.new)
-        (dumps_lines state.now dumps.now) result }
+        (dumps_lines seen.now dumps.now) result }
 {
     for (first, last) in dumps {
-        write_dump(out, state, *first, *last)?;
+        write_dump(out, seen, *first, *last)?;
     }
     Ok(())
 }
 
 /// Writes the line of the counter.
-fn write_counter<K: Sink>(out: &mut K, state: &State) -> Result<(), Failed>
-    ensures { WritesLines (K.output out.old) (K.output out.new) (ic_line state.now.ic ∷ []) result }
+fn write_counter<K: Sink>(out: &mut K, seen: &Seen<'_>) -> Result<(), Failed>
+    ensures { WritesLines (K.output out.old) (K.output out.new) (ic_line seen.now.ic ∷ []) result }
 {
-    let ic = state.ic;
-    put(out, &line_ic(ic))
+    put(out, &line_ic(seen.ic()))
 }
 
 /// Writes the line that says whether interrupts are enabled.
-fn write_enabled<K: Sink>(out: &mut K, state: &State) -> Result<(), Failed>
+fn write_enabled<K: Sink>(out: &mut K, seen: &Seen<'_>) -> Result<(), Failed>
     ensures { WritesLines (K.output out.old) (K.output out.new)
-        (en_line state.now.enabled ∷ []) result }
+        (en_line seen.now.enabled ∷ []) result }
 {
-    let enabled = state.enabled;
-    put(out, &line_en(enabled))
+    put(out, &line_en(seen.enabled()))
 }
 
 /// Writes the state block, with the dumps that are asked for.
-pub fn write_block<K: Sink>(out: &mut K, state: &State, dumps: &[(u32, u32)]) -> Result<(), Failed>
+pub fn write_block<K: Sink>(out: &mut K, seen: &Seen<'_>, dumps: &[(u32, u32)]) -> Result<(), Failed>
     requires { AllPass is_part dumps.now }
-    ensures { WritesLines (K.output out.old) (K.output out.new) (block dumps.now state.now) result }
+    ensures { WritesLines (K.output out.old) (K.output out.new) (block dumps.now seen.now) result }
 {
-    write_counter(out, state)?;
-    write_enabled(out, state)?;
-    write_registers(out, state)?;
-    write_dumps(out, state, dumps)
+    write_counter(out, seen)?;
+    write_enabled(out, seen)?;
+    write_registers(out, seen)?;
+    write_dumps(out, seen, dumps)
 }

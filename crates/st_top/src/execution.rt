@@ -9,6 +9,7 @@ ghost use Rattle.std.specs.Prelude.{
   Ok,
   All,
   IfOk,
+  IfSome,
   OnOk,
   OnErr,
   [],
@@ -25,61 +26,69 @@ ghost use Rattle.st_asm.specs.Sound.{IsSound, IsSymbol};
 ghost use Rattle.st_card.specs.Cards.{cards_of};
 ghost use Rattle.st_card.specs.Limits.{IsWithinLimits, is_part};
 ghost use Rattle.st_exch.specs.Reader.{reader_cards};
-ghost use Rattle.st_state.specs.Machine.{opening};
-ghost use Rattle.st_exec.specs.Run.{run as run_from};
+ghost use Rattle.st_run.specs.Scenes.{IsCard, IsScene};
+ghost use Rattle.st_state.specs.Machine.{IsMachine, opening};
+ghost use Rattle.st_exec.specs.Run.{Scene as SceneOf};
 ghost use Rattle.st_lines.specs.Event.{at_moment};
 ghost use Rattle.st_object.specs.Object.{IsProgram};
-ghost use Rattle.st_top.specs.Listing.{HasCards, listing};
-ghost use Rattle.st_top.specs.StepsBack.{run_report};
-ghost use Rattle.st_top.specs.Beside.{Follows};
-ghost use Rattle.st_top.specs.Signals.{signals_of};
+ghost use Rattle.st_run.specs.Told.{told};
+ghost use Rattle.st_top.specs.Listing.{HasCards, front};
+ghost use Rattle.st_top.specs.StepsBack.{timed, end_of, run_report};
+ghost use Rattle.st_top.specs.Beside.{IsReady, StandsAtStart};
 ghost use Rattle.st_top.specs.Running.{WritesEvents};
-ghost use Rattle.st_top.specs.Output.{ran_by, loaded_by, output_of_run};
-ghost use Rattle.st_top.specs.Answers.{Writes};
+ghost use Rattle.st_top.specs.Output.{scene_of, ran_by, loaded_by, output_of_run};
+ghost use Rattle.st_top.specs.Answers.{Writes, KeepsTime};
 
 use crate::answer::{Answer, Status};
-use crate::listing::write_listing;
+use crate::listing::write_front;
+use crate::moment::Moment;
 use crate::past::Past;
-use crate::running::write_report;
+use crate::reporting::{LEVELS, budget, write_report};
 use crate::scene::Scene;
 use st_asm::Assembled;
 use st_back::Back;
+use st_banks::Delays;
 use st_bits::NoMemory;
 use st_card::{Card, Controls, Signal, split};
 use st_exch::Hopper;
 use st_io::{Failed, Sink};
 use st_object::Image;
+use st_run::Run;
 use st_state::State;
 use std::alloc::Global;
 
-/// Writes the listing of a job, where it is asked for, and runs it with its report.
+/// Writes what stands in front of the report of a job, and then the report of its run.
 fn write_output<K: Sink>(
     out: &mut K,
+    made: Option<(u64, u32)>,
     job: &[u8],
     cards: &[Card],
     program: &Assembled,
-    scene: &mut Scene,
+    run: &mut Run<'_, LEVELS>,
     past: &mut Option<Past>,
+    moment: &mut Moment,
 ) -> Result<(), Failed>
     requires cards { HasCards job.now program.now.listing.items cards.now }
     requires symbols { All IsSymbol program.now.symbols.items }
-    requires fresh { scene.old.machine.done ≡ 0 }
     requires limit { program.now.controls.budget ≤ MOST_INSTRUCTIONS }
     requires parts { AllPass is_part program.now.controls.dumps }
-    requires beside { Follows program.now.controls.back past.old scene.old [] }
-    ensures { WritesEvents (K.output out.old) (K.output out.new)
-        (at_moment 0 0 (listing job.now (shown program.now))
-        ++ run_report program.now.controls scene.old)
-        (run_from program.now.controls.budget scene.old).last scene.new.machine result }
+    requires fresh { IfSome past.old (λ b. b.0.machine.done ≡ 0) }
+    requires ready { IfSome past.old IsReady }
+    requires moment { moment.old ≡ record { done = 0; tick = 0 } }
+    ensures { (start : SceneOf) → run.old.rest ≡ told (timed program.now.controls start)
+        → StandsAtStart program.now.controls.back start past.old
+        → WritesEvents (K.output out.old) (K.output out.new)
+        (at_moment 0 0 (front made job.now (shown program.now)) ++ run_report program.now.controls start)
+        (end_of program.now.controls start) moment.new result }
 {
-    write_listing(out, job, cards, program)?;
-    write_report(out, scene, past, &program.controls)
+    write_front(out, made, job, cards, program)?;
+    write_report(out, run, past, moment, &program.controls)
 }
 
-/// The answer of a run, or of one whose report stopped when so many instructions were done.
-fn answer_of(written: Result<(), Failed>, done: u64) -> Answer
-    ensures done { result.done ≡ done }
-    ensures ticks { result.ticks ≡ 0 }
+/// The answer of a run, or of one whose report stopped at a moment.
+fn answer_of(written: Result<(), Failed>, moment: Moment) -> Answer
+    ensures done { result.done ≡ moment.done }
+    ensures ticks { result.ticks ≡ moment.tick }
     ensures ok { OnOk written (result.status ≡ Status.Done) }
     ensures err { OnErr written (result.status ≡ Status.WriteFault) }
 {
@@ -89,16 +98,9 @@ fn answer_of(written: Result<(), Failed>, done: u64) -> Answer
     };
     Answer {
         status,
-        done,
-        ticks: 0,
+        done: moment.done,
+        ticks: moment.tick,
     }
-}
-
-/// The number of instructions done.
-fn done_in(scene: &Scene) -> u64
-    ensures { result ≡ scene.now.machine.done }
-{
-    scene.machine.done
 }
 
 /// The signals that are asked for.
@@ -106,6 +108,47 @@ fn signals(controls: &Controls) -> &[Signal]
     ensures { result.now ≡ controls.now.signals }
 {
     controls.signals.as_slice()
+}
+
+/// The ticks of the snapshots that are asked for.
+fn snaps(controls: &Controls) -> &[u64]
+    ensures { result.now ≡ controls.now.snaps }
+{
+    controls.snaps.as_slice()
+}
+
+/// The delays of storage that are asked for.
+fn delays(alloc: Global, controls: &Controls) -> Result<Delays, NoMemory>
+    requires some { 1 ≤ length controls.now.delays }
+    requires limits { IsWithinLimits controls.now }
+    ensures { IfOk result (λ delays. delays ≡ controls.now.delays) }
+{
+    match Delays::new(alloc, controls.delays.as_slice()) {
+        Ok(delays) => Ok(delays),
+        Err(_) => Err(NoMemory),
+    }
+}
+
+/// The state at the start of a run.
+fn opened(alloc: Global, image: &[u64], start: u32) -> Result<State, NoMemory>
+    requires whole { length image.now ≡ words_of_storage }
+    requires registers { (w : ℕ) → w < FIRST_STORAGE_WORD → slice_index image.now w ≡ 0 }
+    requires counter { start < 2 ^ 19 }
+    ensures value { IfOk result (λ state. state ≡ opening image.now start) }
+    ensures shape { IfOk result IsMachine }
+{
+    let state = State::new(alloc, image, start)?;
+    state.shape();
+    Ok(state)
+}
+
+/// The reader of a job, whose cards have eight words.
+fn reader(alloc: Global, job: &[u8]) -> Result<Hopper, NoMemory>
+    requires { length job.now < 2 ^ 32 }
+    ensures value { IfOk result (λ cards. cards ≡ reader_cards job.now) }
+    ensures shape { IfOk result (All IsCard) }
+{
+    Hopper::new(alloc, job)
 }
 
 /// The machine beside a run, where steps back are asked for. It reads the cards of the same job.
@@ -121,11 +164,10 @@ fn beside<'a>(
     requires registers { (w : ℕ) → w < FIRST_STORAGE_WORD → slice_index image.now w ≡ 0 }
     requires counter { start < 2 ^ 19 }
     requires limits { IsWithinLimits controls.now }
-    ensures { IfOk result (λ past. Follows controls.now.back past (record {
-      machine = opening image.now start;
-      signals = signals_of controls.now.signals;
-      cards = reader_cards job.now;
-    }) []) }
+    ensures start { IfOk result (λ past. StandsAtStart controls.now.back
+        (scene_of image.now start controls.now job.now) past) }
+    ensures fresh { IfOk result (λ past. IfSome past (λ b. b.0.machine.done ≡ 0)) }
+    ensures ready { IfOk result (λ past. IfSome past IsReady) }
 {
     let depth = controls.back;
     if depth == 0 {
@@ -137,89 +179,133 @@ fn beside<'a>(
     Ok(Some((Scene::new(machine, signals(controls), cards), steps)))
 }
 
-/// Writes the listing of a job, where it is asked for, runs it with its report, and answers.
+/// A run that is ready to be told, and the machine beside it, where steps back are asked for.
+type Prepared<'a> = (Run<'a, LEVELS>, Option<Past<'a>>);
+
+/// Takes all memory of a run: that of an image, a start and controls, with the reader's cards of a job.
+fn prepare<'a>(
+    alloc: Global,
+    job: &[u8],
+    image: &[u64],
+    start: u32,
+    controls: &'a Controls,
+) -> Result<Prepared<'a>, NoMemory>
+    requires short { length job.now < 2 ^ 32 }
+    requires whole { length image.now ≡ words_of_storage }
+    requires registers { (w : ℕ) → w < FIRST_STORAGE_WORD → slice_index image.now w ≡ 0 }
+    requires counter { start < 2 ^ 19 }
+    requires limits { IsWithinLimits controls.now }
+    requires budget { 1 ≤ controls.now.budget }
+    requires delays { 1 ≤ length controls.now.delays }
+    ensures rest { IfOk result (λ run. run.0.rest
+        ≡ told (timed controls.now (scene_of image.now start controls.now job.now))) }
+    ensures beside { IfOk result (λ run. StandsAtStart controls.now.back
+        (scene_of image.now start controls.now job.now) run.1) }
+    ensures fresh { IfOk result (λ run. IfSome run.1 (λ b. b.0.machine.done ≡ 0)) }
+    ensures ready { IfOk result (λ run. IfSome run.1 IsReady) }
+    ensures scene { IfOk result (λ run. IsScene (scene_of image.now start controls.now job.now)) }
+{
+    let state = opened(alloc, image, start)?;
+    let cards = reader(alloc, job)?;
+    let delays = delays(alloc, controls)?;
+    let past = beside(alloc, job, image, start, controls)?;
+    let run = Run::new(state, delays, signals(controls), cards, snaps(controls), budget(controls));
+    Ok((run, past))
+}
+
+/// Writes what stands in front of the report of a job, and the report of its run, and answers.
 fn answer_run<K: Sink>(
     out: &mut K,
+    made: Option<(u64, u32)>,
     job: &[u8],
     cards: &[Card],
     program: &Assembled,
-    scene: &mut Scene,
+    run: &mut Run<'_, LEVELS>,
     past: &mut Option<Past>,
 ) -> Answer
     requires cards { HasCards job.now program.now.listing.items cards.now }
     requires symbols { All IsSymbol program.now.symbols.items }
-    requires fresh { scene.old.machine.done ≡ 0 }
     requires limit { program.now.controls.budget ≤ MOST_INSTRUCTIONS }
     requires parts { AllPass is_part program.now.controls.dumps }
-    requires beside { Follows program.now.controls.back past.old scene.old [] }
-    ensures writes { Writes result.status (K.output out.old) (K.output out.new)
-        (output_of_run (listing job.now (shown program.now)) program.now.controls scene.old)
-        result }
-    ensures ticks { result.ticks ≡ 0 }
+    requires fresh { IfSome past.old (λ b. b.0.machine.done ≡ 0) }
+    requires ready { IfSome past.old IsReady }
+    ensures { (start : SceneOf) → run.old.rest ≡ told (timed program.now.controls start)
+        → StandsAtStart program.now.controls.back start past.old
+        → Writes result.status (K.output out.old) (K.output out.new)
+        (output_of_run (front made job.now (shown program.now)) program.now.controls start) result }
 {
-    let written = write_output(out, job, cards, program, scene, past);
-    answer_of(written, done_in(scene))
+    let mut moment = Moment::start();
+    let written = write_output(out, made, job, cards, program, run, past, &mut moment);
+    answer_of(written, moment)
 }
 
-/// Runs a job that is assembled from its start, and writes the listing and the report.
-pub fn execute<K: Sink>(alloc: Global, job: &[u8], program: &Assembled, out: &mut K) -> Answer
+/// Runs a job that is assembled from its start, and writes its report. A deck that is made has its seed and its number of
+/// cards in `made`, and begins with their line.
+#[tactic(auto, using(st_bits::specs::Storage::words_of_storage_is, crate::proofs::Times::keeps_still))]
+pub fn execute<K: Sink>(
+    alloc: Global,
+    made: Option<(u64, u32)>,
+    job: &[u8],
+    program: &Assembled,
+    out: &mut K,
+) -> Answer
     requires short { length job.now < 2 ^ 32 }
     requires sound { IsSound (length (cards_of job.now)) (shown program.now) }
     requires good { All (λ card. card.fault ≡ None) (cards_of job.now) }
     ensures writes { Writes result.status (K.output out.old) (K.output out.new)
-        (ran_by job.now (Ok (shown program.now))) result }
-    ensures ticks { result.ticks ≡ 0 }
+        (ran_by made job.now (Ok (shown program.now))) result }
+    ensures in_time { KeepsTime program.now.controls.delays result }
 {
+    let words = program.image.as_slice();
     let Ok(cards) = split(alloc, job) else {
         return Answer::without_run(Status::NoMemory);
     };
-    let Ok(waiting) = Hopper::new(alloc, job) else {
+    let Ok((mut run, mut past)) = prepare(alloc, job, words, program.start, &program.controls) else {
         return Answer::without_run(Status::NoMemory);
     };
-    let Ok(machine) = State::new(alloc, program.image.as_slice(), program.start) else {
-        return Answer::without_run(Status::NoMemory);
-    };
-    let words = program.image.as_slice();
-    let Ok(mut past) = beside(alloc, job, words, program.start, &program.controls) else {
-        return Answer::without_run(Status::NoMemory);
-    };
-    let mut scene = Scene::new(machine, signals(&program.controls), waiting);
-    answer_run(out, job, cards.as_slice(), program, &mut scene, &mut past)
+    answer_run(
+        out,
+        made,
+        job,
+        cards.as_slice(),
+        program,
+        &mut run,
+        &mut past,
+    )
 }
 
-/// Runs a program that was loaded with its report, and answers.
+/// Writes the report of the run of a program that was loaded, and answers.
 fn answer_loaded<K: Sink>(
     out: &mut K,
-    scene: &mut Scene,
+    run: &mut Run<'_, LEVELS>,
     past: &mut Option<Past>,
     controls: &Controls,
 ) -> Answer
-    requires fresh { scene.old.machine.done ≡ 0 }
     requires limit { controls.now.budget ≤ MOST_INSTRUCTIONS }
     requires parts { AllPass is_part controls.now.dumps }
-    requires beside { Follows controls.now.back past.old scene.old [] }
-    ensures writes { Writes result.status (K.output out.old) (K.output out.new)
-        (output_of_run [] controls.now scene.old) result }
-    ensures ticks { result.ticks ≡ 0 }
+    requires fresh { IfSome past.old (λ b. b.0.machine.done ≡ 0) }
+    requires ready { IfSome past.old IsReady }
+    ensures { (start : SceneOf) → run.old.rest ≡ told (timed controls.now start)
+        → StandsAtStart controls.now.back start past.old
+        → Writes result.status (K.output out.old) (K.output out.new)
+        (output_of_run [] controls.now start) result }
 {
-    let written = write_report(out, scene, past, controls);
-    answer_of(written, done_in(scene))
+    let mut moment = Moment::start();
+    let written = write_report(out, run, past, &mut moment, controls);
+    answer_of(written, moment)
 }
 
 /// Runs a program that was loaded from its start, with an empty reader, and writes the report.
+#[tactic(auto, using(st_bits::specs::Storage::words_of_storage_is, crate::proofs::Times::keeps_still))]
 pub fn execute_loaded<K: Sink>(alloc: Global, program: &Image, out: &mut K) -> Answer
     requires { IsProgram program.now }
     ensures writes { Writes result.status (K.output out.old) (K.output out.new)
         (loaded_by (Ok program.now)) result }
-    ensures ticks { result.ticks ≡ 0 }
+    ensures in_time { KeepsTime program.now.controls.delays result }
 {
-    let Ok(machine) = State::new(alloc, program.words.as_slice(), program.start) else {
-        return Answer::without_run(Status::NoMemory);
-    };
     let words = program.words.as_slice();
-    let Ok(mut past) = beside(alloc, b"", words, program.start, &program.controls) else {
+    let Ok((mut run, mut past)) = prepare(alloc, b"", words, program.start, &program.controls) else {
         return Answer::without_run(Status::NoMemory);
     };
-    let mut scene = Scene::new(machine, signals(&program.controls), Hopper::empty());
-    answer_loaded(out, &mut scene, &mut past, &program.controls)
+    answer_loaded(out, &mut run, &mut past, &program.controls)
 }

@@ -9,11 +9,13 @@ mod command;
 mod execution;
 mod layer_error;
 mod listing;
+mod moment;
 mod objects;
 mod past;
 mod program;
 mod refusal;
-mod running;
+mod reporting;
+mod telling;
 mod scene;
 
 pub use answer::{Answer, Status};

@@ -4,13 +4,13 @@ ghost use Rattle.st_asm.specs.Assembly.{shown};
 ghost use Rattle.st_asm.specs.Sound.{IsRow, IsSymbol};
 ghost use Rattle.st_card.specs.Cards.{IsCardOf};
 ghost use Rattle.st_lines.specs.Lines.{WritesLines};
-ghost use Rattle.st_top.specs.Listing.{HasCards, row_line, rows_lines, symbols_lines, listing};
+ghost use Rattle.st_top.specs.Listing.{HasCards, row_line, rows_lines, symbols_lines, listing, made_lines, front};
 
 use crate::block::put;
 use st_asm::{Assembled, Listed, Symbol};
 use st_card::{Card, Controls};
 use st_io::{Failed, Sink};
-use st_report::{line_listed, line_symbol};
+use st_report::{line_listed, line_soak, line_symbol};
 
 /// Writes the line of a card, by its row.
 fn write_row<K: Sink>(out: &mut K, job: &[u8], row: Listed, card: Card) -> Result<(), Failed>
@@ -91,8 +91,35 @@ fn write_both<K: Sink>(
     write_symbols(out, symbols)
 }
 
+/// Writes the line of a made deck, where the job is one: its seed and its number of cards.
+fn write_made<K: Sink>(out: &mut K, made: Option<(u64, u32)>) -> Result<(), Failed>
+    ensures { WritesLines (K.output out.old) (K.output out.new) (made_lines made) result }
+{
+    match made {
+        Some((number, cards)) => put(out, &line_soak(number, cards)),
+        None => Ok(()),
+    }
+}
+
+/// Writes what stands in front of the report of a job that is assembled.
+pub fn write_front<K: Sink>(
+    out: &mut K,
+    made: Option<(u64, u32)>,
+    job: &[u8],
+    cards: &[Card],
+    program: &Assembled,
+) -> Result<(), Failed>
+    requires cards { HasCards job.now program.now.listing.items cards.now }
+    requires symbols { All IsSymbol program.now.symbols.items }
+    ensures { WritesLines (K.output out.old) (K.output out.new)
+        (front made job.now (shown program.now)) result }
+{
+    write_made(out, made)?;
+    write_listing(out, job, cards, program)
+}
+
 /// Writes the listing of a job that is assembled, where it is asked for.
-pub fn write_listing<K: Sink>(
+fn write_listing<K: Sink>(
     out: &mut K,
     job: &[u8],
     cards: &[Card],

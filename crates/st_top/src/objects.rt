@@ -1,5 +1,5 @@
 //! The object text of a job and the deck of a program, written line by line.
-ghost use Rattle.std.specs.Prelude.{◌≡◌, ◌+◌, ◌≤◌, Ok, length, take};
+ghost use Rattle.std.specs.Prelude.{◌≡◌, ◌+◌, ◌≤◌, [], Ok, length, take};
 ghost use Rattle.st_asm.specs.Assembly.{shown};
 ghost use Rattle.st_card.specs.Pieces.{parted};
 ghost use Rattle.st_lines.specs.Lines.{WritesLines, text};
@@ -96,7 +96,7 @@ pub fn answer_deck<K: Sink>(
     out: &mut K,
 ) -> Result<Answer, LayerError>
     requires { IsProgram program.now }
-    ensures { Ends (K.output out.old) (K.output out.new) (disassembled_by (Ok program.now)) result }
+    ensures { Ends (K.output out.old) (K.output out.new) (disassembled_by (Ok program.now)) [] result }
 {
     let deck = disassemble(
         alloc,

@@ -1,4 +1,4 @@
-//! A second machine beside a run: it makes the same steps, and the last of them can be undone.
+//! A second machine beside a run: it makes the same run by itself, and the last steps can be undone.
 ghost use Rattle.std.specs.Prelude.{
   ◌≡◌,
   ◌+◌,
@@ -6,7 +6,6 @@ ghost use Rattle.std.specs.Prelude.{
   ◌≤◌,
   ◌^◌,
   ℕ,
-  List,
   [],
   ◌∷◌,
   ◌++◌,
@@ -18,11 +17,11 @@ ghost use Rattle.std.specs.Prelude.{
   is_none,
 };
 ghost use Rattle.st_bits.specs.Storage.{words_of_storage};
-ghost use Rattle.st_state.specs.Machine.{Machine};
+ghost use Rattle.st_bits.specs.declared.limits.TheConstants.{MOST_INSTRUCTIONS};
 ghost use Rattle.st_exec.specs.Run as run;
 ghost use Rattle.st_exec.specs.Step.{rests};
 ghost use Rattle.st_back.specs.Steps.{states_before};
-ghost use Rattle.st_top.specs.Beside.{IsFresh, IsReady, IsMoved, IsStepped, Follows};
+ghost use Rattle.st_top.specs.Beside.{IsFresh, IsReady, IsMoved, IsStepped, IsBeside, HasRun, StandsAtStart, StandsAtEnd};
 
 use crate::scene::{
     Scene, printer_is_due, printer_is_free, reader_is_due, take_due_signals, take_signals_at_rest,
@@ -186,7 +185,7 @@ fn end_wait(scene: &mut Scene, steps: &mut Back)
     move_by_signals_at_rest(scene, steps);
 }
 
-/// What comes between two steps, as `scene::settle` has it. Nothing is printed.
+/// What comes between two steps: signals and orders that are due, and what ends a wait. Nothing is printed.
 fn settle(scene: &mut Scene, steps: &mut Back)
     requires { IsReady (scene.old, steps.old) }
     ensures { IsMoved (scene.old, steps.old) (scene.new, steps.new) (run.settled scene.old).scene }
@@ -204,6 +203,50 @@ fn step(scene: &mut Scene, steps: &mut Back)
         → IsStepped (scene.old, steps.old) (scene.new, steps.new) }
 {
     steps.forth(&mut scene.machine);
+}
+
+/// Whether the machine waits and nothing is pending that would end it.
+fn is_resting(scene: &Scene) -> bool
+    ensures { result ≡ rests scene.now.machine }
+{
+    is_at_rest(&scene.machine)
+}
+
+/// Makes the run to its end, at rest or with the budget used up.
+fn run_to_end(scene: &mut Scene, steps: &mut Back, budget: u64)
+    requires fresh { scene.old.machine.done ≡ 0 }
+    requires limit { budget ≤ MOST_INSTRUCTIONS }
+    requires ready { IsReady (scene.old, steps.old) }
+    ensures end { (depth : ℕ) → IsBeside depth (scene.old, steps.old) []
+        → HasRun depth budget scene.old (scene.new, steps.new) }
+    ensures ready { IsReady (scene.new, steps.new) }
+{
+    let mut left = budget;
+    'running: loop {
+        settle(scene, steps);
+        if is_resting(scene) {
+            return;
+        }
+        if left == 0 {
+            return;
+        }
+        step(scene, steps);
+        left -= 1;
+    }
+}
+
+/// Makes the run to its end on the machine beside it, where there is one.
+pub fn run_beside(past: &mut Option<Past>, budget: u64)
+    requires fresh { IfSome past.old (λ b. b.0.machine.done ≡ 0) }
+    requires limit { budget ≤ MOST_INSTRUCTIONS }
+    requires ready { IfSome past.old IsReady }
+    ensures end { (back : ℕ) (start : run.Scene) → StandsAtStart back start past.old
+        → StandsAtEnd back budget start past.new }
+    ensures ready { IfSome past.new IsReady }
+{
+    if let Some(past) = past.as_mut() {
+        run_to_end(&mut past.0, &mut past.1, budget);
+    }
 }
 
 /// Undoes all steps that are kept.
@@ -227,28 +270,4 @@ pub fn rewind(scene: &mut Scene, steps: &mut Back) -> u8
     let count = steps.len() as u8;
     undo_all(steps, &mut scene.machine);
     count
-}
-
-/// What comes between two steps of a run comes to the machine beside it, where there is one.
-pub fn settle_beside(past: &mut Option<Past>)
-    requires { IfSome past.old IsReady }
-    ensures { (back : ℕ) (c : run.Scene) (before : List Machine) → Follows back past.old c before
-        → Follows back past.new (run.settled c).scene before }
-{
-    if let Some(past) = past.as_mut() {
-        settle(&mut past.0, &mut past.1);
-    }
-}
-
-/// The machine beside a run, where there is one, makes the next step.
-pub fn step_beside(past: &mut Option<Past>)
-    requires few { IfSome past.old (λ b. b.0.machine.done < 2 ^ 63) }
-    requires ready { IfSome past.old IsReady }
-    ensures { (back : ℕ) (c : run.Scene) (before : List Machine) → rests c.machine ≡ false
-        → Follows back past.old c before
-        → Follows back past.new (run.stepped c) (before ++ c.machine ∷ []) }
-{
-    if let Some(past) = past.as_mut() {
-        step(&mut past.0, &mut past.1);
-    }
 }

@@ -1,12 +1,12 @@
 //! The program: a job in, its output out.
-ghost use Rattle.std.specs.Prelude.{◌≡◌, ℕ, ◌+◌, ◌*◌, ◌<◌, ◌≤◌, ◌^◌, None, false, map, length};
+ghost use Rattle.std.specs.Prelude.{◌≡◌, ◌<◌, ◌≤◌, ◌^◌, None, false, map, length};
 ghost use Rattle.std.specs.List.{list_all};
 ghost use Rattle.std.specs.String.{string_bytes};
-ghost use Rattle.st_top.specs.Command.{command_of};
+ghost use Rattle.st_top.specs.Command.{command_of, IsWithinCards};
 ghost use Rattle.st_top.specs.CommandLine.{is_plain};
 ghost use Rattle.st_top.specs.declared.command.Command.TheVariants.{Run, Assemble, Load, Disassemble};
-ghost use Rattle.st_top.specs.Output.{output_of};
-ghost use Rattle.st_top.specs.Answers.{Did, IsAnswer};
+ghost use Rattle.st_top.specs.Output.{output_of, delays_of, soaked, soaked_delays};
+ghost use Rattle.st_top.specs.Answers.{Did, Acted, IsAnswer, Writes, KeepsTime};
 ghost use Rattle.st_top.specs.Layers.{Ends, Tries};
 
 use crate::answer::{Answer, Status};
@@ -16,6 +16,7 @@ use crate::layer_error::LayerError;
 use crate::objects::{answer_deck, answer_object, image_of};
 use crate::refusal::refuse;
 use st_asm::assemble;
+use st_gen::make_deck;
 use st_io::{Sink, Source, read_all};
 use st_object::read_object;
 use std::alloc::Global;
@@ -24,60 +25,84 @@ use std::alloc::Global;
 const JOB_LIMIT: u32 = 2_000_000;
 
 /// Assembles a job and runs it.
-#[tactic(auto, unfolding(crate::specs::Output::output_of))]
+#[tactic(auto, unfolding(crate::specs::Output::output_of, crate::specs::Output::delays_of))]
 fn run_job<K: Sink>(alloc: Global, job: &[u8], out: &mut K) -> Result<Answer, LayerError>
     requires { length job.now < 2 ^ 32 }
-    ensures { Ends (K.output out.old) (K.output out.new) (output_of Run job.now) result }
+    ensures { Ends (K.output out.old) (K.output out.new) (output_of Run job.now) (delays_of Run job.now) result }
 {
     let program = assemble(alloc, job)?;
-    Ok(execute(alloc, job, &program, out))
+    Ok(execute(alloc, None, job, &program, out))
 }
 
 /// Assembles a job and writes its object text.
-#[tactic(auto, unfolding(crate::specs::Output::output_of))]
+#[tactic(auto, using(crate::proofs::Times::keeps_still), unfolding(crate::specs::Output::output_of, crate::specs::Output::delays_of))]
 fn assemble_job<K: Sink>(alloc: Global, job: &[u8], out: &mut K) -> Result<Answer, LayerError>
     requires { length job.now < 2 ^ 32 }
-    ensures { Ends (K.output out.old) (K.output out.new) (output_of Assemble job.now) result }
+    ensures { Ends (K.output out.old) (K.output out.new) (output_of Assemble job.now) (delays_of Assemble job.now) result }
 {
     let program = assemble(alloc, job)?;
     Ok(answer_object(alloc, &image_of(program), out))
 }
 
 /// Loads an object text and runs it.
-#[tactic(auto, unfolding(crate::specs::Output::output_of))]
+#[tactic(auto, unfolding(crate::specs::Output::output_of, crate::specs::Output::delays_of))]
 fn load_job<K: Sink>(alloc: Global, text: &[u8], out: &mut K) -> Result<Answer, LayerError>
     requires { length text.now ≤ 2000000 }
-    ensures { Ends (K.output out.old) (K.output out.new) (output_of Load text.now) result }
+    ensures { Ends (K.output out.old) (K.output out.new) (output_of Load text.now) (delays_of Load text.now) result }
 {
     let program = read_object(alloc, text)?;
     Ok(execute_loaded(alloc, &program, out))
 }
 
 /// Reads an object text and writes its deck.
-#[tactic(auto, unfolding(crate::specs::Output::output_of))]
+#[tactic(auto, unfolding(crate::specs::Output::output_of, crate::specs::Output::delays_of))]
 fn disassemble_text<K: Sink>(alloc: Global, text: &[u8], out: &mut K) -> Result<Answer, LayerError>
     requires { length text.now ≤ 2000000 }
-    ensures { Ends (K.output out.old) (K.output out.new) (output_of Disassemble text.now) result }
+    ensures { Ends (K.output out.old) (K.output out.new) (output_of Disassemble text.now) (delays_of Disassemble text.now) result }
 {
     let program = read_object(alloc, text)?;
     answer_deck(alloc, &program, out)
 }
 
-/// Does what a command asks for on a job that was read, as far as no layer refuses it.
+/// Makes a deck, assembles it and runs it.
+fn run_made<K: Sink>(
+    alloc: Global,
+    number: u64,
+    cards: u32,
+    out: &mut K,
+) -> Result<Answer, LayerError>
+    requires { cards ≤ 4000 }
+    ensures { Ends (K.output out.old) (K.output out.new) (soaked number cards)
+        (soaked_delays number cards) result }
+{
+    let Ok(deck) = make_deck(alloc, number, cards) else {
+        return Err(LayerError::NoMemory);
+    };
+    let made = Some((number, cards));
+    let job = deck.as_slice();
+    let program = assemble(alloc, job)?;
+    Ok(execute(alloc, made, job, &program, out))
+}
+
+/// Does what a command asks for on a job that was read, as far as no layer refuses it. `soak` does not look at the job.
+#[tactic(auto, unfolding(crate::specs::Output::output_of, crate::specs::Output::delays_of))]
 fn try_job<K: Sink>(
     alloc: Global,
     command: Command,
     job: &[u8],
     out: &mut K,
 ) -> Result<Answer, LayerError>
-    requires { length job.now ≤ 2000000 }
-    ensures { Ends (K.output out.old) (K.output out.new) (output_of command job.now) result }
+    requires job { length job.now ≤ 2000000 }
+    requires cards { IsWithinCards command }
+    ensures { Ends (K.output out.old) (K.output out.new) (output_of command job.now)
+        (delays_of command job.now) result }
 {
     match command {
         Command::Run => run_job(alloc, job, out),
         Command::Assemble => assemble_job(alloc, job, out),
         Command::Load => load_job(alloc, job, out),
         Command::Disassemble => disassemble_text(alloc, job, out),
+        Command::Soak { number, cards } => run_made(alloc, number, cards, out),
     }
 }
 
@@ -88,6 +113,7 @@ fn try_command<S: Source, K: Sink>(
     job: &mut S,
     out: &mut K,
 ) -> Result<Answer, LayerError>
+    requires { IsWithinCards command }
     ensures { Tries command (S.input job.old) (S.input job.new) (K.output out.old)
         (K.output out.new) result }
 {
@@ -96,10 +122,11 @@ fn try_command<S: Source, K: Sink>(
 }
 
 /// Reads a job, and does what a command asks for, or says why it does not.
+#[tactic(auto, using(st_bits::specs::Storage::words_of_storage_is, crate::proofs::Times::keeps_still))]
 fn answer<S: Source, K: Sink>(alloc: Global, command: Command, job: &mut S, out: &mut K) -> Answer
-    ensures did { Did command result.status
+    requires { IsWithinCards command }
+    ensures { Did command result.status
         (S.input job.old) (S.input job.new) (K.output out.old) (K.output out.new) result }
-    ensures ticks { result.ticks ≡ 0 }
 {
     match try_command(alloc, command, job, out) {
         Ok(answer) => answer,
@@ -110,17 +137,50 @@ fn answer<S: Source, K: Sink>(alloc: Global, command: Command, job: &mut S, out:
     }
 }
 
+/// Runs a made deck, or says why it does not.
+#[tactic(auto, using(st_bits::specs::Storage::words_of_storage_is, crate::proofs::Times::keeps_still))]
+fn answer_made<K: Sink>(alloc: Global, number: u64, cards: u32, out: &mut K) -> Answer
+    requires { cards ≤ 4000 }
+    ensures writes { Writes result.status (K.output out.old) (K.output out.new)
+        (soaked number cards) result }
+    ensures in_time { KeepsTime (soaked_delays number cards) result }
+{
+    match run_made(alloc, number, cards, out) {
+        Ok(answer) => answer,
+        Err(LayerError::Refused { card, fault }) => refuse(out, card, fault),
+        Err(LayerError::TooLong | LayerError::Unread | LayerError::NoMemory) => {
+            Answer::without_run(Status::NoMemory)
+        }
+    }
+}
+
+/// Does what a command asks for, or says why it does not.
+fn act<S: Source, K: Sink>(alloc: Global, command: Command, job: &mut S, out: &mut K) -> Answer
+    requires { IsWithinCards command }
+    ensures { Acted command result.status
+        (S.input job.old) (S.input job.new) (K.output out.old) (K.output out.new) result }
+{
+    match command {
+        Command::Soak { number, cards } => answer_made(alloc, number, cards, out),
+        Command::Run | Command::Assemble | Command::Load | Command::Disassemble => {
+            answer(alloc, command, job, out)
+        }
+    }
+}
+
 /// Does what the words of the command line, after the program's name, ask for, on a job of at most 2,000,000
 /// bytes. `run` assembles it, runs it and writes its report; `assemble` assembles it and writes its object text;
 /// `load` takes it as an object text, runs that and writes its report; `disassemble` takes it as an object text and
-/// writes its deck. Each line is written by itself, and all memory is taken before the first one.
+/// writes its deck. `soak` reads no job: it makes the deck of a seed and a number of cards, and does with it what `run`
+/// does, behind a line that names them. Each line is written by itself, and all memory is taken before the first one.
 pub fn stretch<S: Source, K: Sink>(
     alloc: Global,
     words: &[String],
     job: &mut S,
     out: &mut K,
 ) -> Answer
-    // By the meaning of the words and the status: what was read, and exactly what was written.
+    // By the meaning of the words and the status: what was read, exactly what was written, and how many ticks that took at
+    // most.
     ensures answer { IsAnswer (command_of (map string_bytes words.now))
         (S.input job.old) (S.input job.new) (K.output out.old) (K.output out.new) result }
 
@@ -131,13 +191,9 @@ pub fn stretch<S: Source, K: Sink>(
         → result.status ≡ Status.Usage }
     ensures some { length words.now ≡ 0 → result.status ≡ Status.Usage }
     ensures few { 3 < length words.now → result.status ≡ Status.Usage }
-
-    // Ticks are not modelled yet.
-    ensures ticks { result.ticks ≡ 0 }
-    ensures bound { (delay : ℕ) → 1 ≤ delay → result.ticks ≤ 64 * (delay + 4) * (result.done + 1) }
 {
     match read_words(alloc, words) {
-        Ok(Some(command)) => answer(alloc, command, job, out),
+        Ok(Some(command)) => act(alloc, command, job, out),
         Ok(None) => Answer::without_run(Status::Usage),
         Err(_) => Answer::without_run(Status::NoMemory),
     }

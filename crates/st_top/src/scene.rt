@@ -1,20 +1,15 @@
-//! What comes between two steps of a run: signals, the orders of the reader and the printer, and what ends a wait.
+//! A plain run at a moment: the machine, and what still comes to it from outside.
 ghost use Rattle.std.specs.Prelude.{◌≡◌, ℕ, List, is_none};
 ghost use Rattle.std.specs.List.{AllPass};
-ghost use Rattle.st_card.specs.Controls.{Asked};
 ghost use Rattle.st_card.specs.Limits.{is_signal};
 ghost use Rattle.st_state.specs.Orders.{is_due as is_due_of};
 ghost use Rattle.st_exec.specs.Run as run;
 ghost use Rattle.st_top.specs.Signals.{signals_of};
-ghost use Rattle.st_top.specs.Running.{WritesReached};
 
-use crate::block::put;
 use st_card::Signal;
-use st_exch::{Hopper, print_text};
-use st_exec::{is_at_rest, print_out, read_in};
-use st_io::{Failed, Sink};
-use st_report::line_prt;
-use st_state::{Device, State, is_due};
+use st_exch::Hopper;
+use st_exec::is_at_rest;
+use st_state::{State, is_due};
 use std::marker::Model;
 
 /// A run at a moment: the machine, and the signals and the reader's cards that are still to come.
@@ -136,100 +131,4 @@ pub fn printer_is_free(machine: &State) -> bool
     ensures { result ≡ is_none machine.now.printer }
 {
     machine.printer.is_none()
-}
-
-/// The reader's order takes effect, if it has one.
-fn serve_reader(scene: &mut Scene)
-    ensures { scene.new ≡ (run.with_reader scene.old.machine.reader scene.old).scene }
-{
-    if scene.machine.reader.is_none() {
-        return;
-    }
-    let card = scene.cards.next();
-    read_in(&mut scene.machine, card);
-}
-
-/// The printer's order takes effect, if it has one, and its line is written.
-fn serve_printer<K: Sink>(out: &mut K, scene: &mut Scene) -> Result<(), Failed>
-    ensures { (asked : Asked) → WritesReached (K.output out.old) (K.output out.new) asked
-        (run.with_printer scene.old.machine.printer scene.old) scene.new result }
-{
-    if printer_is_free(&scene.machine) {
-        return Ok(());
-    }
-    let words = print_out(&mut scene.machine);
-    put(out, &line_prt(&print_text(&words)))
-}
-
-/// The reader's order takes effect, if it is due.
-fn serve_due_reader(scene: &mut Scene)
-    ensures { scene.new
-        ≡ (run.with_reader
-        (run.if_due scene.old.machine.done scene.old.machine.reader) scene.old).scene }
-{
-    if reader_is_due(&scene.machine) {
-        serve_reader(scene);
-    }
-}
-
-/// The printer's order takes effect, if it is due.
-fn serve_due_printer<K: Sink>(out: &mut K, scene: &mut Scene) -> Result<(), Failed>
-    ensures { (asked : Asked) → WritesReached (K.output out.old) (K.output out.new) asked
-        (run.with_printer
-        (run.if_due scene.old.machine.done scene.old.machine.printer) scene.old)
-        scene.new result }
-{
-    if printer_is_due(&scene.machine) {
-        return serve_printer(out, scene);
-    }
-    Ok(())
-}
-
-/// The orders that are due take effect, the reader's first.
-fn serve_due<K: Sink>(out: &mut K, scene: &mut Scene) -> Result<(), Failed>
-    ensures { (asked : Asked) → WritesReached (K.output out.old) (K.output out.new) asked
-        (run.with_due_orders scene.old) scene.new result }
-{
-    serve_due_reader(scene);
-    serve_due_printer(out, scene)
-}
-
-/// The order that is due earliest takes effect, if the machine is at rest.
-fn serve_at_rest<K: Sink>(out: &mut K, scene: &mut Scene) -> Result<(), Failed>
-    ensures { (asked : Asked) → WritesReached (K.output out.old) (K.output out.new) asked
-        (run.with_order_at_rest scene.old) scene.new result }
-{
-    if !is_at_rest(&scene.machine) {
-        return Ok(());
-    }
-    match scene.machine.next_device() {
-        None => Ok(()),
-        Some(Device::Reader) => {
-            serve_reader(scene);
-            Ok(())
-        }
-        Some(Device::Printer) => serve_printer(out, scene),
-    }
-}
-
-/// What ends a wait comes: orders, then signals.
-fn end_wait<K: Sink>(out: &mut K, scene: &mut Scene) -> Result<(), Failed>
-    ensures { (asked : Asked) → WritesReached (K.output out.old) (K.output out.new) asked
-        (run.with_wait scene.old) scene.new result }
-{
-    serve_at_rest(out, scene)?;
-    serve_at_rest(out, scene)?;
-    take_signals_at_rest(scene);
-    Ok(())
-}
-
-/// What comes between two steps: signals and orders that are due, and what ends a wait. The lines that are printed
-/// are written; after a failed write the number done is as it was.
-pub fn settle<K: Sink>(out: &mut K, scene: &mut Scene) -> Result<(), Failed>
-    ensures { (asked : Asked) → WritesReached (K.output out.old) (K.output out.new) asked
-        (run.settled scene.old) scene.new result }
-{
-    take_due_signals(scene);
-    serve_due(out, scene)?;
-    end_wait(out, scene)
 }

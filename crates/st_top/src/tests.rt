@@ -10,6 +10,7 @@ mod devices;
 mod objects;
 mod refusals;
 mod reports;
+mod soak;
 
 /// Gives a command line and a job to the program. It has no contract, so the tests do not carry that of the program.
 fn answered<S: Source, K: Sink>(

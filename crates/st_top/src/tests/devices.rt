@@ -13,7 +13,7 @@ use std::test::Fail;
 
 #[test]
 fn words_that_mean_nothing_touch_neither_job_nor_report(rt: HostRuntime) -> Result<(), Fail> {
-    let lines: [&[&str]; 13] = [
+    let lines: [&[&str]; 21] = [
         &["run", "now"],
         &["run", "run"],
         &["run", ""],
@@ -24,7 +24,15 @@ fn words_that_mean_nothing_touch_neither_job_nor_report(rt: HostRuntime) -> Resu
         &["-h"],
         &["--help"],
         &["assemble", "now"],
-        &["soak", "7030", "40"],
+        &["soak"],
+        &["soak", "7030"],
+        &["soak", "7030", "0"],
+        &["soak", "7030", "4001"],
+        &["soak", "18446744073709551616", "1"],
+        &["soak", "000000000000000000001", "1"],
+        &["soak", "+1", "1"],
+        &["soak", "", "1"],
+        &["run", "7030", "40"],
         &["disassembled"],
         &["sweep"],
     ];

@@ -19,14 +19,14 @@ registers s = lines_for (register_lines s) 30 2
 pub returns-in_err-write_counter : goal.returns-in_err-write_counter
 unfolding block
 returns-in_err-write_counter g c =
-    let s = c.args.state.now in
+    let s = c.args.seen.now in
     let dumps = dumps_lines s c.args.dumps.now in
     lines_cut _ _ (counter s) (enabled s ++ (registers s ++ dumps)) _ c.from_residual.result c.from_residual.ensures.0 c.in_err-write_counter.ensures
 
 pub returns-in_err-write_enabled : goal.returns-in_err-write_enabled
 unfolding block
 returns-in_err-write_enabled g c =
-    let s = c.args.state.now in
+    let s = c.args.seen.now in
     let dumps = dumps_lines s c.args.dumps.now in
     lines_then _ _ _ (counter s) (enabled s ++ (registers s ++ dumps)) _ _ c.in_ok-write_counter.ensures
     (lines_cut _ _ (enabled s) (registers s ++ dumps) _ c.from_residual-in_err-write_enabled.result c.from_residual-in_err-write_enabled.ensures.0 c.in_err-write_enabled.ensures)
@@ -34,7 +34,7 @@ returns-in_err-write_enabled g c =
 pub returns-in_err-write_registers : goal.returns-in_err-write_registers
 unfolding block
 returns-in_err-write_registers g c =
-    let s = c.args.state.now in
+    let s = c.args.seen.now in
     let dumps = dumps_lines s c.args.dumps.now in
     lines_then _ _ _ (counter s) (enabled s ++ (registers s ++ dumps)) _ _ c.in_ok-write_counter.ensures
     (lines_then _ _ _ (enabled s) (registers s ++ dumps) _ _ c.in_ok-write_enabled.ensures
@@ -43,7 +43,7 @@ returns-in_err-write_registers g c =
 pub returns : goal.returns
 unfolding block
 returns g c =
-    let s = c.args.state.now in
+    let s = c.args.seen.now in
     let dumps = dumps_lines s c.args.dumps.now in
     lines_then _ _ _ (counter s) (enabled s ++ (registers s ++ dumps)) _ _ c.in_ok-write_counter.ensures
     (lines_then _ _ _ (enabled s) (registers s ++ dumps) _ _ c.in_ok-write_enabled.ensures

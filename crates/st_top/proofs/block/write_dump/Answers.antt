@@ -9,12 +9,12 @@ pub returns-in_err-write_range : goal.returns-in_err-write_range
 unfolding dump_lines
 returns-in_err-write_range g c =
     lines_cut _ _ (dump_line c.args.first c.args.last ∷ [])
-    (lines_for (memory_lines c.args.state.now) (c.args.last + 1 - c.args.first) c.args.first)
+    (lines_for (memory_lines c.args.seen.now) (c.args.last + 1 - c.args.first) c.args.first)
     _ c.from_residual.result c.from_residual.ensures.0 c.in_err-write_range.ensures
 
 pub returns : goal.returns
 unfolding dump_lines
 returns g c =
     lines_then _ _ _ (dump_line c.args.first c.args.last ∷ [])
-    (lines_for (memory_lines c.args.state.now) (c.args.last + 1 - c.args.first) c.args.first)
+    (lines_for (memory_lines c.args.seen.now) (c.args.last + 1 - c.args.first) c.args.first)
     _ _ c.in_ok-write_range.ensures c.write_words.ensures

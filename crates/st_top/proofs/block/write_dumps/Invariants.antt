@@ -5,4 +5,4 @@ use Rattle.st_top.proofs.block.write_dumps.Given as goal
 
 abbrev pub invariant-loop-first : goal.invariant-loop-first
 invariant-loop-first g l =
-    LinesSoFar (g.K.Sink.output l.fn.out) (g.K.Sink.output l.out) (dumps_lines l.state l.dumps) (dumps_lines l.state (drop l.first-index l.dumps))
+    LinesSoFar (g.K.Sink.output l.fn.out) (g.K.Sink.output l.out) (dumps_lines l.seen l.dumps) (dumps_lines l.seen (drop l.first-index l.dumps))

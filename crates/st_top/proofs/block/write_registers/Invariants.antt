@@ -6,5 +6,5 @@ use Rattle.st_top.proofs.block.write_registers.Given as goal
 
 abbrev pub invariant-loop-w : goal.invariant-loop-w
 invariant-loop-w g l =
-    LinesSoFar (g.K.Sink.output l.fn.out) (g.K.Sink.output l.out) (lines_for (register_lines l.state) 30 2)
-    (lines_for (register_lines l.state) (32 - l.w) l.w)
+    LinesSoFar (g.K.Sink.output l.fn.out) (g.K.Sink.output l.out) (lines_for (register_lines l.seen) 30 2)
+    (lines_for (register_lines l.seen) (32 - l.w) l.w)

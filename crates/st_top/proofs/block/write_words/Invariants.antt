@@ -7,5 +7,5 @@ use Rattle.st_top.proofs.block.write_words.Given as goal
 abbrev pub invariant-loop-w : goal.invariant-loop-w
 invariant-loop-w g l =
     LinesSoFar (g.K.Sink.output l.fn.out) (g.K.Sink.output l.out)
-    (lines_for (memory_lines l.state) (l.last + 1 - l.first) l.first)
-    (lines_for (memory_lines l.state) (l.last + 1 - l.w) l.w)
+    (lines_for (memory_lines l.seen) (l.last + 1 - l.first) l.first)
+    (lines_for (memory_lines l.seen) (l.last + 1 - l.w) l.w)

@@ -1,14 +1,26 @@
-use Rattle.std.proofs.Common.{◌∙◌, ap}
+use Rattle.std.proofs.Common.{List, ℕ, ap}
 use Rattle.st_asm.specs.Assembly.{shown}
-use Rattle.st_state.specs.Machine.{opening}
-use Rattle.st_top.specs.Signals.{signals_of}
-use Rattle.st_top.proofs.Outputs.{start_is, output_is, writes_output}
+use Rattle.st_exec.specs.Run.{Scene}
+use Rattle.st_top.specs.Listing.{front}
+use Rattle.st_top.specs.Output.{scene_of, output_of_run}
+use Rattle.st_top.proofs.Outputs.{writes_output}
+use Rattle.st_top.proofs.Times.{keeps_time}
 use Rattle.st_top.proofs.execution.execute.Goals as goal
 
 pub returns-clause-writes : goal.returns-clause-writes
 returns-clause-writes g c =
     let job = c.args.job.now in
     let a = shown c.args.program.now in
-    let started = start_is job a _ _ _ (c.in-Ok-new-2.ensures ∙ ap (λ image. opening image c.args.program.now.start) c.as_slice.ensures.value)
-    (ap signals_of c.signals.ensures) c.in-Ok-new.ensures in
-    writes_output _ _ _ _ _ (output_is job a _ (c.new-scene.ensures ∙ started)) c.answer_run.ensures.writes
+    let start = scene_of c.as_slice-words.result.now a.start a.asked job in
+    let ready = c.in-Ok-prepare.ensures in
+    writes_output _ _ _ _ _ (ap (λ (image : List ℕ). output_of_run (front c.args.made job a) a.asked (scene_of image a.start a.asked job)) c.as_slice-words.ensures.value)
+    (c.answer_run.ensures start ready.rest ready.beside)
+
+pub returns-clause-in_time : goal.returns-clause-in_time
+returns-clause-in_time g c =
+    let job = c.args.job.now in
+    let a = shown c.args.program.now in
+    let start = scene_of c.as_slice-words.result.now a.start a.asked job in
+    let ready = c.in-Ok-prepare.ensures in
+    keeps_time a.asked start _ _ (front c.args.made job a) _ c.requires.sound.delays c.requires.sound.limits.delays.each ready.scene
+    (c.answer_run.ensures start ready.rest ready.beside)

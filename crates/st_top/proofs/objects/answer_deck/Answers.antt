@@ -1,4 +1,4 @@
-use Rattle.std.proofs.Common.{◌≡◌, ◌≤◌, ℕ, List, ◌∙◌, ap, subst}
+use Rattle.std.proofs.Common.{◌≡◌, ◌≤◌, ℕ, List, [], ◌∙◌, ap, subst}
 use Rattle.st_card.specs.Pieces.{parted}
 use Rattle.st_object.specs.Object.{Program}
 use Rattle.st_dis.specs.Deck.{card_count, deck_text}
@@ -8,6 +8,7 @@ use Rattle.st_top.specs.declared.answer.Status.TheVariants.{Done}
 use Rattle.st_top.proofs.Decks.{deck_few}
 use Rattle.st_top.proofs.ObjectTexts.{deck_text-lines}
 use Rattle.st_top.proofs.Outputs.{writes_output}
+use Rattle.st_top.proofs.Times.{keeps_still}
 use Rattle.st_top.proofs.objects.answer_deck.Goals as goal
 
 -- the deck, line by line
@@ -21,5 +22,5 @@ returns g c =
     ap (λ (s : List ℕ). ended_lines (parted 10 s)) written ∙ deck_text-lines p in
     let few : card_count p ≤ 20000 = subst (λ (q : Program). card_count q ≤ 20000) same c.in_ok-deck.ensures.few in (
       writes_output _ _ _ _ _ (ap (lines_alone Done) lines ∙ deck_few p few) c.answer_text.ensures.writes,
-      c.answer_text.ensures.ticks,
+      keeps_still [] c.answer_text.result c.answer_text.ensures.ticks,
     )

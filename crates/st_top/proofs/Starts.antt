@@ -1,0 +1,47 @@
+-- A run that is prepared starts from the scene that is meant.
+use Rattle.std.proofs.Common.{◌≡◌, ◌<◌, ℕ, List, All, sym, ◌∙◌, ap, subst}
+use Rattle.std.specs.Prelude.{Result, Ok, Err, IfOk}
+use Rattle.st_exch.proofs.CardLemmas.{cards-size, cards-below}
+use Rattle.st_card.specs.Controls.{Asked}
+use Rattle.st_state.specs.Machine.{Machine, IsMachine, opening}
+use Rattle.st_exec.specs.Run.{Signal, Scene}
+use Rattle.st_exch.specs.Reader.{reader_cards}
+use Rattle.st_run.specs.Scenes.{IsCard, IsScene}
+use Rattle.st_run.specs.TimedRun.{timed_run}
+use Rattle.st_run.specs.Told.{Told, told}
+use Rattle.st_top.specs.Signals.{signals_of}
+use Rattle.st_top.specs.StepsBack.{timed}
+use Rattle.st_top.specs.Output.{scene_of}
+use Rattle.st_top.specs.declared.reporting.TheConstants.{LEVELS}
+
+pub scene_is : (c : Scene) (m n : Machine) (xs ys : List Signal) (cs ds : List (List ℕ)) → c ≡ record { machine = m; signals = xs; cards = cs } → m ≡ n → xs ≡ ys → cs ≡ ds → c ≡ record { machine = n; signals = ys; cards = ds }
+scene_is c m n xs ys cs ds e p q r =
+    let with_machine : Machine → Scene = λ k. record { machine = k; signals = xs; cards = cs } in
+    let with_signals : List Signal → Scene = λ k. record { machine = n; signals = k; cards = cs } in
+    let with_cards : List (List ℕ) → Scene = λ k. record { machine = n; signals = ys; cards = k } in
+    e ∙ (ap with_machine p ∙ (ap with_signals q ∙ ap with_cards r))
+
+-- what is still to be told, by what the run was made from
+pub rest_is : (rest : List Told) (asked : Asked) (ds snaps : List ℕ) (budget : ℕ) (c start : Scene)
+    → rest ≡ told (timed_run ds LEVELS budget c snaps) → ds ≡ asked.delays → budget ≡ asked.budget → c ≡ start → snaps ≡ asked.snaps
+    → rest ≡ told (timed asked start)
+rest_is rest asked ds snaps budget c start e delays many scene shots =
+    e ∙ (ap (λ (xs : List ℕ). told (timed_run xs LEVELS budget c snaps)) delays
+    ∙ (ap (λ (n : ℕ). told (timed_run asked.delays LEVELS n c snaps)) many
+    ∙ (ap (λ (k : Scene). told (timed_run asked.delays LEVELS asked.budget k snaps)) scene
+    ∙ ap (λ (xs : List ℕ). told (timed_run asked.delays LEVELS asked.budget start xs)) shots)))
+
+pub is_scene : (image : List ℕ) (start : ℕ) (asked : Asked) (job : List ℕ) (m : Machine) (cards : List (List ℕ))
+    → m ≡ opening image start → IsMachine m → cards ≡ reader_cards job → All IsCard cards → IsScene (scene_of image start asked job)
+is_scene image start asked job m cards e is f all = record {
+  machine = subst IsMachine e is;
+  cards = subst (All IsCard) f all;
+}
+
+-- the cards of a job's reader
+are_cards : (job : List ℕ) → All (λ x. x < 256) job → All IsCard (reader_cards job)
+are_cards job bytes = λ k d lt. record { size = cards-size job k d lt; below = cards-below job bytes k d lt }
+
+pub read_cards : {E : Type 0} (job : List ℕ) (r : Result (List (List ℕ)) E) → All (λ x. x < 256) job → IfOk r (λ cards. cards ≡ reader_cards job) → IfOk r (All IsCard)
+read_cards job (Ok cards) bytes e = subst (All IsCard) (sym e) (are_cards job bytes)
+read_cards job (Err x) bytes e = tt

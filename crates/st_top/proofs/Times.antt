@@ -1,0 +1,123 @@
+-- The ticks of an answer are bounded.
+use Rattle.std.proofs.Common.{◌≡◌, ℕ, ◌+◌, ◌*◌, ◌≤◌, List, [], ◌∷◌, ◌++◌, All, nat_le, length, slice_index_or, sym, subst, arith}
+use Rattle.std.proofs.lemmas.Bool.{and_parts, leb-true}
+use Rattle.std.proofs.lemmas.List.Elements.{All-nil, All-cons, All-head, All-tail, All-append}
+use Rattle.std.specs.List.{AllPass}
+use Rattle.st_io.specs.Output.{OutputState}
+use Rattle.st_lines.specs.Event.{Event, at_moment, StoppedAt}
+use Rattle.st_card.specs.Controls.{Asked, is_among}
+use Rattle.st_card.specs.declared.limits.TheConstants.{MOST_DELAY}
+use Rattle.st_exec.specs.Run.{Scene}
+use Rattle.st_rows.specs.Ranges.{AreDelays}
+use Rattle.st_run.specs.Events.{Timed}
+use Rattle.st_run.specs.Told.{told, told_of}
+use Rattle.st_run.specs.Scenes.{IsScene}
+use Rattle.st_run.proofs.Bounds.{run-time}
+use Rattle.st_run.proofs.EndLemmas.{run-ends}
+use Rattle.st_top.specs.Report.{report, lines_told}
+use Rattle.st_top.specs.StepsBack.{states, back_lines, last_state, timed, end_of, run_report}
+use Rattle.st_top.specs.Output.{output_of_run}
+use Rattle.st_top.specs.Answers.{Writes, KeepsTime}
+use Rattle.st_top.specs.declared.answer.Answer.{Answer}
+use Rattle.st_top.specs.declared.answer.Status.{Status}
+use Rattle.st_top.specs.declared.answer.Status.TheVariants.{Done, Refused, Usage, JobTooLong, ReadFault, WriteFault, NoMemory}
+use Rattle.st_top.specs.declared.reporting.TheConstants.{LEVELS}
+
+-- a line is in time
+abbrev InTime : ℕ → Event → Type 0
+InTime b e = e.ticks ≤ b * (e.done + 1)
+
+-- so is all that is told
+abbrev TimedInTime : ℕ → Timed → Type 0
+TimedInTime b x = x.tick ≤ b * (x.done + 1)
+
+moment-time : (b done tick : ℕ) (lines : List (List ℕ)) → tick ≤ b * (done + 1) → All (InTime b) (at_moment done tick lines)
+moment-time b done tick [] le = All-nil (InTime b)
+moment-time b done tick (l ∷ ls) le =
+    let first : InTime b (record { line = l; done = done; ticks = tick }) = le in
+    All-cons (InTime b) (record { line = l; done = done; ticks = tick }) (at_moment done tick ls) first (moment-time b done tick ls le)
+
+report-time : (b : ℕ) (asked : Asked) (xs : List Timed) → All (TimedInTime b) xs → All (InTime b) (report asked (told xs))
+unfolding report told
+report-time b asked [] all = All-nil (InTime b)
+report-time b asked (x ∷ xs) all =
+    All-append (InTime b) (at_moment x.done x.tick (lines_told asked (told_of x))) (report asked (told xs))
+    (moment-time b x.done x.tick (lines_told asked (told_of x)) (All-head (TimedInTime b) x xs all))
+    (report-time b asked xs (All-tail (TimedInTime b) x xs all))
+
+-- what stopped in a line that is in time is
+behind-time : (b : ℕ) (earlier : List Event) (e : Event) (later : List Event) → All (InTime b) (earlier ++ e ∷ later) → InTime b e
+behind-time b [] e later all = All-head (InTime b) e later all
+behind-time b (x ∷ xs) e later all = behind-time b xs e later (All-tail (InTime b) x (xs ++ e ∷ later) all)
+
+stopped-time : (b : ℕ) (s t : OutputState) (events : List Event) (done tick : ℕ) → All (InTime b) events → StoppedAt s t events done tick → tick ≤ b * (done + 1)
+stopped-time b s t events done tick all h =
+    let there : InTime b h.failed = behind-time b h.earlier h.failed h.later (subst (All (InTime b)) h.order all) in
+    subst (λ k. k ≤ b * (done + 1)) (sym h.ticks_then) (subst (λ n. h.failed.ticks ≤ b * (n + 1)) (sym h.done_then) there)
+
+-- an answer is in time for a number that no delay exceeds
+abbrev IsIn : ℕ → Answer → Type 0
+IsIn most answer = answer.ticks ≤ 64 * (most + 4) * (answer.done + 1)
+
+-- a run is in time
+module _ (most : ℕ) (asked : Asked) (start : Scene) (are : AreDelays most asked.delays) (is : IsScene start) where
+  end-time : (end_of asked start).tick ≤ 64 * (most + 4) * ((end_of asked start).done + 1)
+  unfolding end_of
+  end-time =
+      let few : LEVELS ≤ 8 = omega arith in
+      run-ends most LEVELS asked.delays are few asked.budget start asked.snaps 0 is
+
+  events-time : (listed : List (List ℕ)) → All (InTime (64 * (most + 4))) (at_moment 0 0 listed ++ run_report asked start)
+  unfolding run_report
+  events-time listed =
+      let b = 64 * (most + 4) in
+      let few : LEVELS ≤ 8 = omega arith in
+      let each : All (TimedInTime b) (timed asked start) = run-time most LEVELS asked.delays are few asked.budget start asked.snaps is in
+      let back = back_lines asked (states asked.budget start) (last_state asked start) in
+      let behind = at_moment (end_of asked start).done (end_of asked start).tick back in
+      All-append (InTime b) (at_moment 0 0 listed) (report asked (told (timed asked start)) ++ behind)
+      (moment-time b 0 0 listed (omega arith))
+      (All-append (InTime b) (report asked (told (timed asked start))) behind (report-time b asked (timed asked start) each)
+      (moment-time b (end_of asked start).done (end_of asked start).tick back end-time))
+
+  whole-time : (answer : Answer) → answer.done ≡ (end_of asked start).done → answer.ticks ≡ (end_of asked start).tick → IsIn most answer
+  whole-time answer done ticks =
+      subst (λ k. k ≤ 64 * (most + 4) * (answer.done + 1)) (sym ticks)
+      (subst (λ n. (end_of asked start).tick ≤ 64 * (most + 4) * (n + 1)) (sym done) end-time)
+
+  by-status : (status : Status) (s t : OutputState) (listed : List (List ℕ)) (answer : Answer)
+      → Writes status s t (output_of_run listed asked start) answer → IsIn most answer
+  by-status Done s t listed answer w = whole-time answer w.done w.ticks
+  by-status Refused s t listed answer w = whole-time answer w.done w.ticks
+  by-status WriteFault s t listed answer w =
+      stopped-time (64 * (most + 4)) s t (at_moment 0 0 listed ++ run_report asked start) answer.done answer.ticks (events-time listed) w
+  by-status NoMemory s t listed answer w =
+      let none : answer.ticks ≡ 0 = w.1.no_ticks in omega (arith, none)
+  by-status Usage s t listed answer w = absurd w
+  by-status JobTooLong s t listed answer w = absurd w
+  by-status ReadFault s t listed answer w = absurd w
+
+  pub writes_time : (s t : OutputState) (listed : List (List ℕ)) (answer : Answer)
+      → Writes answer.status s t (output_of_run listed asked start) answer → IsIn most answer
+  writes_time s t listed answer w = by-status answer.status s t listed answer w
+
+-- delays that keep the limits of control cards, none of which exceeds a number
+pub delays_within : (most : ℕ) (ds : List ℕ) → 1 ≤ length ds → AllPass (is_among 1 MOST_DELAY) ds → All (λ d. d ≤ most) ds → AreDelays most ds
+delays_within most ds some limits below = record {
+  some = some;
+  each = λ k d lt.
+      let x = slice_index_or ds k d in
+      let least : 1 ≤ x = leb-true 1 x (and_parts (nat_le 1 x) (nat_le x MOST_DELAY) (limits k d lt)).0 in
+      (least, below k d lt);
+}
+
+-- the delays of a job bound the ticks of its run
+pub keeps_time : (asked : Asked) (start : Scene) (s t : OutputState) (listed : List (List ℕ)) (answer : Answer)
+    → 1 ≤ length asked.delays → AllPass (is_among 1 MOST_DELAY) asked.delays → IsScene start
+    → Writes answer.status s t (output_of_run listed asked start) answer → KeepsTime asked.delays answer
+keeps_time asked start s t listed answer some limits is w = λ most below.
+    writes_time most asked start (delays_within most asked.delays some limits below) is s t listed answer w
+
+-- an answer without ticks is in time
+pub keeps_still : (delays : List ℕ) (answer : Answer) → answer.ticks ≡ 0 → KeepsTime delays answer
+keeps_still delays answer none = λ most below. omega (arith, none)

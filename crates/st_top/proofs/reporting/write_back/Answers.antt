@@ -1,0 +1,20 @@
+use Rattle.std.proofs.Common.{List, ℕ, ◌∷◌, sym, ◌∙◌, ap, subst}
+use Rattle.st_state.specs.Machine.{Machine}
+use Rattle.st_exec.specs.Run.{Scene}
+use Rattle.st_lines.specs.Lines.{WritesLines}
+use Rattle.st_report.specs.Line.{back_line}
+use Rattle.st_top.specs.Report.{block}
+use Rattle.st_top.specs.Beside.{StandsAtEnd}
+use Rattle.st_top.proofs.Rewinds.{lines_before}
+use Rattle.st_top.proofs.reporting.write_back.Goals as goal
+
+pub returns : goal.returns
+returns g c = λ start h.
+    let asked = c.args.controls.now in
+    let count = c.rewind-steps.result in
+    let back = c.rewind-steps.ensures in
+    let machine = ap (λ (e : Scene). e.machine) c.scene.view_is in
+    let lines = lines_before asked count start c.in-Some.past.now c.rewind-steps.new.scene.machine
+    (subst (StandsAtEnd asked.back asked.budget start) (sym c.in-Some.ensures.value) h) back.count back.state in
+    subst (λ (ls : List (List ℕ)). WritesLines (g.K.Sink.output c.args.out.now) (g.K.Sink.output c.write_before.new.out) ls c.write_before.result)
+    (ap (λ (m : Machine). back_line count ∷ block asked.dumps m) machine ∙ lines) c.write_before.ensures

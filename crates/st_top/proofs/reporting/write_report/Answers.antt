@@ -1,0 +1,10 @@
+use Rattle.st_top.proofs.Moments.{report_cut, report_then}
+use Rattle.st_top.proofs.reporting.write_report.Goals as goal
+
+pub returns-in_err-write_run : goal.returns-in_err-write_run
+returns-in_err-write_run g c = λ start is stands.
+    report_cut _ _ c.args.controls.now start _ _ _ _ _ c.from_residual.ensures.0 is c.in_err-write_run.ensures
+
+pub returns : goal.returns
+returns g c = λ start is stands.
+    report_then _ _ _ c.args.controls.now start _ _ _ _ _ is c.in_ok-write_run.ensures (c.write_past.ensures start stands)

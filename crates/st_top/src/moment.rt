@@ -1,0 +1,20 @@
+//! The moments of a report.
+ghost use Rattle.std.specs.Prelude.{◌≡◌};
+
+/// When a line of a report is written.
+#[derive(Clone, Copy, Debug, PartialEq, Eq)]
+pub struct Moment {
+    /// The number of instructions done.
+    pub done: u64,
+    /// The tick at which the last of them was done, 0 before the first.
+    pub tick: u64,
+}
+
+impl Moment {
+    /// The moment before the first instruction.
+    pub fn start() -> Moment
+        ensures { result ≡ record { done = 0; tick = 0 } }
+    {
+        Moment { done: 0, tick: 0 }
+    }
+}

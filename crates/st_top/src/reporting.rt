@@ -1,0 +1,117 @@
+//! The whole report of a run.
+ghost use Rattle.std.specs.Prelude.{◌≡◌, ◌≤◌, [], ◌∷◌, IfSome};
+ghost use Rattle.std.specs.List.{AllPass};
+ghost use Rattle.st_bits.specs.declared.limits.TheConstants.{MOST_INSTRUCTIONS};
+ghost use Rattle.st_card.specs.Limits.{is_part};
+ghost use Rattle.st_exec.specs.Run.{Scene as SceneOf};
+ghost use Rattle.st_lines.specs.Lines.{WritesLines};
+ghost use Rattle.st_report.specs.Line.{back_line};
+ghost use Rattle.st_run.specs.Told.{told};
+ghost use Rattle.st_top.specs.Report.{block};
+ghost use Rattle.st_top.specs.StepsBack.{states, back_lines, last_state, timed, end_of, run_report};
+ghost use Rattle.st_top.specs.Beside.{IsReady, StandsAtStart, StandsAtEnd};
+ghost use Rattle.st_top.specs.Running.{WritesEvents};
+
+use crate::block::put;
+use crate::moment::Moment;
+use crate::past::{Past, rewind, run_beside};
+use crate::telling::{write_run, write_state};
+use st_card::Controls;
+use st_io::{Failed, Sink};
+use st_report::line_back;
+use st_run::{Run, Seen};
+use st_state::State;
+
+/// The levels of the overlapped machine that a job runs on.
+pub const LEVELS: usize = 4;
+
+/// Writes the line that says how many steps a state lies before the end.
+fn write_steps<K: Sink>(out: &mut K, steps: u8) -> Result<(), Failed>
+    ensures { WritesLines (K.output out.old) (K.output out.new) (back_line steps ∷ []) result }
+{
+    put(out, &line_back(steps))
+}
+
+/// Writes the line and the block of the state so many steps before the end.
+fn write_before<K: Sink>(
+    out: &mut K,
+    steps: u8,
+    state: &State,
+    controls: &Controls,
+) -> Result<(), Failed>
+    requires { AllPass is_part controls.now.dumps }
+    ensures { WritesLines (K.output out.old) (K.output out.new)
+        (back_line steps ∷ block controls.now.dumps state.now) result }
+{
+    write_steps(out, steps)?;
+    write_state(out, &Seen::new(state), controls)
+}
+
+/// Writes the state before the end to which the machine beside a run steps back, where there is one.
+#[tactic(auto, using(st_lines::proofs::Progress::wrote_nothing))]
+fn write_back<K: Sink>(
+    out: &mut K,
+    past: &mut Option<Past>,
+    controls: &Controls,
+) -> Result<(), Failed>
+    requires parts { AllPass is_part controls.now.dumps }
+    requires ready { IfSome past.old IsReady }
+    ensures { (start : SceneOf)
+        → StandsAtEnd controls.now.back controls.now.budget start past.old
+        → WritesLines (K.output out.old) (K.output out.new)
+        (back_lines controls.now (states controls.now.budget start) (last_state controls.now start)) result }
+{
+    let Some(past) = past.as_mut() else {
+        return Ok(());
+    };
+    let steps = rewind(&mut past.0, &mut past.1);
+    let scene = &past.0;
+    write_before(out, steps, &scene.machine, controls)
+}
+
+/// The most instructions of a run.
+pub fn budget(controls: &Controls) -> u64
+    ensures { result ≡ controls.now.budget }
+{
+    controls.budget
+}
+
+/// Makes the run on the machine beside it, and writes the state before the end that is asked for.
+fn write_past<K: Sink>(
+    out: &mut K,
+    past: &mut Option<Past>,
+    controls: &Controls,
+) -> Result<(), Failed>
+    requires limit { controls.now.budget ≤ MOST_INSTRUCTIONS }
+    requires parts { AllPass is_part controls.now.dumps }
+    requires fresh { IfSome past.old (λ b. b.0.machine.done ≡ 0) }
+    requires ready { IfSome past.old IsReady }
+    ensures { (start : SceneOf) → StandsAtStart controls.now.back start past.old
+        → WritesLines (K.output out.old) (K.output out.new)
+        (back_lines controls.now (states controls.now.budget start) (last_state controls.now start)) result }
+{
+    run_beside(past, budget(controls));
+    write_back(out, past, controls)
+}
+
+/// Writes the report of a run from its start: what is told, and then the state before the end that is asked for. After a
+/// failed write `moment` is that of the line, else that of the end.
+pub fn write_report<K: Sink>(
+    out: &mut K,
+    run: &mut Run<'_, LEVELS>,
+    past: &mut Option<Past>,
+    moment: &mut Moment,
+    controls: &Controls,
+) -> Result<(), Failed>
+    requires limit { controls.now.budget ≤ MOST_INSTRUCTIONS }
+    requires parts { AllPass is_part controls.now.dumps }
+    requires fresh { IfSome past.old (λ b. b.0.machine.done ≡ 0) }
+    requires ready { IfSome past.old IsReady }
+    ensures { (start : SceneOf) → run.old.rest ≡ told (timed controls.now start)
+        → StandsAtStart controls.now.back start past.old
+        → WritesEvents (K.output out.old) (K.output out.new) (run_report controls.now start)
+        (end_of controls.now start) moment.new result }
+{
+    write_run(out, run, moment, controls)?;
+    write_past(out, past, controls)
+}
