@@ -27,7 +27,7 @@ pub struct Answer {
     pub status: Status,
     /// The number of instructions done; after a failed write, when the line that failed was written.
     pub done: u64,
-    /// The tick of the last completion; after a failed write, when the line that failed was written.
+    /// The tick of the last completion, 0 before the first; after a failed write, when the line that failed was written.
     pub ticks: u64,
 }
 
