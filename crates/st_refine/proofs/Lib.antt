@@ -1,0 +1,4 @@
+pub mod StateLemmas
+pub mod LevelLists
+pub mod Kept
+pub mod InTime
