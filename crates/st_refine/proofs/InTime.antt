@@ -213,6 +213,9 @@ within most (Prints m made since from given may) are = within-state most made si
 within most (Stops m made since from may) are =
     within-ended most made since m (kept from) may.1 (within most from (subst (AreDelays most) (ended-rest m).delays are))
 
+pub made-ticks : {m : Overlap} {made since : ℕ} → IsReached m made since → made ≡ ticks_made m
+made-ticks {m} from = (within 255 from (kept from).delays).ticks
+
 pub in-time : (m : Overlap) (made since most : ℕ) → IsReached m made since → AreDelays most m.delays → since ≤ 64 * (most + 4)
 in-time m made since most from are =
     let w = within most from are in

@@ -2,3 +2,5 @@ pub mod StateLemmas
 pub mod LevelLists
 pub mod Kept
 pub mod InTime
+pub mod SplitLemmas
+pub mod RefinedLemmas

@@ -3,5 +3,9 @@
 #![tactic(auto, using(st_bits::specs::Storage::words_of_storage_is))]
 
 mod in_time;
+mod refined;
+mod split;
 
 pub use in_time::completions_come_in_time;
+pub use refined::{completions_are_steps, levels_are_unwound};
+pub use split::the_state_is_split;
