@@ -4,3 +4,4 @@ pub mod Kept
 pub mod InTime
 pub mod SplitLemmas
 pub mod RefinedLemmas
+pub mod LentLemmas

@@ -5,7 +5,8 @@ use Rattle.st_state.specs.Machine.{Machine, word}
 use Rattle.st_prep.specs.Fetch.{address_by, index_words}
 use Rattle.st_prep.specs.Plan.{plan}
 use Rattle.st_prep.specs.declared.entries.IndexChange.{IndexChange}
-use Rattle.st_rows.specs.Rows.{row}
+use Rattle.st_rows.specs.Rows.{row, fills}
+use Rattle.st_rows.specs.declared.front.Front.{Front}
 use Rattle.st_rows.specs.declared.front.Row.{Row}
 use Rattle.st_segment.specs.Entries.{entry}
 use Rattle.st_segment.specs.Guesses.{guesses, table_behind}
@@ -23,11 +24,18 @@ state_before k m = guesses k m.taken (seen m)
 abbrev pub table_before : ℕ → Overlap → Option ℕ
 table_before k m = table_behind k m.taken
 
+-- the front that its row is computed from
+abbrev pub front_before : ℕ → Overlap → Front
+front_before k m = front_behind m.delays m.levels k m.taken (seen m) m.front
+
 -- its row
 abbrev pub row_of : ℕ → Overlap → Row
 row_of k m =
-    row m.delays m.levels (front_behind m.delays m.levels k m.taken (seen m) m.front)
-    (entry (table_before k m) (state_before k m))
+    row m.delays m.levels (front_before k m) (entry (table_before k m) (state_before k m))
+
+-- when its first two operand words above the registers are there: each when its read is answered or, where it has none, when its latest writer is done
+abbrev pub fills_at : ℕ → Overlap → List ℕ
+fills_at k m = fills m.delays m.levels (front_before k m) (entry (table_before k m) (state_before k m))
 
 -- the index word that a change replaces, as it stands in the state before; 0 without a change
 abbrev pub word_before : Option IndexChange → Machine → ℕ

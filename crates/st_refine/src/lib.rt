@@ -3,9 +3,11 @@
 #![tactic(auto, using(st_bits::specs::Storage::words_of_storage_is))]
 
 mod in_time;
+mod lent;
 mod refined;
 mod split;
 
 pub use in_time::completions_come_in_time;
+pub use lent::levels_are_lent;
 pub use refined::{completions_are_steps, levels_are_unwound};
 pub use split::the_state_is_split;
