@@ -161,7 +161,7 @@ levels-from ds n tick t s f (x ∷ xs) are = (
 )
 
 -- the oldest entry is not done before the tick
-late-fresh : (m : Overlap) → IsFresh m → (b : Bool) → m.ended ≡ b → m.now ≤ m.front.c
+pub late-fresh : (m : Overlap) → IsFresh m → (b : Bool) → m.ended ≡ b → m.now ≤ m.front.c
 late-fresh m fresh true over = omega (arith, (fresh.start over).1)
 late-fresh m fresh false going = omega (arith, fresh.last going)
 

@@ -17,7 +17,7 @@ use Rattle.st_segment.specs.Guesses.{guesses, table_behind}
 use Rattle.st_segment.specs.Alone.{RunAhead}
 use Rattle.st_segment.specs.Ahead.{Ahead, next_ahead, ahead, front_behind, prepared_before}
 use Rattle.st_segment.proofs.EntryRanges.{entry-ranges}
-use Rattle.st_segment.proofs.GuessLemmas.{guess-machine, ahead-next}
+use Rattle.st_segment.proofs.GuessLemmas.{guess-machine, ahead-next, behind-none}
 use Rattle.st_port.proofs.Made.{before-cases}
 use Rattle.st_refine.specs.Refined.{AddsOneAtMost}
 
@@ -99,6 +99,14 @@ behind-if : (now : ℕ) (xs : List Ahead) (a : Ahead) → now ≤ a.row.p → pr
 unfolding prepared_before
 behind-if now [] a late = rw (le-ltb a.row.p now late) refl
 behind-if now (x ∷ xs) a late = ap (λ (zs : List Ahead). if nat_lt x.row.p now then x ∷ zs else []) (behind-if now xs a late)
+
+more-if : (a : Ahead) (xs : List Ahead) (k : ℕ) (b : Bool) → suc k < length (if b then a ∷ xs else []) → k < length xs
+more-if a xs k true many = omega (arith, many)
+more-if a xs k false many = absurd (omega (arith, many))
+
+first-some : (a : Ahead) (xs : List Ahead) (b : Bool) → b ≡ true → length (if b then a ∷ xs else []) ≡ 0 → ⊥
+first-some a xs true test none = omega (arith, none)
+first-some a xs false test none = cc test
 
 entry-free : (t : Option ℕ) (s : Machine) → (entry t s).serial ≡ false → (plan s t).serial ≡ false
 unfolding entry
@@ -258,3 +266,60 @@ module _ (ds : List ℕ) (n : ℕ) where
       ap (λ i. prepared_before now (ahead ds n i t s f)) more
       ∙ oldest-done (n - 1) now t s f m some more few due
       ∙ ap (λ i. next_ahead ds n t s f ∷ prepared_before now (ahead ds n i None (guess t s) g)) (sym more)
+
+  -- ---- the rows of them, and of the one behind
+
+  pub level-early : (k now m : ℕ) (t : Option ℕ) (s : Machine) (f : Front) → k < length (prepared_before now (ahead ds n m t s f))
+      → (row ds n (front_behind ds n k t s f) (entry (table_behind k t) (guesses k t s))).p < now
+  unfolding ahead prepared_before front_behind guesses
+  level-early zero now m t s f few = first-early now m t s f (omega (arith, few))
+  level-early (suc k) now zero t s f few = absurd (omega (arith, few))
+  level-early (suc k) now (suc m) t s f few =
+      let g = after ds n f (entry t s) in
+      let u = guess t s in
+      subst (λ i. (row ds n (front_behind ds n k None u g) (entry i (guesses k None u))).p < now) (behind-none k)
+      (level-early k now m None u g (more-if (next_ahead ds n t s f) (prepared_before now (ahead ds n m None u g)) k (nat_lt (row ds n f (entry t s)).p now) few))
+
+  next-late : (k now m : ℕ) (t : Option ℕ) (s : Machine) (f : Front) → length (prepared_before now (ahead ds n m t s f)) ≡ k → k < m
+      → now ≤ (row ds n (front_behind ds n k t s f) (entry (table_behind k t) (guesses k t s))).p
+  unfolding ahead prepared_before front_behind guesses
+  next-late k now zero t s f many few = absurd (omega (arith, few))
+  next-late zero now (suc m) t s f many few = elim (before-cases (row ds n f (entry t s)).p now) [
+    | inl early ↦ absurd (first-some (next_ahead ds n t s f) (prepared_before now (ahead ds n m None (guess t s) (after ds n f (entry t s)))) (nat_lt (row ds n f (entry t s)).p now) early.0 many)
+    | inr late ↦ late.1
+  ]
+  next-late (suc k) now (suc m) t s f many few =
+      let g = after ds n f (entry t s) in
+      let u = guess t s in
+      subst (λ i. now ≤ (row ds n (front_behind ds n k None u g) (entry i (guesses k None u))).p) (behind-none k)
+      (next-late k now m None u g (rest-if (next_ahead ds n t s f) (prepared_before now (ahead ds n m None u g)) k (nat_lt (row ds n f (entry t s)).p now) many)
+      (omega (arith, few)))
+
+  full-next : (k now : ℕ) (t : Option ℕ) (s : Machine) (f : Front) → n ≡ suc k → n ≤ 8 → now ≤ (row ds n f (entry t s)).c
+      → now ≤ (row ds n (front_behind ds n (suc k) t s f) (entry (table_behind (suc k) t) (guesses (suc k) t s))).p
+  unfolding front_behind
+  full-next k now t s f more few late =
+      omega (arith, full-late k now t None s s f (entry (table_behind (suc k) t) (guesses (suc k) t s)) more few late)
+
+  pub behind-late : (k now : ℕ) (t : Option ℕ) (s : Machine) (f : Front) → 1 ≤ n → n ≤ 8 → now ≤ (row ds n f (entry t s)).c
+      → length (prepared_before now (ahead ds n n t s f)) ≡ k
+      → now ≤ (row ds n (front_behind ds n k t s f) (entry (table_behind k t) (guesses k t s))).p
+  behind-late k now t s f some few late many = elim (before-cases k n) [
+    | inl room ↦ next-late k now n t s f many room.1
+    | inr full ↦
+        let all : k ≡ suc (n - 1) = omega (arith, full.1, many, few-before now n t s f) in
+        let more : n ≡ suc (n - 1) = omega arith in
+        subst (λ i. now ≤ (row ds n (front_behind ds n i t s f) (entry (table_behind i t) (guesses i t s))).p) (sym all)
+        (full-next (n - 1) now t s f more few late)
+  ]
+
+  pub level-later : (k tick : ℕ) (t : Option ℕ) (s : Machine) (f : Front) → IsMachine s → IfSome t (λ i. i < 64) → tick < (row ds n f (entry t s)).c
+      → tick < (row ds n (front_behind ds n k t s f) (entry (table_behind k t) (guesses k t s))).c
+  unfolding front_behind guesses
+  level-later zero tick t s f m some late = late
+  level-later (suc k) tick t s f m some late =
+      let g = after ds n f (entry t s) in
+      let u = guess t s in
+      let machine = guess-machine t s m some in
+      subst (λ i. tick < (row ds n (front_behind ds n k None u g) (entry i (guesses k None u))).c) (behind-none k)
+      (level-later k tick None u g machine tt (omega (arith, late, after-c ds n f (entry t s), done-behind ds n None u g machine tt)))

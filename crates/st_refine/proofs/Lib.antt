@@ -5,3 +5,5 @@ pub mod InTime
 pub mod SplitLemmas
 pub mod RefinedLemmas
 pub mod LentLemmas
+pub mod OpeningLemmas
+pub mod RowLemmas

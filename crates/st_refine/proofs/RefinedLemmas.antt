@@ -125,7 +125,7 @@ settled-state m = settled_by-state (interrupt_due m) m.behind (rests m.state) m
 
 -- ---- what an answer says
 
-goes-by : (due behind : Option ℕ) (resting : Bool) (m : Overlap) → answer_by due resting behind m ≡ Goes
+pub goes-by : (due behind : Option ℕ) (resting : Bool) (m : Overlap) → answer_by due resting behind m ≡ Goes
     → (due ≡ None) × (resting ≡ false) × (behind ≡ None)
 goes-by (Some i) behind resting m is = absurd (cc is)
 goes-by None behind true m is = absurd (cc is)
@@ -133,7 +133,7 @@ goes-by None (Some h) false m is = absurd (cc is)
 goes-by None None false m is = (refl, refl, refl)
 
 -- an interrupt, with what it tells
-taken-by : (due behind : Option ℕ) (resting : Bool) (m : Overlap) (i d ic k : ℕ) → answer_by due resting behind m ≡ Interrupt i d ic k
+pub taken-by : (due behind : Option ℕ) (resting : Bool) (m : Overlap) (i d ic k : ℕ) → answer_by due resting behind m ≡ Interrupt i d ic k
     → (due ≡ Some i) × (d ≡ m.state.done) × (ic ≡ m.state.ic) × (k ≡ dropped m)
 taken-by (Some j) behind resting m i d ic k is =
     let a : j ≡ i = cc is in
@@ -145,14 +145,14 @@ taken-by None behind true m i d ic k is = absurd (cc is)
 taken-by None (Some h) false m i d ic k is = absurd (cc is)
 taken-by None None false m i d ic k is = absurd (cc is)
 
-missed-by : (due behind : Option ℕ) (resting : Bool) (m : Overlap) (k : ℕ) → answer_by due resting behind m ≡ Missed k
+pub missed-by : (due behind : Option ℕ) (resting : Bool) (m : Overlap) (k : ℕ) → answer_by due resting behind m ≡ Missed k
     → (due ≡ None) × (resting ≡ false) × IsSome behind × (k ≡ dropped m)
 missed-by (Some j) behind resting m k is = absurd (cc is)
 missed-by None behind true m k is = absurd (cc is)
 missed-by None (Some h) false m k is = let f : dropped m ≡ k = cc is in (refl, refl, refl, sym f)
 missed-by None None false m k is = absurd (cc is)
 
-waits-by : (due behind : Option ℕ) (resting : Bool) (m : Overlap) → answer_by due resting behind m ≡ Waits → (due ≡ None) × (resting ≡ true)
+pub waits-by : (due behind : Option ℕ) (resting : Bool) (m : Overlap) → answer_by due resting behind m ≡ Waits → (due ≡ None) × (resting ≡ true)
 waits-by (Some j) behind resting m is = absurd (cc is)
 waits-by None behind true m is = (refl, refl)
 waits-by None (Some h) false m is = absurd (cc is)
@@ -160,7 +160,7 @@ waits-by None None false m is = absurd (cc is)
 
 -- ---- it goes on
 
-settled-goes : (m : Overlap) → (interrupt_due m ≡ None) × (rests m.state ≡ false) × (m.behind ≡ None) → settled m ≡ passed m
+pub settled-goes : (m : Overlap) → (interrupt_due m ≡ None) × (rests m.state ≡ false) × (m.behind ≡ None) → settled m ≡ passed m
 unfolding settled
 settled-goes m why = rw (why.0, why.1, why.2) refl
 
@@ -240,7 +240,7 @@ closing-rests m is resting = elim (closing-cases m.closing) [
   | inr some ↦ some
 ]
 
-settled-taken : (m : Overlap) (i : ℕ) → interrupt_due m ≡ Some i → settled m ≡ passed (record (ended m) { taken = Some i })
+pub settled-taken : (m : Overlap) (i : ℕ) → interrupt_due m ≡ Some i → settled m ≡ passed (record (ended m) { taken = Some i })
 unfolding settled
 settled-taken m i due = ap (λ t. settled_by t (rests m.state) m.behind m) due
 
@@ -261,7 +261,7 @@ interrupt-unwinds m made since i d ic k from owed is =
       subst IsUnwound (sym after_it) (unwound-passed m (Some i) kept_is some),
     )
 
-settled-missed : (m : Overlap) (behind : Option ℕ) → interrupt_due m ≡ None → rests m.state ≡ false → IsSome behind
+pub settled-missed : (m : Overlap) (behind : Option ℕ) → interrupt_due m ≡ None → rests m.state ≡ false → IsSome behind
     → settled_by (interrupt_due m) (rests m.state) behind m ≡ passed (ended m)
 settled-missed m None due goes missed = absurd (cc missed)
 settled-missed m (Some h) due goes missed = rw (due, goes) refl

@@ -4,10 +4,12 @@
 
 mod in_time;
 mod lent;
+mod openings;
 mod refined;
 mod split;
 
 pub use in_time::completions_come_in_time;
 pub use lent::levels_are_lent;
+pub use openings::{openings_are_kept, openings_follow, rows_tell_the_levels};
 pub use refined::{completions_are_steps, levels_are_unwound};
 pub use split::the_state_is_split;
