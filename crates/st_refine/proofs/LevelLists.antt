@@ -50,6 +50,11 @@ alone-behind ds n f e alone =
     let some : (e.serial || f.serial) ≡ true = or-last e.serial f.serial alone in
     rw some (omega arith)
 
+-- and one that is done alone
+pub alone-before : (ds : List ℕ) (n : ℕ) (f : Front) (e : Entry) → e.serial ≡ true → f.c < (row ds n f e).p
+unfolding row tick_p prepared tick_a addressed
+alone-before ds n f e alone = rw alone (omega arith)
+
 -- behind the entry n before
 levels-behind : (ds : List ℕ) (n : ℕ) (f : Front) (e : Entry) → done_before n f.past < (row ds n f e).p
 unfolding row tick_p prepared
@@ -108,11 +113,11 @@ first-some : (a : Ahead) (xs : List Ahead) (b : Bool) → b ≡ true → length 
 first-some a xs true test none = omega (arith, none)
 first-some a xs false test none = cc test
 
-entry-free : (t : Option ℕ) (s : Machine) → (entry t s).serial ≡ false → (plan s t).serial ≡ false
+pub entry-free : (t : Option ℕ) (s : Machine) → (entry t s).serial ≡ false → (plan s t).serial ≡ false
 unfolding entry
 entry-free t s is = is
 
-not-alone : (b : Bool) → (b ≡ true → ⊥) → b ≡ false
+pub not-alone : (b : Bool) → (b ≡ true → ⊥) → b ≡ false
 not-alone true never = absurd (never refl)
 not-alone false never = refl
 

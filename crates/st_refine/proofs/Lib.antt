@@ -7,3 +7,4 @@ pub mod RefinedLemmas
 pub mod LentLemmas
 pub mod OpeningLemmas
 pub mod RowLemmas
+pub mod StillLemmas

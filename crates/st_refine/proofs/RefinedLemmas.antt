@@ -185,7 +185,7 @@ goes-more m is =
 -- ---- a segment ends
 
 -- no level is left where the front lies behind the tick
-empty-levels : (m : Overlap) → m.now ≤ m.front.p + 2 → levels_of m ≡ []
+pub empty-levels : (m : Overlap) → m.now ≤ m.front.p + 2 → levels_of m ≡ []
 unfolding levels_of
 empty-levels m early = none-before m.delays m.levels m.now m.levels m.taken (seen m) m.front early
 

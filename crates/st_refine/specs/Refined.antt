@@ -66,3 +66,8 @@ pub record IsUnwound (m : Overlap) : Type 0 where
 -- the same levels, or one more behind the youngest
 abbrev pub AddsOneAtMost : List Ahead → List Ahead → Type 0
 AddsOneAtMost old new = (new ≡ old) ⊎ ((a : Ahead) × (new ≡ old ++ a ∷ []))
+
+-- the same is shown of the levels, and of the index words
+pub record IsStill (old new : Overlap) : Type 0 where
+  pub levels : (shown new).levels ≡ (shown old).levels
+  pub index : (shown new).x ≡ (shown old).x
