@@ -1,0 +1,228 @@
+-- Completions come in time.
+use Rattle.std.specs.Prelude.{All, IfSome, IsSome, if◌then◌else◌}
+use Rattle.std.proofs.Common.{◌≡◌, ℕ, ◌+◌, ◌*◌, ◌≤◌, Bool, true, false, List, length, inl, inr, Option, None, Some, refl, sym, subst, ◌∙◌, ap, arith}
+use Rattle.std.proofs.lemmas.Bool.{eqb-true}
+use Rattle.std.proofs.lemmas.List.Elements.{All-replicate, All-weaker}
+use Rattle.st_fetch.specs.declared.fetched.Fetched.{Fetched}
+use Rattle.st_state.specs.Machine.{Machine}
+use Rattle.st_exec.specs.Step.{rests}
+use Rattle.st_banks.specs.declared.answers.LastAnswers.{LastAnswers}
+use Rattle.st_banks.specs.declared.answers.TheConstants.{BANKS}
+use Rattle.st_rows.specs.Ranges.{AreDelays, IsEntry, IsTight, IsNear}
+use Rattle.st_rows.specs.Rows.{row, opening, addressed, prepared, tick_a, tick_p, tick_c}
+use Rattle.st_rows.specs.Asked.{Read, made_before}
+use Rattle.st_rows.specs.declared.bus.Bus.{Bus}
+use Rattle.st_rows.specs.declared.entry.Entry.{Entry}
+use Rattle.st_rows.specs.declared.past.Past.{Past}
+use Rattle.st_rows.specs.declared.front.Front.{Front}
+use Rattle.st_rows.proofs.Awaited.{ready-after}
+use Rattle.st_rows.proofs.Served.{made-bounds}
+use Rattle.st_rows.proofs.Stages.{c-within}
+use Rattle.st_rows.proofs.Tight.{tight-after}
+use Rattle.st_segment.specs.Entries.{entry}
+use Rattle.st_segment.proofs.EntryRanges.{entry-ranges}
+use Rattle.st_ahead.specs.Overlap.{Overlap, seen, oldest, oldest_row, levels_of, banks_at_its_end, interrupt_due}
+use Rattle.st_ahead.specs.Calls.{is_done, completed, ticked, banks_left, ended, passed, settled, settled_by, read_in_by}
+use Rattle.st_refine.specs.Reached.{IsReached, Starts, Ticks, Settles, Signals, Reads, Prints, Stops}
+use Rattle.st_refine.proofs.LevelLists.{few-before}
+use Rattle.st_refine.proofs.Kept.{choice_by, ticks_made, IsIdle, IsPhase, IsKept, idle-of, fresh-of, kept, seen-idle, after-oldest, made-settled, made-owed, ended-rest, settled-idle_is, closing-cases}
+
+-- ---- fronts
+
+opening-tight : (most start : ℕ) (banks : LastAnswers) → All (λ t. t ≤ start + most) banks.ticks → IsTight most (opening banks start)
+opening-tight most start banks soon = record {
+  prepared = omega arith;
+  done = record { each = All-replicate (λ (entry : Past). entry.c ≤ start) 8 _ (omega arith) };
+  free = omega arith;
+  near = record {
+    banks = soon;
+    held = All-replicate (λ (h : Fetched). h.tick ≤ start + most) 4 _ (omega arith);
+  };
+}
+
+free-before_done : (ds : List ℕ) (n : ℕ) (f : Front) (e : Entry) → IsEntry e → f.bus.free ≤ (row ds n f e).c
+unfolding row tick_a tick_p tick_c addressed prepared
+free-before_done ds n f e is = omega (arith, is.costs.0, ready-after ds n f e)
+
+row-within : (most : ℕ) (ds : List ℕ) (n : ℕ) (f : Front) (e : Entry) → AreDelays most ds → IsEntry e → IsTight most f
+    → (row ds n f e).c ≤ f.c + 40 * most + 65
+unfolding row
+row-within most ds n f e are is tight = c-within most ds are f e is tight n
+
+-- the banks after the reads that are made before a tick
+made-soon : (most : ℕ) (ds : List ℕ) (t : ℕ) (reads : List Read) (b : Bus) → AreDelays most ds → IsNear most b → b.free ≤ t
+    → All (λ x. x ≤ t + most) (made_before ds t reads b).banks.ticks
+made-soon most ds t reads b are near free =
+    let bounds = made-bounds most ds are t reads b near free in
+    let c = made_before ds t reads b in
+    All-weaker (λ x. x ≤ c.free + most) (λ x. x ≤ t + most) (λ x low. omega (arith, bounds.1)) c.banks.ticks bounds.0.banks
+
+-- ---- what is kept of the ticks, where no delay is longer than so many
+
+pub record IsWithin (most : ℕ) (m : Overlap) (made since : ℕ) : Type 0 where
+  pub tight : IsTight most m.front
+  pub banks : IfSome m.closing (λ b. All (λ t. t ≤ m.now + most) b.ticks)
+  pub ticks : made ≡ ticks_made m
+  pub near : m.front.c + since ≤ made + 8
+  pub fresh : IsSome m.closing → since ≡ 0
+
+pub levels-few : (m : Overlap) → length (levels_of m) ≤ m.levels
+unfolding levels_of
+levels-few m = few-before m.delays m.levels m.now m.levels m.taken (seen m) m.front
+
+left-soon : (most : ℕ) (m : Overlap) (c : Option LastAnswers) → IsSome c → IfSome c (λ b. All (λ t. t ≤ m.now + most) b.ticks)
+    → All (λ t. t ≤ m.now + most) (banks_left m c).ticks
+left-soon most m None some soon = absurd (cc some)
+left-soon most m (Some banks) some soon = soon
+
+opened : Overlap → Overlap
+opened m = record m { front = opening (banks_left m m.closing) (m.now + 1 + length (levels_of m)); ended = true }
+
+-- ---- each call
+
+within-ended : (most made since : ℕ) (m : Overlap) → IsKept m → IsSome m.closing → IsWithin most m made since → IsWithin most (ended m) made since
+unfolding ended
+within-ended most made since m is some w =
+    let fresh = fresh-of m is some in
+    let start = m.now + 1 + length (levels_of m) in
+    let none : since ≡ 0 = w.fresh some in
+    let owed : ticks_made m ≡ m.now + 1 = made-owed m.owed m.now fresh.owed in
+    choice_by (λ (x : Overlap). IsWithin most x made since) m.ended m _
+    (λ over. w)
+    (λ going. record {
+      tight =
+          opening-tight most start (banks_left m m.closing)
+          (All-weaker (λ t. t ≤ m.now + most) (λ t. t ≤ start + most) (λ t low. omega arith) (banks_left m m.closing).ticks
+          (left-soon most m m.closing some w.banks));
+      banks = w.banks;
+      ticks = w.ticks;
+      near = omega (arith, none, w.ticks, owed, levels-few m, is.few);
+      fresh = w.fresh;
+    })
+
+within-passed : (most made since : ℕ) (m : Overlap) → m.owed ≡ true → IsWithin most m made since → IsWithin most (passed m) made since
+within-passed most made since m owed w = record {
+  tight = w.tight;
+  banks = tt;
+  ticks = w.ticks ∙ made-owed m.owed m.now owed;
+  near = w.near;
+  fresh = λ some. absurd (cc some);
+}
+
+within-table : (most made since : ℕ) (m : Overlap) (t : Option ℕ) → IsWithin most m made since → IsWithin most (record m { taken = t }) made since
+within-table most made since m t w = record { tight = w.tight; banks = w.banks; ticks = w.ticks; near = w.near; fresh = w.fresh }
+
+within-state : (most made since : ℕ) (m : Overlap) (s : Machine) → IsWithin most m made since → IsWithin most (record m { state = s }) made since
+within-state most made since m s w = record { tight = w.tight; banks = w.banks; ticks = w.ticks; near = w.near; fresh = w.fresh }
+
+within-settled_fresh : (due behind : Option ℕ) (resting : Bool) (most made since : ℕ) (m : Overlap) → IsKept m → IsSome m.closing
+    → IsWithin most m made since → IsWithin most (settled_by due resting behind m) made since
+within-settled_fresh (Some i) behind resting most made since m is some w =
+    let fresh = fresh-of m is some in
+    within-passed most made since (record (ended m) { taken = Some i }) ((ended-rest m).owed ∙ fresh.owed)
+    (within-table most made since (ended m) (Some i) (within-ended most made since m is some w))
+within-settled_fresh None behind true most made since m is some w = within-ended most made since m is some w
+within-settled_fresh None (Some h) false most made since m is some w =
+    within-passed most made since (ended m) ((ended-rest m).owed ∙ (fresh-of m is some).owed) (within-ended most made since m is some w)
+within-settled_fresh None None false most made since m is some w = within-passed most made since m (fresh-of m is some).owed w
+
+within-settled : (most made since : ℕ) (m : Overlap) → IsKept m → m.owed ≡ true → IsWithin most m made since → IsWithin most (settled m) made since
+unfolding settled
+within-settled most made since m is owed w = elim (closing-cases m.closing) [
+  | inl none ↦ let idle : IsIdle m = subst (λ c. IsPhase c m) none is.phase in
+      subst (λ (x : Overlap). IsWithin most x made since) (sym (settled-idle_is m idle)) (within-passed most made since m owed w)
+  | inr some ↦ within-settled_fresh (interrupt_due m) m.behind (rests m.state) most made since m is some w
+]
+
+within-ticked : (most made since : ℕ) (m : Overlap) → AreDelays most m.delays → IsKept m → m.owed ≡ false → IsWithin most m made since
+    → IsWithin most (ticked m) (made + 1) (if is_done m then 0 else since + 1)
+unfolding ticked completed banks_at_its_end oldest_row
+within-ticked most made since m are is over w =
+    let both = idle-of m is over in
+    let idle : IsIdle m = both.1 in
+    let same = seen-idle m idle.going idle.right in
+    let e = oldest m in
+    let fits : IsEntry e = subst (λ s. IsEntry (entry m.taken s)) (sym same) (entry-ranges m.taken m.state is.machine is.indicator) in
+    let now : made ≡ m.now = w.ticks ∙ made-settled m.owed m.now over in
+    by-done (is_done m) fits now refl
+  where
+    by-done : (b : Bool) → IsEntry (oldest m) → made ≡ m.now → is_done m ≡ b
+        → IsWithin most (if b then completed m else record m { owed = true; closing = None }) (made + 1) (if b then 0 else since + 1)
+    by-done true fits now done =
+        let e = oldest m in
+        let due : (row m.delays m.levels m.front e).c ≡ m.now = eqb-true (row m.delays m.levels m.front e).c m.now done in
+        let free : m.front.bus.free ≤ m.now = omega (arith, due, free-before_done m.delays m.levels m.front e fits) in
+        record {
+          tight = tight-after most m.delays are m.levels m.front e fits w.tight;
+          banks = made-soon most m.delays m.now _ m.front.bus are w.tight.near free;
+          ticks = ap (λ k. k + 1) now;
+          near = omega (arith, now, due, after-oldest m);
+          fresh = λ some. refl;
+        }
+    by-done false fits now done = record {
+      tight = w.tight;
+      banks = tt;
+      ticks = ap (λ k. k + 1) now;
+      near = omega (arith, w.near);
+      fresh = λ some. absurd (cc some);
+    }
+
+-- ---- the whole
+
+ticked-delays : (m : Overlap) → (ticked m).delays ≡ m.delays
+unfolding ticked completed
+ticked-delays m =
+    choice_by (λ (x : Overlap). x.delays ≡ m.delays) (is_done m) (completed m) (record m { owed = true; closing = None }) (λ done. refl) (λ not_done. refl)
+
+settled_by-delays : (due behind : Option ℕ) (resting : Bool) (m : Overlap) → (settled_by due resting behind m).delays ≡ m.delays
+settled_by-delays (Some i) behind resting m = (ended-rest m).delays
+settled_by-delays None behind true m = (ended-rest m).delays
+settled_by-delays None (Some h) false m = (ended-rest m).delays
+settled_by-delays None None false m = refl
+
+settled-delays : (m : Overlap) → (settled m).delays ≡ m.delays
+unfolding settled
+settled-delays m = settled_by-delays (interrupt_due m) m.behind (rests m.state) m
+
+read-within : (most made since w : ℕ) (m : Overlap) (card : Option (List ℕ)) → IsKept m → IsSome m.closing → IsWithin most m made since
+    → IsWithin most (read_in_by w card m) made since
+read-within most made since w m None is some h = within-state most made since m _ h
+read-within most made since w m (Some card) is some h = within-state most made since (ended m) _ (within-ended most made since m is some h)
+
+read-delays : (w : ℕ) (m : Overlap) (card : Option (List ℕ)) → (read_in_by w card m).delays ≡ m.delays
+read-delays w m None = refl
+read-delays w m (Some card) = (ended-rest m).delays
+
+pub within : (most : ℕ) {m : Overlap} {made since : ℕ} → IsReached m made since → AreDelays most m.delays → IsWithin most m made since
+within most (Starts ds n s can) are = record {
+  tight = opening-tight most 0 _ (All-replicate (λ t. t ≤ 0 + most) BANKS 0 (omega arith));
+  banks = tt;
+  ticks = refl;
+  near = omega arith;
+  fresh = λ some. absurd (cc some);
+}
+within most (Ticks m made since from may) are =
+    let same = subst (AreDelays most) (ticked-delays m) are in
+    within-ticked most made since m same (kept from) may.settled (within most from same)
+within most (Settles m made since from owed) are =
+    within-settled most made since m (kept from) owed (within most from (subst (AreDelays most) (settled-delays m) are))
+within most (Signals m made since i from known may) are = within-state most made since m _ (within most from are)
+within most (Reads m made since order card from given fits may) are =
+    read-within most made since order.word m card (kept from) may.1 (within most from (subst (AreDelays most) (read-delays order.word m card) are))
+within most (Prints m made since from given may) are = within-state most made since m _ (within most from are)
+within most (Stops m made since from may) are =
+    within-ended most made since m (kept from) may.1 (within most from (subst (AreDelays most) (ended-rest m).delays are))
+
+pub made-ticks : {m : Overlap} {made since : ℕ} → IsReached m made since → made ≡ ticks_made m
+made-ticks {m} from = (within 255 from (kept from).delays).ticks
+
+pub in-time : (m : Overlap) (made since most : ℕ) → IsReached m made since → AreDelays most m.delays → since ≤ 64 * (most + 4)
+in-time m made since most from are =
+    let w = within most from are in
+    let is = kept from in
+    elim (closing-cases m.closing) [
+      | inl none ↦ let idle : IsIdle m = subst (λ c. IsPhase c m) none is.phase in
+          let fits = entry-ranges m.taken m.state is.machine is.indicator in
+          omega (arith, w.ticks, w.near, idle.early, row-within most m.delays m.levels m.front (entry m.taken m.state) are fits w.tight)
+      | inr some ↦ omega (arith, w.fresh some)
+    ]

@@ -1,0 +1,465 @@
+-- What each call within the protocol keeps of a machine.
+use Rattle.std.specs.Prelude.{IfSome, IsSome, is_none, ◌&&◌, if◌then◌else◌}
+use Rattle.std.proofs.Common.{◌≡◌, ℕ, zero, suc, ◌⊎◌, ◌+◌, ◌<◌, ◌≤◌, ◌^◌, Bool, true, false, List, length, inl, inr, Option, None, Some, refl, sym, subst, ◌∙◌, ap, arith}
+use Rattle.std.proofs.lemmas.Bool.{eqb-true, eqb-false}
+use Rattle.st_state.specs.Machine.{Machine, IsMachine, word}
+use Rattle.st_state.specs.Interrupts.{signalled, pending, is_pending, first_from}
+use Rattle.st_state.specs.declared.devices.Order.{Order}
+use Rattle.st_prep.specs.Plan.{plan}
+use Rattle.st_prep.proofs.Choices.{of_choice}
+use Rattle.st_prep.proofs.PlanLemmas.{plan-prepared}
+use Rattle.st_exec.specs.Step.{interrupt, rests}
+use Rattle.st_exec.specs.Run.{read_in, printed_out}
+use Rattle.st_exec.proofs.MachineKept.{kept-completed}
+use Rattle.st_banks.specs.declared.answers.LastAnswers.{LastAnswers}
+use Rattle.st_rows.specs.Ranges.{AreDelays}
+use Rattle.st_rows.specs.Rows.{row, opening, after}
+use Rattle.st_segment.specs.Entries.{entry}
+use Rattle.st_ahead.specs.Overlap.{Overlap, started, seen, with_counter, oldest, oldest_row, levels_of, interrupt_due}
+use Rattle.st_ahead.specs.Calls.{is_done, completed, ticked, banks_left, ended, passed, settled, settled_by, signalled_by, read_in_by, MaySignal, MayServe}
+use Rattle.st_ahead.proofs.Settling.{due-taken}
+use Rattle.st_refine.specs.Reached.{CanStart, IsCard, IsReached, Starts, Ticks, Settles, Signals, Reads, Prints, Stops}
+use Rattle.st_refine.proofs.StateLemmas.{signalled-machine, order-machine, printed-machine}
+use Rattle.st_refine.proofs.LevelLists.{after-c, done-behind}
+
+-- ---- choices
+
+pub choice_by : {A : Type 0} (P : A → Type 0) (b : Bool) (x y : A) → (b ≡ true → P x) → (b ≡ false → P y) → P (if b then x else y)
+choice_by P true x y here there = here refl
+choice_by P false x y here there = there refl
+
+-- ---- what is kept
+
+-- how many ticks were made
+abbrev pub ticks_made : Overlap → ℕ
+ticks_made m = if m.owed then m.now + 1 else m.now
+
+-- the row of the next entry of the state
+abbrev pub next_row : Overlap → ℕ
+next_row m = (row m.delays m.levels m.front (entry m.taken m.state)).c
+
+-- no entry was done at this tick, or it is settled
+pub record IsIdle (m : Overlap) : Type 0 where
+  pub table : m.taken ≡ interrupt m.state
+  pub awake : rests m.state ≡ false
+  pub going : m.ended ≡ false
+  pub right : m.behind ≡ None
+  pub early : ticks_made m ≤ next_row m
+  pub unstarted : m.owed ≡ false → m.now ≡ 0 → (m.state.enabled ≡ false) × (m.state.waiting ≡ false)
+
+-- an entry was done at it
+pub record IsFresh (m : Overlap) : Type 0 where
+  pub owed : m.owed ≡ true
+  pub none : m.taken ≡ None
+  pub last : m.ended ≡ false → m.front.c ≡ m.now
+  pub start : m.ended ≡ true → (m.now + 1 ≤ m.front.p) × (m.now + 1 ≤ m.front.c)
+
+abbrev pub IsPhase : Option LastAnswers → Overlap → Type 0
+IsPhase None m = IsIdle m
+IsPhase (Some banks) m = IsFresh m
+
+pub record IsKept (m : Overlap) : Type 0 where
+  pub some : 1 ≤ m.levels
+  pub few : m.levels ≤ 8
+  pub delays : AreDelays 255 m.delays
+  pub machine : IsMachine m.state
+  pub indicator : IfSome m.taken (λ i. i < 64)
+  pub counter : IfSome m.behind (λ h. h < 2 ^ 19)
+  pub phase : IsPhase m.closing m
+
+-- which of the two it is
+idle-by : (c : Option LastAnswers) (m : Overlap) → IsPhase c m → m.owed ≡ false → (c ≡ None) × IsIdle m
+idle-by None m is settled = (refl, is)
+idle-by (Some banks) m is settled = absurd (cc (sym settled ∙ is.owed))
+
+pub idle-of : (m : Overlap) → IsKept m → m.owed ≡ false → (m.closing ≡ None) × IsIdle m
+idle-of m is settled = idle-by m.closing m is.phase settled
+
+fresh-by : (c : Option LastAnswers) (m : Overlap) → IsPhase c m → IsSome c → IsFresh m
+fresh-by None m is some = absurd (cc some)
+fresh-by (Some banks) m is some = is
+
+pub fresh-of : (m : Overlap) → IsKept m → IsSome m.closing → IsFresh m
+fresh-of m is some = fresh-by m.closing m is.phase some
+
+fresh-phase : (c : Option LastAnswers) (m : Overlap) → IsSome c → IsFresh m → IsPhase c m
+fresh-phase None m some is = absurd (cc some)
+fresh-phase (Some banks) m some is = is
+
+-- ---- states
+
+first_from-below : (p : ℕ → Bool) (i n : ℕ) → IfSome (first_from p i n) (λ k. k < i + n)
+unfolding first_from
+first_from-below p i zero = tt
+first_from-below p i (suc n) =
+    of_choice (λ o. IfSome o (λ k. k < i + suc n)) (p i) (Some i) (first_from p (i + 1) n) (omega arith)
+    (some-later (first_from p (i + 1) n) (i + 1 + n) (i + suc n) (omega arith) (first_from-below p (i + 1) n))
+  where
+    some-later : (o : Option ℕ) (a b : ℕ) → a ≤ b → IfSome o (λ k. k < a) → IfSome o (λ k. k < b)
+    some-later None a b le below = tt
+    some-later (Some k) a b le below = omega arith
+
+pub interrupt-below : (s : Machine) → IfSome (interrupt s) (λ i. i < 64)
+interrupt-below s =
+    of_choice (λ o. IfSome o (λ i. i < 64)) s.enabled (pending s) None
+    (first_from-below (is_pending (word s 11) (word s 12)) 0 64) tt
+
+-- a state in which an interrupt is due does not rest
+awake-by : (enabled waiting : Bool) (p : Option ℕ) (i : ℕ) → (if enabled then p else None) ≡ Some i → (waiting && is_none p) ≡ false
+awake-by true true (Some j) i due = refl
+awake-by true false (Some j) i due = refl
+awake-by true waiting None i due = absurd (cc due)
+awake-by false waiting p i due = absurd (cc due)
+
+due-awake : (s : Machine) (i : ℕ) → interrupt s ≡ Some i → rests s ≡ false
+due-awake s i due = awake-by s.enabled s.waiting (pending s) i due
+
+-- neither enabled nor waiting
+off-interrupt : (enabled : Bool) (p : Option ℕ) → enabled ≡ false → (if enabled then p else None) ≡ None
+off-interrupt true p is = absurd (cc is)
+off-interrupt false p is = refl
+
+off-rests : (waiting : Bool) (p : Option ℕ) → waiting ≡ false → (waiting && is_none p) ≡ false
+off-rests true p is = absurd (cc is)
+off-rests false p is = refl
+
+-- no interrupt is due
+due-none : (t p : Option ℕ) → (if is_none t then p else None) ≡ None → t ≡ None → t ≡ p
+due-none None p due none = sym due
+due-none (Some i) p due none = absurd (cc none)
+
+-- ---- a start
+
+pub kept-started : (ds : List ℕ) (n : ℕ) (s : Machine) → CanStart ds n s → IsKept (started ds n s)
+kept-started ds n s can = record {
+  some = can.some;
+  few = can.few;
+  delays = can.delays;
+  machine = can.machine;
+  indicator = tt;
+  counter = tt;
+  phase = record {
+    table = sym (off-interrupt s.enabled (pending s) can.enabled);
+    awake = off-rests s.waiting (pending s) can.waiting;
+    going = refl;
+    right = refl;
+    early = omega arith;
+    unstarted = λ settled first. (can.enabled, can.waiting);
+  };
+}
+
+-- ---- a tick
+
+seen-by : (over : Bool) (behind : Option ℕ) (s : Machine) → over ≡ false → behind ≡ None → (if over then s else with_counter behind s) ≡ s
+seen-by over None s going right = of_choice (λ u. u ≡ s) over s s refl refl
+seen-by over (Some h) s going right = absurd (cc right)
+
+pub seen-idle : (m : Overlap) → m.ended ≡ false → m.behind ≡ None → seen m ≡ m.state
+unfolding seen
+seen-idle m going right = seen-by m.ended m.behind m.state going right
+
+-- the row of the oldest entry is that of the next one of the state
+pub row-idle : (m : Overlap) → IsIdle m → (oldest_row m).c ≡ next_row m
+unfolding oldest_row
+row-idle m is = ap (λ s. (row m.delays m.levels m.front (entry m.taken s)).c) (seen-idle m is.going is.right)
+
+missed-by : (b : Bool) (h : ℕ) → h < 2 ^ 19 → IfSome (if b then Some h else None) (λ i. i < 2 ^ 19)
+missed-by true h below = below
+missed-by false h below = tt
+
+pub made-settled : (owed : Bool) (now : ℕ) → owed ≡ false → (if owed then now + 1 else now) ≡ now
+made-settled true now is = absurd (cc is)
+made-settled false now is = refl
+
+pub made-owed : (owed : Bool) (now : ℕ) → owed ≡ true → (if owed then now + 1 else now) ≡ now + 1
+made-owed true now is = refl
+made-owed false now is = absurd (cc is)
+
+pub after-oldest : (m : Overlap) → (after m.delays m.levels m.front (oldest m)).c ≡ (oldest_row m).c
+unfolding oldest_row
+after-oldest m = after-c m.delays m.levels m.front (oldest m)
+
+pub kept-ticked : (m : Overlap) → IsKept m → m.owed ≡ false → IsKept (ticked m)
+unfolding ticked completed
+kept-ticked m is settled =
+    let idle : IsIdle m = (idle-of m is settled).1 in
+    let c = row-idle m idle in
+    let now : ticks_made m ≡ m.now = made-settled m.owed m.now settled in
+    let p = plan-prepared m.state m.taken is.machine is.indicator in
+    choice_by IsKept (is_done m) (completed m) (record m { owed = true; closing = None })
+    (λ done.
+    let due : (oldest_row m).c ≡ m.now = eqb-true (oldest_row m).c m.now done in
+    record {
+      some = is.some;
+      few = is.few;
+      delays = is.delays;
+      machine = kept-completed (plan m.state m.taken) m.state p is.machine;
+      indicator = tt;
+      counter = missed-by _ (plan m.state m.taken).following p.following;
+      phase = record {
+        owed = refl;
+        none = refl;
+        last = λ going. after-oldest m ∙ due;
+        start = λ over. absurd (cc (sym over ∙ idle.going));
+      };
+    })
+    (λ not_done.
+    let other : (oldest_row m).c ≡ m.now → ⊥ = eqb-false (oldest_row m).c m.now not_done in
+    record {
+      some = is.some;
+      few = is.few;
+      delays = is.delays;
+      machine = is.machine;
+      indicator = is.indicator;
+      counter = is.counter;
+      phase = record {
+        table = idle.table;
+        awake = idle.awake;
+        going = idle.going;
+        right = idle.right;
+        early = omega (arith, idle.early, now, c, other);
+        unstarted = λ owed first. absurd (cc owed);
+      };
+    })
+
+-- ---- the end of a segment
+
+pub kept-ended : (m : Overlap) → IsKept m → IsSome m.closing → IsKept (ended m)
+unfolding ended
+kept-ended m is some =
+    let fresh = fresh-of m is some in
+    choice_by IsKept m.ended m (record m { front = opening (banks_left m m.closing) (m.now + 1 + length (levels_of m)); ended = true })
+    (λ over. is)
+    (λ going. record {
+      some = is.some;
+      few = is.few;
+      delays = is.delays;
+      machine = is.machine;
+      indicator = is.indicator;
+      counter = is.counter;
+      phase = fresh-phase m.closing _ some (record {
+        owed = fresh.owed;
+        none = fresh.none;
+        last = λ again. absurd (cc again);
+        start = λ over. (omega arith, omega arith);
+      });
+    })
+
+-- what it leaves
+pub record IsEnded (m e : Overlap) : Type 0 where
+  pub delays : e.delays ≡ m.delays
+  pub levels : e.levels ≡ m.levels
+  pub state : e.state ≡ m.state
+  pub taken : e.taken ≡ m.taken
+  pub behind : e.behind ≡ m.behind
+  pub now : e.now ≡ m.now
+  pub owed : e.owed ≡ m.owed
+  pub ended : e.ended ≡ true
+  pub closing : e.closing ≡ m.closing
+
+pub ended-rest : (m : Overlap) → IsEnded m (ended m)
+unfolding ended
+ended-rest m =
+    choice_by (IsEnded m) m.ended m (record m { front = opening (banks_left m m.closing) (m.now + 1 + length (levels_of m)); ended = true })
+    (λ over. record {
+      delays = refl;
+      levels = refl;
+      state = refl;
+      taken = refl;
+      behind = refl;
+      now = refl;
+      owed = refl;
+      ended = over;
+      closing = refl;
+    })
+    (λ going. record {
+      delays = refl;
+      levels = refl;
+      state = refl;
+      taken = refl;
+      behind = refl;
+      now = refl;
+      owed = refl;
+      ended = refl;
+      closing = refl;
+    })
+
+-- ---- a settle
+
+-- the tick is over
+kept-passed : (m : Overlap) → 1 ≤ m.levels → m.levels ≤ 8 → AreDelays 255 m.delays → IsMachine m.state → m.taken ≡ interrupt m.state
+    → rests m.state ≡ false → m.now ≤ m.front.c → IsKept (passed m)
+kept-passed m some few delays machine table awake late =
+    let below : IfSome m.taken (λ i. i < 64) = subst (λ t. IfSome t (λ i. i < 64)) (sym table) (interrupt-below m.state) in
+    record {
+      some = some;
+      few = few;
+      delays = delays;
+      machine = machine;
+      indicator = below;
+      counter = tt;
+      phase = record {
+        table = table;
+        awake = awake;
+        going = refl;
+        right = refl;
+        early = omega (arith, late, done-behind m.delays m.levels m.taken m.state m.front machine below);
+        unstarted = λ settled first. absurd (omega (arith, first));
+      };
+    }
+
+-- where an entry was done, its C or a later opening is the front's
+late-fresh : (m : Overlap) → IsFresh m → (b : Bool) → m.ended ≡ b → m.now ≤ m.front.c
+late-fresh m fresh true over = omega (arith, (fresh.start over).1)
+late-fresh m fresh false going = omega (arith, fresh.last going)
+
+-- the tick is over behind an entry that was done
+kept-passed_fresh : (m : Overlap) (t : Option ℕ) → IsKept m → IsSome m.closing → t ≡ interrupt m.state → rests m.state ≡ false
+    → IsKept (passed (record m { taken = t }))
+kept-passed_fresh m t is some table awake =
+    kept-passed (record m { taken = t }) is.some is.few is.delays is.machine table awake (late-fresh m (fresh-of m is some) m.ended refl)
+
+-- the same in the state before the end of a segment
+kept-passed_ended : (m : Overlap) (t : Option ℕ) → IsKept m → IsSome m.closing → t ≡ interrupt m.state → rests m.state ≡ false
+    → IsKept (passed (record (ended m) { taken = t }))
+kept-passed_ended m t is some table awake =
+    let rest = ended-rest m in
+    kept-passed_fresh (ended m) t (kept-ended m is some) (subst IsSome (sym rest.closing) some) (table ∙ ap interrupt (sym rest.state))
+    (ap rests rest.state ∙ awake)
+
+none-due : (t p : Option ℕ) → (if is_none t then p else None) ≡ None → t ≡ None → p ≡ None
+none-due None p due none = due
+none-due (Some i) p due none = absurd (cc none)
+
+same-taken : (m : Overlap) (t : Option ℕ) → m.taken ≡ t → IsKept (passed (record m { taken = t })) → IsKept (passed m)
+same-taken m t same is = subst (λ i. IsKept (passed (record m { taken = i }))) (sym same) is
+
+settled-fresh : (due behind : Option ℕ) (resting : Bool) (m : Overlap) → IsKept m → IsSome m.closing → interrupt_due m ≡ due → rests m.state ≡ resting
+    → IsKept (settled_by due resting behind m)
+settled-fresh (Some i) behind resting m is some due goes =
+    let taken = due-taken m i due in
+    kept-passed_ended m (Some i) is some (sym taken.1) (due-awake m.state i taken.1)
+settled-fresh None behind true m is some due goes = kept-ended m is some
+settled-fresh None (Some h) false m is some due goes =
+    let fresh = fresh-of m is some in
+    let none : None ≡ interrupt m.state = sym (none-due m.taken (interrupt m.state) due fresh.none) in
+    same-taken (ended m) None ((ended-rest m).taken ∙ fresh.none) (kept-passed_ended m None is some none goes)
+settled-fresh None None false m is some due goes =
+    let fresh = fresh-of m is some in
+    let none : None ≡ interrupt m.state = sym (none-due m.taken (interrupt m.state) due fresh.none) in
+    same-taken m None fresh.none (kept-passed_fresh m None is some none goes)
+
+-- nothing is due where no entry was done
+quiet-by : (t p : Option ℕ) → t ≡ p → (if is_none t then p else None) ≡ None
+quiet-by None p same = sym same
+quiet-by (Some i) p same = refl
+
+pub quiet : (m : Overlap) → IsIdle m → interrupt_due m ≡ None
+quiet m idle = quiet-by m.taken (interrupt m.state) idle.table
+
+pub settled-idle_is : (m : Overlap) → IsIdle m → settled m ≡ passed m
+unfolding settled
+settled-idle_is m idle = rw (quiet m idle, idle.awake, idle.right) refl
+
+settled-idle : (m : Overlap) → IsKept m → IsIdle m → m.owed ≡ true → IsKept (passed m)
+settled-idle m is idle owed =
+    let made : ticks_made m ≡ m.now + 1 = made-owed m.owed m.now owed in
+    record {
+      some = is.some;
+      few = is.few;
+      delays = is.delays;
+      machine = is.machine;
+      indicator = is.indicator;
+      counter = tt;
+      phase = record {
+        table = idle.table;
+        awake = idle.awake;
+        going = refl;
+        right = refl;
+        early = omega (arith, idle.early, made);
+        unstarted = λ settled first. absurd (omega (arith, first));
+      };
+    }
+
+pub closing-cases : (c : Option LastAnswers) → (c ≡ None) ⊎ IsSome c
+closing-cases None = inl refl
+closing-cases (Some banks) = inr refl
+
+pub kept-settled : (m : Overlap) → IsKept m → m.owed ≡ true → IsKept (settled m)
+unfolding settled
+kept-settled m is owed = elim (closing-cases m.closing) [
+  | inl none ↦ let idle : IsIdle m = subst (λ c. IsPhase c m) none is.phase in subst IsKept (sym (settled-idle_is m idle)) (settled-idle m is idle owed)
+  | inr some ↦ settled-fresh (interrupt_due m) m.behind (rests m.state) m is some refl refl
+]
+
+-- ---- from outside
+
+-- the state alone changes, behind a tick at which an entry was done
+pub kept-changed : (m : Overlap) (u : Machine) → IsKept m → IsSome m.closing → IsMachine u → IsKept (record m { state = u })
+kept-changed m u is some machine =
+    let fresh = fresh-of m is some in
+    record {
+      some = is.some;
+      few = is.few;
+      delays = is.delays;
+      machine = machine;
+      indicator = is.indicator;
+      counter = is.counter;
+      phase = fresh-phase m.closing _ some (record { owed = fresh.owed; none = fresh.none; last = fresh.last; start = fresh.start });
+    }
+
+idle-phase : (c : Option LastAnswers) (m : Overlap) → c ≡ None → IsIdle m → IsPhase c m
+idle-phase None m none is = is
+idle-phase (Some banks) m none is = absurd (cc none)
+
+-- a signal before the first tick
+kept-unstarted : (m : Overlap) (i : ℕ) → IsKept m → m.owed ≡ false → m.now ≡ 0 → IsKept (signalled_by i m)
+kept-unstarted m i is settled first =
+    let both = idle-of m is settled in
+    let idle = both.1 in
+    let off = idle.unstarted settled first in
+    let s = m.state in
+    let u = signalled s i in
+    let table : m.taken ≡ interrupt u =
+    idle.table ∙ off-interrupt s.enabled (pending s) off.0 ∙ sym (off-interrupt s.enabled (pending u) off.0) in
+    let made : ticks_made m ≡ 0 = made-settled m.owed m.now settled ∙ first in
+    record {
+      some = is.some;
+      few = is.few;
+      delays = is.delays;
+      machine = signalled-machine s i is.machine;
+      indicator = is.indicator;
+      counter = is.counter;
+      phase = idle-phase m.closing _ both.0 (record {
+        table = table;
+        awake = off-rests s.waiting (pending u) off.1;
+        going = idle.going;
+        right = idle.right;
+        early = omega (arith, made);
+        unstarted = λ again zero_tick. off;
+      });
+    }
+
+pub kept-signalled : (m : Overlap) (i : ℕ) → IsKept m → MaySignal m → IsKept (signalled_by i m)
+kept-signalled m i is (inl first) = kept-unstarted m i is first.0 first.1
+kept-signalled m i is (inr done) = kept-changed m (signalled m.state i) is done.1 (signalled-machine m.state i is.machine)
+
+pub kept-read : (m : Overlap) (order : Order) (card : Option (List ℕ)) → IsKept m → m.state.reader ≡ Some order → IfSome card IsCard → MayServe m
+    → IsKept (read_in_by order.word card m)
+kept-read m order None is given fits may =
+    kept-changed m (read_in m.state order.word None) is may.1 (order-machine m.state order None is.machine given fits)
+kept-read m order (Some card) is given fits may =
+    let rest = ended-rest m in
+    kept-changed (ended m) (read_in m.state order.word (Some card)) (kept-ended m is may.1) (subst IsSome (sym rest.closing) may.1)
+    (order-machine m.state order (Some card) is.machine given fits)
+
+-- ---- the whole
+
+pub kept : {m : Overlap} {made since : ℕ} → IsReached m made since → IsKept m
+kept (Starts ds n s can) = kept-started ds n s can
+kept (Ticks m made since from may) = kept-ticked m (kept from) may.settled
+kept (Settles m made since from owed) = kept-settled m (kept from) owed
+kept (Signals m made since i from known may) = kept-signalled m i (kept from) may
+kept (Reads m made since order card from given fits may) = kept-read m order card (kept from) given fits may
+kept (Prints m made since from given may) = kept-changed m (printed_out m.state) (kept from) may.1 (printed-machine m.state (kept from).machine)
+kept (Stops m made since from may) = kept-ended m (kept from) may.1

@@ -1,0 +1,202 @@
+-- The levels of the ring are the entries ahead, and undoing them gives the index words of the state.
+use Rattle.std.specs.Prelude.{slice_get, slice_index_or, is_some, not, nat_lt, nat_le, ◌&&◌, ◌||◌, ◌-◌, if◌then◌else◌}
+use Rattle.std.specs.List.{AllZip}
+use Rattle.std.proofs.Common.{◌≡◌, ℕ, zero, suc, ◌+◌, ◌<◌, ◌≤◌, Bool, true, false, List, [], ◌∷◌, length, inl, inr, Option, None, Some, refl, sym, subst, ◌∙◌, ap, arith}
+use Rattle.std.proofs.lemmas.Bool.{lt-ltb, ltb-true}
+use Rattle.std.proofs.lemmas.Slice.Zip.{AllZip-long}
+use Rattle.st_bits.specs.declared.register.TheConstants.{FIRST_STORAGE_WORD}
+use Rattle.st_state.specs.Machine.{Machine, word}
+use Rattle.st_prep.specs.Fetch.{index_words}
+use Rattle.st_prep.specs.FewWords.{is_transmission}
+use Rattle.st_prep.specs.Plan.{plan}
+use Rattle.st_prep.specs.declared.entries.Prepared.{Prepared}
+use Rattle.st_exec.specs.Completion.{guess}
+use Rattle.st_rows.specs.Rows.{row, after, fills}
+use Rattle.st_rows.specs.declared.front.Front.{Front}
+use Rattle.st_ring.specs.Unwinding.{made, Kept, unwound}
+use Rattle.st_ring.specs.declared.level.Level.{Level}
+use Rattle.st_ring.proofs.Unwindings.{made-undone}
+use Rattle.st_segment.specs.Entries.{entry}
+use Rattle.st_segment.specs.Alone.{RunAhead}
+use Rattle.st_segment.specs.Guesses.{guesses, table_behind, split_words}
+use Rattle.st_segment.specs.Ahead.{Ahead, next_ahead, ahead, front_behind}
+use Rattle.st_segment.proofs.GuessLemmas.{behind-none}
+use Rattle.st_levels.specs.Slots.{fill_tick, is_there, slot_of, slots_of}
+use Rattle.st_levels.specs.Levels.{AreLevels}
+use Rattle.st_levels.specs.declared.plans.Plan.{Plan}
+use Rattle.st_levels.proofs.UndoLemmas.{levels-keep}
+use Rattle.st_ahead.specs.Overlap.{Overlap, seen, oldest_row, levels_of, last_tick}
+use Rattle.st_ahead.specs.Shown.{IsLevelOf, AreLevelsOf, index_of, shown}
+use Rattle.st_refine.specs.Reached.{IsReached}
+use Rattle.st_refine.specs.Refined.{state_before, table_before, front_before, fills_at}
+use Rattle.st_refine.proofs.LevelLists.{done-behind, most-ahead}
+use Rattle.st_refine.proofs.Kept.{IsIdle, IsFresh, IsPhase, IsKept, fresh-of, kept, row-idle, closing-cases}
+use Rattle.st_refine.proofs.SplitLemmas.{seen-machine, seen-index, shown-last, levels-are}
+
+-- ---- the ring, level by level
+
+pub ring-count : (m : Overlap) (ring : List Level) → AreLevelsOf m ring → length ring ≡ length (levels_of m)
+ring-count m ring are = sym (AllZip-long _ ring (levels_of m) are)
+
+ring-are : (m : Overlap) (ring : List Level) → AreLevelsOf m ring
+    → AllZip (IsLevelOf m.delays m.levels (last_tick m)) ring (ahead m.delays m.levels (length ring) m.taken (seen m) m.front)
+ring-are m ring are =
+    subst (λ (xs : List Ahead). AllZip (IsLevelOf m.delays m.levels (last_tick m)) ring xs)
+    (levels-are m ∙ ap (λ k. ahead m.delays m.levels k m.taken (seen m) m.front) (sym (ring-count m ring are))) are
+
+level-at : (ds : List ℕ) (n tick k j : ℕ) (t : Option ℕ) (s : Machine) (f : Front) (ring : List Level) (level : Level)
+    → AllZip (IsLevelOf ds n tick) ring (ahead ds n j t s f) → slice_get ring k ≡ Some level
+    → IsLevelOf ds n tick level (next_ahead ds n (table_behind k t) (guesses k t s) (front_behind ds n k t s f))
+unfolding ahead guesses front_behind
+level-at ds n tick k zero t s f [] level are there = absurd (cc there)
+level-at ds n tick k zero t s f (x ∷ xs) level are there = absurd are
+level-at ds n tick k (suc j) t s f [] level are there = absurd are
+level-at ds n tick zero (suc j) t s f (x ∷ xs) level are there = let same : x ≡ level = cc there in subst (λ l. IsLevelOf ds n tick l (next_ahead ds n t s f)) same are.0
+level-at ds n tick (suc k) (suc j) t s f (x ∷ xs) level are there =
+    let u = guess t s in
+    let g = after ds n f (entry t s) in
+    subst (λ i. IsLevelOf ds n tick level (next_ahead ds n i (guesses k None u) (front_behind ds n k None u g))) (behind-none k)
+    (level-at ds n tick k j None u g xs level are.1 there)
+
+pub ring-level : (m : Overlap) (ring : List Level) (level : Level) (k : ℕ) → AreLevelsOf m ring → slice_get ring k ≡ Some level
+    → IsLevelOf m.delays m.levels (last_tick m) level
+    (next_ahead m.delays m.levels (table_before k m) (state_before k m) (front_before k m))
+ring-level m ring level k are there =
+    level-at m.delays m.levels (last_tick m) k (length ring) m.taken (seen m) m.front ring level (ring-are m ring are) there
+
+-- ---- the slots
+
+and-parts : (a b c : Bool) (x w : ℕ) → (if a && b && c then Some x else None) ≡ Some w → (b ≡ true) × (x ≡ w)
+and-parts true true true x w is = (refl, cc is)
+and-parts true true false x w is = absurd (cc is)
+and-parts true false c x w is = absurd (cc is)
+and-parts false b c x w is = absurd (cc is)
+
+slot-word : (ticks : List ℕ) (p : Prepared) (s : Machine) (tick k w : ℕ) → slot_of ticks p s tick k ≡ Some w
+    → (k < p.reads.len) × (w ≡ word s (p.reads.first + k))
+unfolding slot_of
+slot-word ticks p s tick k w is =
+    let both = and-parts (not (is_transmission p.instr)) (nat_lt k p.reads.len) (is_there ticks p tick (p.reads.first + k)) (word s (p.reads.first + k)) w is in
+    (ltb-true k p.reads.len both.0, sym both.1)
+
+slots-word : (ticks : List ℕ) (p : Prepared) (s : Machine) (tick k w : ℕ) → slice_index_or (slots_of ticks p s tick) k None ≡ Some w
+    → (k < p.reads.len) × (w ≡ word s (p.reads.first + k))
+slots-word ticks p s tick zero w is = slot-word ticks p s tick 0 w is
+slots-word ticks p s tick (suc zero) w is = slot-word ticks p s tick 1 w is
+slots-word ticks p s tick (suc (suc k)) w is = absurd (cc is)
+
+pub ring-word : (m : Overlap) (ring : List Level) (level : Level) (k slot w : ℕ) → AreLevelsOf m ring → slice_get ring k ≡ Some level
+    → slice_index_or level.have slot None ≡ Some w
+    → (slot < level.prepared.reads.len) × (w ≡ word (state_before k m) (level.prepared.reads.first + slot))
+ring-word m ring level k slot w are there has =
+    let is = ring-level m ring level k are there in
+    let s = state_before k m in
+    subst (λ (p : Prepared). (slot < p.reads.len) × (w ≡ word s (p.reads.first + slot))) (sym is.prepared)
+    (slots-word (fills_at k m) (plan s (table_before k m)) s (last_tick m) slot w
+    (ap (λ (xs : List (Option ℕ)). slice_index_or xs slot None) (sym is.have) ∙ has))
+
+some-if : (a b c : Bool) (x : ℕ) → a ≡ false → b ≡ true → is_some (if not a && b && c then Some x else None) ≡ c
+some-if true b c x free few = absurd (cc free)
+some-if false true true x free few = refl
+some-if false true false x free few = refl
+some-if false false c x free few = absurd (cc few)
+
+slot-there : (ticks : List ℕ) (p : Prepared) (s : Machine) (tick k : ℕ) → is_transmission p.instr ≡ false → k < p.reads.len
+    → is_some (slot_of ticks p s tick k) ≡ is_there ticks p tick (p.reads.first + k)
+unfolding slot_of
+slot-there ticks p s tick k free few =
+    some-if (is_transmission p.instr) (nat_lt k p.reads.len) (is_there ticks p tick (p.reads.first + k)) (word s (p.reads.first + k)) free
+    (lt-ltb k p.reads.len few)
+
+slots-there : (ticks : List ℕ) (p : Prepared) (s : Machine) (tick k : ℕ) → is_transmission p.instr ≡ false → k < p.reads.len → k < 2
+    → is_some (slice_index_or (slots_of ticks p s tick) k None) ≡ is_there ticks p tick (p.reads.first + k)
+slots-there ticks p s tick zero free few two = slot-there ticks p s tick 0 free few
+slots-there ticks p s tick (suc zero) free few two = slot-there ticks p s tick 1 free few
+slots-there ticks p s tick (suc (suc k)) free few two = absurd (omega (arith, two))
+
+-- how the slot of an operand word stands
+abbrev IsSlot : ℕ → List ℕ → ℕ → List (Option ℕ) → Prepared → Type 0
+IsSlot slot ticks tick have p =
+    is_transmission p.instr ≡ false → slot < p.reads.len →
+    is_some (slice_index_or have slot None)
+    ≡ (nat_lt (p.reads.first + slot) FIRST_STORAGE_WORD || nat_le (fill_tick ticks p (p.reads.first + slot)) tick)
+
+pub ring-slot : (m : Overlap) (ring : List Level) (level : Level) (k slot : ℕ) → AreLevelsOf m ring → slice_get ring k ≡ Some level
+    → slot < 2 → IsSlot slot (fills_at k m) (shown m).tick level.have level.prepared
+ring-slot m ring level k slot are there two =
+    let is = ring-level m ring level k are there in
+    let s = state_before k m in
+    let p = plan s (table_before k m) in
+    let ticks = fills_at k m in
+    subst (λ (tick : ℕ). IsSlot slot ticks tick level.have level.prepared) (sym (shown-last m))
+    (subst (λ (q : Prepared). IsSlot slot ticks (last_tick m) level.have q) (sym is.prepared)
+    (subst (λ (xs : List (Option ℕ)). IsSlot slot ticks (last_tick m) xs p) (sym is.have)
+    (λ free few. slots-there ticks p s (last_tick m) slot free few two)))
+
+-- ---- undoing
+
+-- the planned rows beside them
+rows_of : List ℕ → ℕ → ℕ → Option ℕ → Machine → Front → List Plan
+rows_of ds n zero t s f = []
+rows_of ds n (suc k) t s f =
+    let r = row ds n f (entry t s) in
+    record { front = f; r = r.r; c = r.c; fills = fills ds n f (entry t s) } ∷ rows_of ds n k None (guess t s) (after ds n f (entry t s))
+
+levels-from : (ds : List ℕ) (n tick : ℕ) (t : Option ℕ) (s : Machine) (f : Front) (ring : List Level)
+    → AllZip (IsLevelOf ds n tick) ring (ahead ds n (length ring) t s f)
+    → AreLevels ds n tick t s f (front_behind ds n (length ring) t s f) ring (rows_of ds n (length ring) t s f)
+unfolding ahead front_behind AreLevels rows_of
+levels-from ds n tick t s f [] are = refl
+levels-from ds n tick t s f (x ∷ xs) are = (
+  record {
+    prepared = are.0.prepared;
+    p = are.0.p;
+    have = are.0.have;
+    front = refl;
+    r = refl;
+    c = refl;
+    fills = refl;
+  },
+  levels-from ds n tick None (guess t s) (after ds n f (entry t s)) xs are.1,
+)
+
+-- the oldest entry is not done before the tick
+pub late-fresh : (m : Overlap) → IsFresh m → (b : Bool) → m.ended ≡ b → m.now ≤ m.front.c
+late-fresh m fresh true over = omega (arith, (fresh.start over).1)
+late-fresh m fresh false going = omega (arith, fresh.last going)
+
+pub oldest-late : (m : Overlap) → IsKept m → m.now ≤ (oldest_row m).c
+unfolding oldest_row
+oldest-late m is = elim (closing-cases m.closing) [
+  | inl none ↦ let idle : IsIdle m = subst (λ c. IsPhase c m) none is.phase in omega (arith, row-idle m idle, idle.early, made-late m.owed m.now)
+  | inr some ↦ omega (arith, late-fresh m (fresh-of m is some) m.ended refl, done-behind m.delays m.levels m.taken (seen m) m.front (seen-machine m is) is.indicator)
+]
+  where
+    made-late : (owed : Bool) (now : ℕ) → now ≤ (if owed then now + 1 else now)
+    made-late true now = omega arith
+    made-late false now = omega arith
+
+pub run-levels : (m : Overlap) → IsKept m → RunAhead (length (levels_of m) - 1) m.taken (seen m)
+unfolding levels_of oldest_row
+run-levels m is =
+    most-ahead m.delays m.levels _ m.now m.levels m.taken (seen m) m.front (seen-machine m is) is.indicator (oldest-late m is) refl
+
+index-is : (m : Overlap) (k : ℕ) → k ≡ length (levels_of m) → split_words k m.taken (seen m) ≡ index_of m
+unfolding index_of
+index-is m k same = ap (λ j. split_words j m.taken (seen m)) same
+
+pub ring-undone : (m : Overlap) (ticks since : ℕ) (ring : List Level) → IsReached m ticks since → AreLevelsOf m ring
+    → Kept (index_words m.state) ring × (made (index_words m.state) ring ≡ index_of m) × (unwound (index_of m) ring ≡ index_words m.state)
+ring-undone m ticks since ring from are =
+    let is = kept from in
+    let many = ring-count m ring are in
+    let run = subst (λ k. RunAhead (k - 1) m.taken (seen m)) (sym many) (run-levels m is) in
+    let levels = levels-from m.delays m.levels (last_tick m) m.taken (seen m) m.front ring (ring-are m ring are) in
+    let keep = levels-keep m.delays m.levels (last_tick m) m.taken (seen m) m.front _ ring _ (index_words m.state)
+    (seen-machine m is) is.indicator levels run (sym (seen-index m)) in
+    let whole : made (index_words m.state) ring ≡ index_of m = keep.1 ∙ index-is m (length ring) many in
+    (keep.0, whole, ap (λ (x : List ℕ). unwound x ring) (sym whole) ∙ made-undone (index_words m.state) ring keep.0)
+
+pub index-shown : (m : Overlap) → index_of m ≡ (shown m).x
+unfolding shown
+index-shown m = refl

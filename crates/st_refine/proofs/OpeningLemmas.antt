@@ -1,0 +1,338 @@
+-- A machine stands at the opening of its segment.
+use Rattle.std.specs.Prelude.{All, IfSome, IsSome, ◌==◌, if◌then◌else◌, ◌-◌}
+use Rattle.std.proofs.Common.{◌≡◌, ℕ, zero, suc, ◌+◌, ◌<◌, ◌≤◌, Bool, true, false, List, [], ◌∷◌, ◌++◌, length, Option, None, Some, refl, sym, subst, ◌∙◌, ap, ap₂, arith}
+use Rattle.std.proofs.lemmas.Bool.{eqb-true, ne_eqb, eq-eqb}
+use Rattle.std.proofs.lemmas.List.Elements.{All-nil, All-cons, All-head, All-tail, All-append, All-weaker}
+use Rattle.st_state.specs.Machine.{Machine, stored}
+use Rattle.st_exec.specs.Completion.{executed, guess}
+use Rattle.st_exec.specs.Step.{interrupt, rests, step}
+use Rattle.st_exec.specs.Run.{all_stored, read_in}
+use Rattle.st_exec.proofs.Runs.{step-done}
+use Rattle.st_banks.specs.declared.answers.LastAnswers.{LastAnswers}
+use Rattle.st_rows.specs.Asked.{asked, made_before}
+use Rattle.st_rows.specs.Rows.{row, after, opening}
+use Rattle.st_rows.specs.declared.entry.Entry.{Entry}
+use Rattle.st_rows.specs.declared.front.Front.{Front}
+use Rattle.st_segment.specs.Entries.{entry}
+use Rattle.st_segment.specs.Guesses.{table_behind}
+use Rattle.st_segment.specs.Ahead.{ahead, reads_before}
+use Rattle.st_ahead.specs.Overlap.{Overlap, started, seen, oldest, oldest_row, levels_of, banks_at_its_end, interrupt_due}
+use Rattle.st_ahead.specs.Calls.{is_done, completed, ticked, banks_left, ended, passed, settled, answer, read_in_by, MayServe}
+use Rattle.st_ahead.specs.declared.events.Settled.TheVariants.{Goes, Interrupt, Missed, Waits}
+use Rattle.st_refine.specs.Reached.{IsReached, MayTick}
+use Rattle.st_refine.specs.Openings.{Change, Signalled, ReadIn, PrintedOut, changed, Outside, with_changes, Opening, first_opening, state_after, front_after, banks_behind, opening_behind, StandsAt}
+use Rattle.st_refine.proofs.LevelLists.{after-c}
+use Rattle.st_refine.proofs.Kept.{IsIdle, idle-of, fresh-of, kept, seen-idle, ended-rest}
+use Rattle.st_refine.proofs.RefinedLemmas.{goes-by, taken-by, missed-by, waits-by, settled-goes, settled-taken, settled-missed}
+
+-- ---- changes
+
+all_stored-done : (m : Machine) (w : ℕ) (xs : List ℕ) → (all_stored m w xs).done ≡ m.done
+unfolding all_stored
+all_stored-done m w [] = refl
+all_stored-done m w (x ∷ xs) = all_stored-done (stored m w x) (w + 1) xs
+
+changed-done : (x : Change) (s : Machine) → (changed x s).done ≡ s.done
+changed-done (Signalled i) s = refl
+changed-done (ReadIn w None) s = refl
+changed-done (ReadIn w (Some card)) s = all_stored-done (record s { reader = None }) w card
+changed-done PrintedOut s = refl
+
+one-done : (b : Bool) (x : Change) (s : Machine) → (if b then changed x s else s).done ≡ s.done
+one-done true x s = changed-done x s
+one-done false x s = refl
+
+changes-done : (xs : List Outside) (s : Machine) → (with_changes xs s).done ≡ s.done
+unfolding with_changes
+changes-done [] s = refl
+changes-done (x ∷ xs) s = changes-done xs (if x.done == s.done then changed x.change s else s) ∙ one-done (x.done == s.done) x.change s
+
+-- one more
+changes-more : (xs : List Outside) (x : Outside) (s : Machine)
+    → with_changes (xs ++ x ∷ []) s
+    ≡ (if x.done == (with_changes xs s).done then changed x.change (with_changes xs s) else with_changes xs s)
+unfolding with_changes
+changes-more [] x s = refl
+changes-more (y ∷ xs) x s = changes-more xs x (if y.done == s.done then changed y.change s else s)
+
+changes-other : (xs : List Outside) (x : Outside) (s : Machine) → (x.done ≡ s.done → ⊥) → with_changes (xs ++ x ∷ []) s ≡ with_changes xs s
+changes-other xs x s other =
+    let u = with_changes xs s in
+    let same : u.done ≡ s.done = changes-done xs s in
+    changes-more xs x s ∙ ap (λ b. if b then changed x.change u else u) (ne_eqb x.done u.done (λ is. other (is ∙ same)))
+
+changes-now : (xs : List Outside) (x : Outside) (s : Machine) → x.done ≡ s.done
+    → with_changes (xs ++ x ∷ []) s ≡ changed x.change (with_changes xs s)
+changes-now xs x s here =
+    let u = with_changes xs s in
+    let same : u.done ≡ s.done = changes-done xs s in
+    changes-more xs x s ∙ ap (λ b. if b then changed x.change u else u) (eq-eqb x.done u.done (here ∙ sym same))
+
+-- those that came before are over
+changes-none : (xs : List Outside) (s : Machine) → All (λ x. x.done < s.done) xs → with_changes xs s ≡ s
+unfolding with_changes
+changes-none [] s before = refl
+changes-none (x ∷ xs) s before =
+    let early : x.done < s.done = All-head (λ (y : Outside). y.done < s.done) x xs before in
+    ap (λ b. with_changes xs (if b then changed x.change s else s)) (ne_eqb x.done s.done (λ is. omega (arith, early, is)))
+    ∙ changes-none xs s (All-tail (λ (y : Outside). y.done < s.done) x xs before)
+
+-- ---- states and fronts after j steps
+
+module _ (o : Opening) (xs : List Outside) where
+  state-done : (j : ℕ) → (state_after o xs j).done ≡ o.state.done + j
+  unfolding state_after
+  state-done zero = let same = changes-done xs o.state in omega (arith, same)
+  state-done (suc j) =
+      let s = state_after o xs j in
+      let same : (with_changes xs (step s)).done ≡ (step s).done = changes-done xs (step s) in
+      omega (arith, same, step-done s, state-done j)
+
+  module _ (x : Outside) (j : ℕ) (when : x.done ≡ o.state.done + j) where
+    state-before : (i : ℕ) → i < j → state_after o (xs ++ x ∷ []) i ≡ state_after o xs i
+    unfolding state_after
+    state-before zero early = changes-other xs x o.state (λ is. omega (arith, is, when, early))
+    state-before (suc i) early =
+        let s = state_after o xs i in
+        ap (λ u. with_changes (xs ++ x ∷ []) (step u)) (state-before i (omega (arith, early)))
+        ∙ changes-other xs x (step s) (λ is. omega (arith, is, when, early, step-done s, state-done i))
+
+    state-now : (k : ℕ) → k ≡ j → state_after o (xs ++ x ∷ []) k ≡ changed x.change (state_after o xs k)
+    unfolding state_after
+    state-now zero here = changes-now xs x o.state (omega (arith, when, here))
+    state-now (suc k) here =
+        let s = state_after o xs k in
+        ap (λ u. with_changes (xs ++ x ∷ []) (step u)) (state-before k (omega (arith, here)))
+        ∙ changes-now xs x (step s) (omega (arith, when, here, step-done s, state-done k))
+
+    module _ (ds : List ℕ) (n : ℕ) where
+      front-same : (i : ℕ) → i ≤ j → front_after ds n o (xs ++ x ∷ []) i ≡ front_after ds n o xs i
+      unfolding front_after
+      front-same zero early = refl
+      front-same (suc i) early =
+          ap₂ (λ f s. after ds n f (entry (table_behind i o.table) s)) (front-same i (omega (arith, early))) (state-before i (omega (arith, early)))
+
+      banks-same : (i : ℕ) → i ≤ j → banks_behind ds n o (xs ++ x ∷ []) i ≡ banks_behind ds n o xs i
+      unfolding banks_behind
+      banks-same zero early = refl
+      banks-same (suc i) early =
+          let t = table_behind i o.table in
+          let banks = λ (f : Front) (s : Machine).
+          let e = entry t s in
+          let c = (row ds n f e).c in
+          (made_before ds c (asked ds n f e ++ reads_before ds n c (ahead ds n (suc n) None (guess t s) (after ds n f e))) f.bus).banks in
+          ap₂ banks (front-same i (omega (arith, early))) (state-before i (omega (arith, early)))
+
+-- ---- a start
+
+pub stands-started : (ds : List ℕ) (n : ℕ) (s : Machine) → StandsAt (first_opening s) [] 0 (started ds n s)
+unfolding state_after front_after with_changes
+stands-started ds n s = record {
+  state = refl;
+  front = refl;
+  table = refl;
+  done = λ some. absurd (omega (arith, some));
+  before = All-nil (λ (x : Outside). x.done ≤ s.done);
+  banks = λ going. tt;
+}
+
+-- ---- a change from outside
+
+if-same : (c : Option LastAnswers) (a b : LastAnswers) → a ≡ b → IfSome c (λ x. x ≡ a) → IfSome c (λ x. x ≡ b)
+if-same None a b same is = tt
+if-same (Some x) a b same is = is ∙ same
+
+pub stands-changed : (m : Overlap) (x : Change) (j : ℕ) (o : Opening) (xs : List Outside) → StandsAt o xs j m
+    → StandsAt o (xs ++ record { done = m.state.done; change = x } ∷ []) j (record m { state = changed x m.state })
+stands-changed m x j o xs is =
+    let new : Outside = record { done = m.state.done; change = x } in
+    let when : m.state.done ≡ o.state.done + j = ap (λ (s : Machine). s.done) is.state ∙ state-done o xs j in
+    let same : (changed x m.state).done ≡ m.state.done = changed-done x m.state in
+    let begin : ℕ → Type 0 = λ d. All (λ (y : Outside). y.done ≤ d) (xs ++ new ∷ []) in
+    record {
+      state = ap (changed x) is.state ∙ sym (state-now o xs new j when j refl);
+      front = is.front ∙ sym (front-same o xs new j when m.delays m.levels j (omega arith));
+      table = is.table;
+      done = is.done;
+      before =
+          subst begin (sym same)
+          (All-append (λ (y : Outside). y.done ≤ m.state.done) xs (new ∷ []) is.before
+          (All-cons (λ (y : Outside). y.done ≤ m.state.done) new [] (omega arith) (All-nil (λ (y : Outside). y.done ≤ m.state.done))));
+      banks = λ going. if-same m.closing _ _ (sym (banks-same o xs new j when m.delays m.levels j (omega arith))) (is.banks going);
+    }
+
+-- ---- a tick
+
+stands-passed_by : (m : Overlap) (j : ℕ) (o : Opening) (xs : List Outside) → m.owed ≡ false → StandsAt o xs j m
+    → StandsAt o xs j (record m { owed = true; closing = None })
+stands-passed_by m j o xs settled_is is = record {
+  state = is.state;
+  front = is.front;
+  table = is.table;
+  done = λ some. omega (arith, is.done some, last-before m.owed m.now);
+  before = is.before;
+  banks = λ going. tt;
+}
+  where
+    last-before : (owed : Bool) (now : ℕ) → (if owed then now else now - 1) ≤ now
+    last-before true now = omega arith
+    last-before false now = omega arith
+
+behind-first : (j : ℕ) (t : Option ℕ) → None ≡ table_behind (suc j) t
+behind-first j t = refl
+
+executed-step : (t : Option ℕ) (s : Machine) → t ≡ interrupt s → executed t s ≡ step s
+unfolding step
+executed-step t s table = ap (λ i. executed i s) table
+
+-- the banks where the segment ends at the completion of an entry
+banks-of : List ℕ → ℕ → ℕ → Option ℕ → Machine → Front → Entry → LastAnswers
+banks-of ds n c t s f e =
+    (made_before ds c (asked ds n f e ++ reads_before ds n c (ahead ds n (suc n) None (guess t s) (after ds n f e))) f.bus).banks
+
+banks-are : (m : Overlap) (j : ℕ) (o : Opening) (xs : List Outside) → (row m.delays m.levels m.front (oldest m)).c ≡ m.now → StandsAt o xs j m
+    → seen m ≡ m.state → banks_at_its_end m ≡ banks_behind m.delays m.levels o xs (suc j)
+unfolding banks_at_its_end banks_behind banks-of
+banks-are m j o xs due is seen_is =
+    let ds = m.delays in
+    let n = m.levels in
+    ap (λ c. banks-of ds n c m.taken m.state m.front (oldest m)) (sym due)
+    ∙ ap (λ s. banks-of ds n (row ds n m.front (entry m.taken s)).c m.taken m.state m.front (entry m.taken s)) (seen_is ∙ is.state)
+    ∙ ap (λ s. banks-of ds n (row ds n m.front (entry m.taken (state_after o xs j))).c m.taken s m.front (entry m.taken (state_after o xs j))) is.state
+    ∙ ap₂ (λ t f. banks-of ds n (row ds n f (entry t (state_after o xs j))).c t (state_after o xs j) f (entry t (state_after o xs j))) is.table is.front
+
+stands-completed : (m : Overlap) (made since j : ℕ) (o : Opening) (xs : List Outside) → IsReached m made since → MayTick m → is_done m ≡ true
+    → StandsAt o xs j m → StandsAt o xs (suc j) (completed m)
+unfolding completed state_after front_after banks_behind banks_at_its_end oldest_row
+stands-completed m made since j o xs from may done is =
+    let idle : IsIdle m = (idle-of m (kept from) may.settled).1 in
+    let seen_is : seen m ≡ m.state = seen-idle m idle.going idle.right in
+    let e = oldest m in
+    let e_is : e ≡ entry (table_behind j o.table) (state_after o xs j) = ap₂ entry is.table (seen_is ∙ is.state) in
+    let due : (row m.delays m.levels m.front e).c ≡ m.now = eqb-true (row m.delays m.levels m.front e).c m.now done in
+    let stepped : executed m.taken m.state ≡ step m.state = executed-step m.taken m.state idle.table in
+    let more : (step m.state).done ≡ m.state.done + 1 = step-done m.state in
+    let counted : (executed m.taken m.state).done ≡ m.state.done + 1 = ap (λ (s : Machine). s.done) stepped ∙ more in
+    let over : All (λ (x : Outside). x.done < (step m.state).done) xs =
+    All-weaker (λ (x : Outside). x.done ≤ m.state.done) (λ (x : Outside). x.done < (step m.state).done) (λ x low. omega (arith, more)) xs is.before in
+    record {
+      state = stepped ∙ sym (changes-none xs (step m.state) over) ∙ ap (λ s. with_changes xs (step s)) is.state;
+      front = ap₂ (after m.delays m.levels) is.front e_is;
+      table = refl;
+      done = λ some. omega (arith, due, after-c m.delays m.levels m.front e);
+      before =
+          All-weaker (λ (x : Outside). x.done ≤ m.state.done) (λ (x : Outside). x.done ≤ (executed m.taken m.state).done)
+          (λ x low. omega (arith, counted)) xs is.before;
+      banks = λ going. banks-are m j o xs due is seen_is;
+    }
+
+pub stands-ticked : (m : Overlap) (made since j : ℕ) (o : Opening) (xs : List Outside) → IsReached m made since → MayTick m → StandsAt o xs j m
+    → StandsAt o xs (if is_done m then suc j else j) (ticked m)
+unfolding ticked
+stands-ticked m made since j o xs from may is = by-done (is_done m) refl
+  where
+    by-done : (b : Bool) → is_done m ≡ b → StandsAt o xs (if b then suc j else j) (if b then completed m else record m { owed = true; closing = None })
+    by-done true done = stands-completed m made since j o xs from may done is
+    by-done false done = stands-passed_by m j o xs may.settled is
+
+-- ---- a settle
+
+stands-passed : (m : Overlap) (j : ℕ) (o : Opening) (xs : List Outside) → m.owed ≡ true → StandsAt o xs j m → StandsAt o xs j (passed m)
+stands-passed m j o xs owed is = record {
+  state = is.state;
+  front = is.front;
+  table = is.table;
+  done = λ some. omega (arith, is.done some, last-owed m.owed m.now owed);
+  before = is.before;
+  banks = λ going. tt;
+}
+  where
+    last-owed : (b : Bool) (now : ℕ) → b ≡ true → (if b then now else now - 1) ≡ now
+    last-owed true now is_owed = refl
+    last-owed false now is_owed = absurd (cc is_owed)
+
+pub stands-goes : (m : Overlap) (j : ℕ) (o : Opening) (xs : List Outside) → m.owed ≡ true → answer m ≡ Goes → StandsAt o xs j m
+    → StandsAt o xs j (settled m)
+unfolding answer
+stands-goes m j o xs owed is stands =
+    let why = goes-by (interrupt_due m) m.behind (rests m.state) m is in
+    subst (StandsAt o xs j) (sym (settled-goes m why)) (stands-passed m j o xs owed stands)
+
+-- ---- the end of a segment
+
+opened : Overlap → Overlap
+opened m = record m { front = opening (banks_left m m.closing) (m.now + 1 + length (levels_of m)); ended = true }
+
+ended-going : (m : Overlap) → m.ended ≡ false → ended m ≡ opened m
+unfolding ended opened
+ended-going m going = ap (λ b. if b then m else opened m) going
+
+pub ended-again : (m : Overlap) → m.ended ≡ true → ended m ≡ m
+unfolding ended opened
+ended-again m over = ap (λ b. if b then m else opened m) over
+
+left-is : (m : Overlap) (c : Option LastAnswers) (b : LastAnswers) → IsSome c → IfSome c (λ x. x ≡ b) → banks_left m c ≡ b
+left-is m None b some is = absurd (cc some)
+left-is m (Some x) b some is = is
+
+stands-opened : (m : Overlap) (made since j : ℕ) (o : Opening) (xs : List Outside) → IsReached m made since → MayServe m → m.ended ≡ false
+    → StandsAt o xs j m → StandsAt (opening_behind m.delays m.levels (length (levels_of m)) o xs j) [] 0 (opened m)
+unfolding opened opening_behind state_after front_after with_changes
+stands-opened m made since j o xs from may going is =
+    let fresh = fresh-of m (kept from) may.1 in
+    let now : m.now ≡ (front_after m.delays m.levels o xs j).c = sym (fresh.last going) ∙ ap (λ (f : Front). f.c) is.front in
+    record {
+      state = is.state;
+      front =
+          ap₂ (λ b c. opening b (c + 1 + length (levels_of m)))
+          (left-is m m.closing (banks_behind m.delays m.levels o xs j) may.1 (is.banks going)) now;
+      table = fresh.none;
+      done = λ some. absurd (omega (arith, some));
+      before = All-nil (λ (x : Outside). x.done ≤ m.state.done);
+      banks = λ again. absurd (cc again);
+    }
+
+pub stands-ended : (m : Overlap) (made since j : ℕ) (o : Opening) (xs : List Outside) → IsReached m made since → MayServe m → m.ended ≡ false
+    → StandsAt o xs j m → StandsAt (opening_behind m.delays m.levels (length (levels_of m)) o xs j) [] 0 (ended m)
+stands-ended m made since j o xs from may going is =
+    subst (StandsAt (opening_behind m.delays m.levels (length (levels_of m)) o xs j) [] 0) (sym (ended-going m going))
+    (stands-opened m made since j o xs from may going is)
+
+with-table : (o : Opening) (t : Option ℕ) (xs : List Outside) (m : Overlap) → StandsAt o xs 0 m
+    → StandsAt (record o { table = t }) xs 0 (passed (record m { taken = t }))
+unfolding state_after front_after
+with-table o t xs m is = record {
+  state = is.state;
+  front = is.front;
+  table = refl;
+  done = λ some. absurd (omega (arith, some));
+  before = is.before;
+  banks = λ going. tt;
+}
+
+pub stands-interrupt : (m : Overlap) (i d ic k : ℕ) (o : Opening) (xs : List Outside) → answer m ≡ Interrupt i d ic k → StandsAt o xs 0 (ended m)
+    → StandsAt (record o { table = Some i }) xs 0 (settled m)
+unfolding answer
+stands-interrupt m i d ic k o xs is stands =
+    let told = taken-by (interrupt_due m) m.behind (rests m.state) m i d ic k is in
+    subst (StandsAt (record o { table = Some i }) xs 0) (sym (settled-taken m i told.0)) (with-table o (Some i) xs (ended m) stands)
+
+pub stands-missed : (m : Overlap) (k : ℕ) (o : Opening) (xs : List Outside) → m.owed ≡ true → answer m ≡ Missed k → StandsAt o xs 0 (ended m)
+    → StandsAt o xs 0 (settled m)
+unfolding answer settled
+stands-missed m k o xs owed is stands =
+    let told = missed-by (interrupt_due m) m.behind (rests m.state) m k is in
+    subst (StandsAt o xs 0) (sym (settled-missed m m.behind told.0 told.1 told.2))
+    (stands-passed (ended m) 0 o xs ((ended-rest m).owed ∙ owed) stands)
+
+pub waits-ended : (m : Overlap) → answer m ≡ Waits → settled m ≡ ended m
+unfolding answer settled
+waits-ended m is =
+    let told = waits-by (interrupt_due m) m.behind (rests m.state) m is in
+    rw (told.0, told.1) refl
+
+pub stands-card : (m : Overlap) (w : ℕ) (card : List ℕ) (o : Opening) (xs : List Outside) → StandsAt o xs 0 (ended m)
+    → StandsAt o (xs ++ record { done = m.state.done; change = ReadIn w (Some card) } ∷ []) 0 (read_in_by w (Some card) m)
+stands-card m w card o xs stands =
+    subst (λ (s : Machine). StandsAt o (xs ++ record { done = s.done; change = ReadIn w (Some card) } ∷ []) 0 (record (ended m) { state = read_in s w (Some card) }))
+    (ended-rest m).state (stands-changed (ended m) (ReadIn w (Some card)) 0 o xs stands)

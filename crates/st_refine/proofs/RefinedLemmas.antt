@@ -1,0 +1,305 @@
+-- What each call makes of the state and of the levels.
+use Rattle.std.specs.Prelude.{IsSome, if◌then◌else◌}
+use Rattle.std.proofs.Common.{◌≡◌, ℕ, ◌+◌, ◌≤◌, Bool, true, false, List, [], ◌∷◌, length, inl, inr, Option, None, Some, refl, sym, subst, ◌∙◌, ap, arith}
+use Rattle.std.proofs.lemmas.Bool.{eqb-true}
+use Rattle.st_state.specs.Machine.{Machine}
+use Rattle.st_prep.specs.Fetch.{address_by}
+use Rattle.st_prep.specs.Plan.{plan}
+use Rattle.st_exec.specs.Completion.{executed, guess, is_missed}
+use Rattle.st_exec.specs.Step.{interrupt, rests, step, address}
+use Rattle.st_exec.specs.Run.{read_in}
+use Rattle.st_exec.proofs.Runs.{step-done}
+use Rattle.st_rows.specs.Rows.{row, after}
+use Rattle.st_segment.specs.Entries.{entry}
+use Rattle.st_segment.specs.Ahead.{next_ahead, ahead, prepared_before}
+use Rattle.st_segment.proofs.StepLemmas.{guess-right, guess-missed}
+use Rattle.st_ahead.specs.Overlap.{Overlap, started, seen, with_counter, oldest_row, levels_of, interrupt_due}
+use Rattle.st_ahead.specs.Calls.{is_done, row_done, missed_counter, completed, ticked, dropped, ended, passed, settled, settled_by, answer, answer_by, read_in_by, dropped_by, MayServe}
+use Rattle.st_ahead.specs.Shown.{shown}
+use Rattle.st_ahead.specs.declared.events.Settled.TheVariants.{Goes, Interrupt, Missed, Waits}
+use Rattle.st_ahead.proofs.Settling.{due-taken}
+use Rattle.st_ahead.proofs.Standing.{guess-seen}
+use Rattle.st_refine.specs.Reached.{IsReached, MayTick}
+use Rattle.st_refine.specs.Refined.{IsUnwound, AddsOneAtMost}
+use Rattle.st_refine.proofs.LevelLists.{none-before, one-more, done-levels}
+use Rattle.st_refine.proofs.Kept.{IsIdle, IsPhase, IsKept, idle-of, fresh-of, kept, kept-ended, seen-idle, ended-rest, quiet, closing-cases}
+use Rattle.st_refine.proofs.SplitLemmas.{plan-address, shown-none}
+
+-- ---- a tick
+
+ticked-done : (m : Overlap) → is_done m ≡ true → ticked m ≡ completed m
+unfolding ticked
+ticked-done m done = ap (λ b. if b then completed m else record m { owed = true; closing = None }) done
+
+ticked-passed : (m : Overlap) → is_done m ≡ false → ticked m ≡ record m { owed = true; closing = None }
+unfolding ticked
+ticked-passed m passed_by = ap (λ b. if b then completed m else record m { owed = true; closing = None }) passed_by
+
+completed-state : (m : Overlap) → (completed m).state ≡ executed m.taken m.state
+unfolding completed
+completed-state m = refl
+
+completed-tick : (m : Overlap) → (shown (completed m)).tick ≡ m.now
+unfolding completed shown
+completed-tick m = refl
+
+completed-behind : (m : Overlap) → (completed m).behind ≡ missed_counter m
+unfolding completed
+completed-behind m = refl
+
+pub table-is : (m : Overlap) (made since : ℕ) → IsReached m made since → m.owed ≡ false → m.taken ≡ interrupt m.state
+table-is m made since from settled = (idle-of m (kept from) settled).1.table
+
+pub tick-state : (m : Overlap) (made since : ℕ) → IsReached m made since → MayTick m → is_done m ≡ true → (ticked m).state ≡ step m.state
+unfolding step
+tick-state m made since from may done =
+    ap (λ (x : Overlap). x.state) (ticked-done m done) ∙ completed-state m
+    ∙ ap (λ t. executed t m.state) (table-is m made since from may.settled)
+
+-- the levels behind the oldest one
+completed-levels : (m : Overlap) → IsKept m → IsIdle m → is_done m ≡ true
+    → levels_of m ≡ next_ahead m.delays m.levels m.taken m.state m.front ∷ levels_of (completed m)
+unfolding levels_of completed seen oldest_row
+completed-levels m is idle done =
+    let ds = m.delays in
+    let n = m.levels in
+    let t = m.taken in
+    let s = m.state in
+    let same : seen m ≡ s = seen-idle m idle.going idle.right in
+    let g = after ds n m.front (entry t s) in
+    let due : (row ds n m.front (entry t s)).c ≡ m.now =
+    ap (λ u. (row ds n m.front (entry t u)).c) (sym same) ∙ eqb-true (row ds n m.front (entry t (seen m))).c m.now done in
+    let next : with_counter (missed_counter m) (executed t s) ≡ guess t s =
+    guess-seen t s (executed t s) (is_missed (plan s t) s) (missed_counter m) refl refl refl
+    (guess-right t s is.machine is.indicator) (guess-missed t s is.machine is.indicator) in
+    ap (λ u. prepared_before m.now (ahead ds n n t u m.front)) same
+    ∙ done-levels ds n m.now t s m.front is.machine is.indicator is.some is.few due
+    ∙ ap (λ u. next_ahead ds n t s m.front ∷ prepared_before m.now (ahead ds n n None u g)) (sym next)
+    ∙ ap (λ u. next_ahead ds n t s m.front ∷ prepared_before m.now (ahead ds n n None (with_counter (missed_counter m) (executed t s)) (after ds n m.front (entry t u)))) (sym same)
+    ∙ ap (λ b. next_ahead ds n t s m.front ∷ prepared_before m.now (ahead ds n n None
+    (if b then executed t s else with_counter (missed_counter m) (executed t s)) (after ds n m.front (entry t (seen m))))) (sym idle.going)
+
+pub tick-oldest : (m : Overlap) (made since : ℕ) → IsReached m made since → MayTick m → is_done m ≡ true
+    → levels_of m ≡ next_ahead m.delays m.levels m.taken m.state m.front ∷ levels_of (ticked m)
+tick-oldest m made since from may done =
+    let is = kept from in
+    completed-levels m is (idle-of m is may.settled).1 done
+    ∙ ap (λ (x : Overlap). next_ahead m.delays m.levels m.taken m.state m.front ∷ levels_of x) (sym (ticked-done m done))
+
+address-is : (t : Option ℕ) (s : Machine) → t ≡ interrupt s → (plan s t).place.address ≡ address s
+unfolding address
+address-is t s table = plan-address s t ∙ ap (λ i. address_by i s) table
+
+pub tick-row : (m : Overlap) (made since : ℕ) → IsReached m made since → MayTick m → is_done m ≡ true
+    → ((row_done m).number ≡ (step m.state).done) × ((row_done m).address ≡ address m.state) × ((row_done m).c ≡ (shown (ticked m)).tick)
+tick-row m made since from may done = (
+  sym (step-done m.state),
+  address-is m.taken m.state (table-is m made since from may.settled),
+  sym (completed-tick m) ∙ ap (λ (x : Overlap). (shown x).tick) (sym (ticked-done m done)),
+)
+
+pub tick-missed : (m : Overlap) → is_done m ≡ true → (ticked m).behind ≡ missed_counter m
+tick-missed m done = ap (λ (x : Overlap). x.behind) (ticked-done m done) ∙ completed-behind m
+
+passed-levels : (m : Overlap) → levels_of (record m { owed = true; closing = None }) ≡ levels_of m
+unfolding levels_of seen
+passed-levels m = refl
+
+pub tick-passed : (m : Overlap) → is_done m ≡ false → ((ticked m).state ≡ m.state) × (levels_of (ticked m) ≡ levels_of m)
+tick-passed m later = (
+  ap (λ (x : Overlap). x.state) (ticked-passed m later),
+  ap levels_of (ticked-passed m later) ∙ passed-levels m,
+)
+
+-- ---- a settle leaves the state
+
+settled_by-state : (due behind : Option ℕ) (resting : Bool) (m : Overlap) → (settled_by due resting behind m).state ≡ m.state
+settled_by-state (Some i) behind resting m = (ended-rest m).state
+settled_by-state None behind true m = (ended-rest m).state
+settled_by-state None (Some h) false m = (ended-rest m).state
+settled_by-state None None false m = refl
+
+pub settled-state : (m : Overlap) → (settled m).state ≡ m.state
+unfolding settled
+settled-state m = settled_by-state (interrupt_due m) m.behind (rests m.state) m
+
+-- ---- what an answer says
+
+pub goes-by : (due behind : Option ℕ) (resting : Bool) (m : Overlap) → answer_by due resting behind m ≡ Goes
+    → (due ≡ None) × (resting ≡ false) × (behind ≡ None)
+goes-by (Some i) behind resting m is = absurd (cc is)
+goes-by None behind true m is = absurd (cc is)
+goes-by None (Some h) false m is = absurd (cc is)
+goes-by None None false m is = (refl, refl, refl)
+
+-- an interrupt, with what it tells
+pub taken-by : (due behind : Option ℕ) (resting : Bool) (m : Overlap) (i d ic k : ℕ) → answer_by due resting behind m ≡ Interrupt i d ic k
+    → (due ≡ Some i) × (d ≡ m.state.done) × (ic ≡ m.state.ic) × (k ≡ dropped m)
+taken-by (Some j) behind resting m i d ic k is =
+    let a : j ≡ i = cc is in
+    let b : m.state.done ≡ d = cc is in
+    let e : m.state.ic ≡ ic = cc is in
+    let f : dropped m ≡ k = cc is in
+    (ap (λ x. Some x) a, sym b, sym e, sym f)
+taken-by None behind true m i d ic k is = absurd (cc is)
+taken-by None (Some h) false m i d ic k is = absurd (cc is)
+taken-by None None false m i d ic k is = absurd (cc is)
+
+pub missed-by : (due behind : Option ℕ) (resting : Bool) (m : Overlap) (k : ℕ) → answer_by due resting behind m ≡ Missed k
+    → (due ≡ None) × (resting ≡ false) × IsSome behind × (k ≡ dropped m)
+missed-by (Some j) behind resting m k is = absurd (cc is)
+missed-by None behind true m k is = absurd (cc is)
+missed-by None (Some h) false m k is = let f : dropped m ≡ k = cc is in (refl, refl, refl, sym f)
+missed-by None None false m k is = absurd (cc is)
+
+pub waits-by : (due behind : Option ℕ) (resting : Bool) (m : Overlap) → answer_by due resting behind m ≡ Waits → (due ≡ None) × (resting ≡ true)
+waits-by (Some j) behind resting m is = absurd (cc is)
+waits-by None behind true m is = (refl, refl)
+waits-by None (Some h) false m is = absurd (cc is)
+waits-by None None false m is = absurd (cc is)
+
+-- ---- it goes on
+
+pub settled-goes : (m : Overlap) → (interrupt_due m ≡ None) × (rests m.state ≡ false) × (m.behind ≡ None) → settled m ≡ passed m
+unfolding settled
+settled-goes m why = rw (why.0, why.1, why.2) refl
+
+passed-more : (m : Overlap) → m.behind ≡ None → AddsOneAtMost (levels_of m) (levels_of (passed m))
+unfolding levels_of seen
+passed-more m right =
+    let new = prepared_before (m.now + 1) (ahead m.delays m.levels m.levels m.taken m.state m.front) in
+    subst (λ s. AddsOneAtMost (prepared_before m.now (ahead m.delays m.levels m.levels m.taken s m.front)) new) (same m.ended m.behind right)
+    (one-more m.delays m.levels m.now m.levels m.taken m.state m.front)
+  where
+    same : (b : Bool) (h : Option ℕ) → h ≡ None → m.state ≡ (if b then m.state else with_counter h m.state)
+    same true h none = refl
+    same false None none = refl
+    same false (Some h) none = absurd (cc none)
+
+pub goes-more : (m : Overlap) → answer m ≡ Goes → AddsOneAtMost (levels_of m) (levels_of (settled m))
+unfolding answer
+goes-more m is =
+    let why = goes-by (interrupt_due m) m.behind (rests m.state) m is in
+    subst (λ (x : Overlap). AddsOneAtMost (levels_of m) (levels_of x)) (sym (settled-goes m why)) (passed-more m why.2)
+
+-- ---- a segment ends
+
+-- no level is left where the front lies behind the tick
+pub empty-levels : (m : Overlap) → m.now ≤ m.front.p + 2 → levels_of m ≡ []
+unfolding levels_of
+empty-levels m early = none-before m.delays m.levels m.now m.levels m.taken (seen m) m.front early
+
+unwound-by : (m : Overlap) → m.now ≤ m.front.p + 2 → IsUnwound m
+unwound-by m early =
+    let none = empty-levels m early in
+    record { levels = none; index = shown-none m (ap length none) }
+
+ended-late : (m : Overlap) → IsKept m → IsSome m.closing → m.now + 1 ≤ (ended m).front.p
+ended-late m is some =
+    let rest = ended-rest m in
+    let fresh = fresh-of (ended m) (kept-ended m is some) (subst IsSome (sym rest.closing) some) in
+    omega (arith, rest.now, (fresh.start rest.ended).0)
+
+unwound-ended : (m : Overlap) → IsKept m → IsSome m.closing → IsUnwound (ended m)
+unwound-ended m is some = unwound-by (ended m) (omega (arith, (ended-rest m).now, ended-late m is some))
+
+unwound-passed : (m : Overlap) (t : Option ℕ) → IsKept m → IsSome m.closing → IsUnwound (passed (record (ended m) { taken = t }))
+unwound-passed m t is some = unwound-by (passed (record (ended m) { taken = t })) (omega (arith, (ended-rest m).now, ended-late m is some))
+
+dropped-is : (m : Overlap) → IsKept m → IsSome m.closing → dropped m ≡ length (levels_of m)
+unfolding dropped
+dropped-is m is some =
+    let fresh = fresh-of m is some in
+    by-end m.ended (λ over. let none = empty-levels m (omega (arith, (fresh.start over).0)) in ap length none)
+  where
+    by-end : (b : Bool) → (b ≡ true → length (levels_of m) ≡ 0) → (if b then 0 else length (levels_of m)) ≡ length (levels_of m)
+    by-end true none = sym (none refl)
+    by-end false none = refl
+
+-- an entry was done where something comes of the settle
+closing-due : (m : Overlap) (i : ℕ) → IsKept m → interrupt_due m ≡ Some i → IsSome m.closing
+closing-due m i is due = elim (closing-cases m.closing) [
+  | inl none ↦ let idle : IsIdle m = subst (λ c. IsPhase c m) none is.phase in absurd (cc (sym due ∙ quiet m idle))
+  | inr some ↦ some
+]
+
+none-some : (o : Option ℕ) → o ≡ None → IsSome o → ⊥
+none-some None none some = cc some
+none-some (Some h) none some = cc none
+
+closing-missed : (m : Overlap) → IsKept m → IsSome m.behind → IsSome m.closing
+closing-missed m is missed = elim (closing-cases m.closing) [
+  | inl none ↦ let idle : IsIdle m = subst (λ c. IsPhase c m) none is.phase in
+      absurd (none-some m.behind idle.right missed)
+  | inr some ↦ some
+]
+
+closing-rests : (m : Overlap) → IsKept m → rests m.state ≡ true → IsSome m.closing
+closing-rests m is resting = elim (closing-cases m.closing) [
+  | inl none ↦ let idle : IsIdle m = subst (λ c. IsPhase c m) none is.phase in absurd (cc (sym resting ∙ idle.awake))
+  | inr some ↦ some
+]
+
+pub settled-taken : (m : Overlap) (i : ℕ) → interrupt_due m ≡ Some i → settled m ≡ passed (record (ended m) { taken = Some i })
+unfolding settled
+settled-taken m i due = ap (λ t. settled_by t (rests m.state) m.behind m) due
+
+pub interrupt-unwinds : (m : Overlap) (made since i d ic k : ℕ) → IsReached m made since → m.owed ≡ true → answer m ≡ Interrupt i d ic k
+    → (interrupt m.state ≡ Some i) × (d ≡ m.state.done) × (ic ≡ m.state.ic) × (k ≡ length (levels_of m)) × ((settled m).taken ≡ Some i)
+    × IsUnwound (settled m)
+unfolding answer
+interrupt-unwinds m made since i d ic k from owed is =
+    let kept_is = kept from in
+    let told = taken-by (interrupt_due m) m.behind (rests m.state) m i d ic k is in
+    let some = closing-due m i kept_is told.0 in
+    let after_it = settled-taken m i told.0 in (
+      (due-taken m i told.0).1,
+      told.1,
+      told.2,
+      told.3 ∙ dropped-is m kept_is some,
+      ap (λ (x : Overlap). x.taken) after_it,
+      subst IsUnwound (sym after_it) (unwound-passed m (Some i) kept_is some),
+    )
+
+pub settled-missed : (m : Overlap) (behind : Option ℕ) → interrupt_due m ≡ None → rests m.state ≡ false → IsSome behind
+    → settled_by (interrupt_due m) (rests m.state) behind m ≡ passed (ended m)
+settled-missed m None due goes missed = absurd (cc missed)
+settled-missed m (Some h) due goes missed = rw (due, goes) refl
+
+pub missed-unwinds : (m : Overlap) (made since k : ℕ) → IsReached m made since → m.owed ≡ true → answer m ≡ Missed k
+    → (k ≡ length (levels_of m)) × IsUnwound (settled m)
+unfolding answer settled
+missed-unwinds m made since k from owed is =
+    let kept_is = kept from in
+    let told = missed-by (interrupt_due m) m.behind (rests m.state) m k is in
+    let some = closing-missed m kept_is told.2 in
+    let after_it = settled-missed m m.behind told.0 told.1 told.2 in (
+      told.3 ∙ dropped-is m kept_is some,
+      subst IsUnwound (sym after_it) (unwound-passed m (ended m).taken kept_is some),
+    )
+
+pub waits-unwinds : (m : Overlap) (made since : ℕ) → IsReached m made since → m.owed ≡ true → answer m ≡ Waits
+    → (rests m.state ≡ true) × IsUnwound (settled m)
+unfolding answer settled
+waits-unwinds m made since from owed is =
+    let kept_is = kept from in
+    let told = waits-by (interrupt_due m) m.behind (rests m.state) m is in
+    let some = closing-rests m kept_is told.1 in
+    let after_it : settled_by (interrupt_due m) (rests m.state) m.behind m ≡ ended m = rw (told.0, told.1) refl in
+    (told.1, subst IsUnwound (sym after_it) (unwound-ended m kept_is some))
+
+pub stop-unwinds : (m : Overlap) (made since : ℕ) → IsReached m made since → MayServe m
+    → ((ended m).state ≡ m.state) × (dropped m ≡ length (levels_of m)) × IsUnwound (ended m)
+stop-unwinds m made since from may =
+    ((ended-rest m).state, dropped-is m (kept from) may.1, unwound-ended m (kept from) may.1)
+
+pub card-unwinds : (m : Overlap) (made since w : ℕ) (card : List ℕ) → IsReached m made since → MayServe m
+    → (dropped_by (Some card) m ≡ length (levels_of m)) × IsUnwound (read_in_by w (Some card) m)
+card-unwinds m made since w card from may =
+    let is = kept from in (
+      dropped-is m is may.1,
+      unwound-by (record (ended m) { state = read_in m.state w (Some card) }) (omega (arith, (ended-rest m).now, ended-late m is may.1)),
+    )
+
+pub start-unwound : (ds : List ℕ) (n : ℕ) (s : Machine) → IsUnwound (started ds n s)
+start-unwound ds n s = unwound-by (started ds n s) (omega arith)

@@ -1,0 +1,201 @@
+-- Signals, and orders that bring no card, leave what is shown of the levels.
+use Rattle.std.specs.Prelude.{IsSome, map, replicate, nat_lt, nat_le, option_map, ◌-◌, if◌then◌else◌}
+use Rattle.std.proofs.Common.{◌≡◌, ℕ, zero, suc, ◌<◌, ◌≤◌, Bool, true, false, List, [], ◌∷◌, ◌++◌, length, inl, inr, Option, None, Some, refl, sym, subst, ◌∙◌, ap, ap₂, arith}
+use Rattle.std.proofs.lemmas.Bool.{ltb-true}
+use Rattle.std.proofs.lemmas.List.{length-map}
+use Rattle.st_state.specs.Machine.{Machine, IsMachine}
+use Rattle.st_state.specs.Interrupts.{signalled}
+use Rattle.st_prep.specs.Fetch.{index_words}
+use Rattle.st_prep.specs.Plan.{plan}
+use Rattle.st_prep.specs.BesideOrders.{AreAlikeBesideOrders}
+use Rattle.st_prep.specs.declared.entries.Prepared.{Prepared}
+use Rattle.st_prep.proofs.BesideLemmas.{plan-beside_ahead}
+use Rattle.st_exec.specs.Completion.{guess}
+use Rattle.st_exec.proofs.BesideEntries.{beside-signalled}
+use Rattle.st_rows.specs.Rows.{row, after, tick_c}
+use Rattle.st_rows.specs.declared.entry.Entry.{Entry}
+use Rattle.st_rows.specs.declared.front.Front.{Front}
+use Rattle.st_rows.specs.declared.front.Row.{Row}
+use Rattle.st_segment.specs.Entries.{entry}
+use Rattle.st_segment.specs.Alone.{RunAhead}
+use Rattle.st_segment.specs.Guesses.{guesses, split_words}
+use Rattle.st_segment.specs.Ahead.{Ahead, next_ahead, ahead, prepared_before}
+use Rattle.st_segment.proofs.GuessLemmas.{guess-machine}
+use Rattle.st_segment.proofs.SameReading.{same-index}
+use Rattle.st_segment.proofs.PassedOver.{entry-same, passed-over}
+use Rattle.st_ahead.specs.Overlap.{Overlap, seen, with_counter, levels_of, last_tick}
+use Rattle.st_ahead.specs.Calls.{signalled_by, MaySignal}
+use Rattle.st_ahead.specs.Shown.{kept_by, level_shown, shown}
+use Rattle.st_ahead.specs.declared.events.LevelView.{LevelView}
+use Rattle.st_refine.specs.Reached.{IsReached}
+use Rattle.st_refine.specs.Refined.{IsStill}
+use Rattle.st_refine.proofs.LevelLists.{not-alone, alone-before, entry-free}
+use Rattle.st_refine.proofs.Kept.{IsKept, fresh-of, kept}
+use Rattle.st_refine.proofs.SplitLemmas.{seen-machine, shown-index, shown-none}
+use Rattle.st_refine.proofs.RefinedLemmas.{empty-levels}
+
+abbrev shows : ℕ → List Ahead → List (Option LevelView)
+shows tick xs = map (λ a. Some (level_shown tick a)) xs
+
+-- ---- entries that are prepared before the last one is done are not done alone
+
+guess-alike : (s u : Machine) → IsMachine s → AreAlikeBesideOrders s u → (plan s None).serial ≡ false
+    → AreAlikeBesideOrders (guess None s) (guess None u)
+unfolding guesses RunAhead
+guess-alike s u m alike free = (passed-over 1 s u m alike (free, tt)).1
+
+behind-later : (ds : List ℕ) (n now : ℕ) (f : Front) (e : Entry) → now ≤ f.c → now ≤ (after ds n f e).c
+unfolding after tick_c
+behind-later ds n now f e late = omega arith
+
+-- a level by its plan and its row
+abbrev level-by : ℕ → Prepared → Row → LevelView
+level-by tick p r = record {
+  address = p.place.address;
+  p = r.p;
+  index = option_map (λ c. c.number) p.index;
+  kept = kept_by p.index;
+  ready = nat_le r.r tick;
+}
+
+-- the same test, and what is shown of the levels is the same where it is true
+both-if : (tick : ℕ) (b : Bool) (x y : Ahead) (xs ys : List Ahead)
+    → (b ≡ true → (level_shown tick x ≡ level_shown tick y) × (shows tick xs ≡ shows tick ys))
+    → shows tick (if b then x ∷ xs else []) ≡ shows tick (if b then y ∷ ys else [])
+both-if tick true x y xs ys same = ap₂ (λ l ls. Some l ∷ ls) (same refl).0 (same refl).1
+both-if tick false x y xs ys same = refl
+
+run-if : (b : Bool) (x : Ahead) (xs : List Ahead) (s : Machine) → (b ≡ true → RunAhead (suc (length xs)) None s)
+    → RunAhead (length (if b then x ∷ xs else [])) None s
+unfolding RunAhead
+run-if true x xs s run = run refl
+run-if false x xs s run = tt
+
+module _ (ds : List ℕ) (n now : ℕ) where
+  free-early : (s : Machine) (f : Front) → now ≤ f.c → nat_lt (row ds n f (entry None s)).p now ≡ true → (plan s None).serial ≡ false
+  free-early s f late early =
+      let e = entry None s in
+      let p : (row ds n f e).p < now = ltb-true (row ds n f e).p now early in
+      entry-free None s (not-alone e.serial (λ alone.
+      let behind : f.c < (row ds n f e).p = alone-before ds n f e alone in
+      omega (arith, behind, p, late)))
+
+  run-all : (k : ℕ) (s : Machine) (f : Front) → IsMachine s → now ≤ f.c → RunAhead (length (prepared_before now (ahead ds n k None s f))) None s
+  unfolding ahead prepared_before RunAhead
+  run-all zero s f m late = tt
+  run-all (suc k) s f m late =
+      let g = after ds n f (entry None s) in
+      run-if (nat_lt (row ds n f (entry None s)).p now) (next_ahead ds n None s f) (prepared_before now (ahead ds n k None (guess None s) g)) s
+      (λ early. (free-early s f late early, run-all k (guess None s) g (guess-machine None s m tt) (behind-later ds n now f (entry None s) late)))
+
+  shows-same : (tick k : ℕ) (s u : Machine) (f : Front) → IsMachine s → AreAlikeBesideOrders s u → now ≤ f.c
+      → shows tick (prepared_before now (ahead ds n k None s f)) ≡ shows tick (prepared_before now (ahead ds n k None u f))
+  unfolding ahead prepared_before
+  shows-same tick zero s u f m alike late = refl
+  shows-same tick (suc k) s u f m alike late =
+      let e = entry None s in
+      let g = after ds n f e in
+      let before = λ (xs : List Ahead). prepared_before now xs in
+      both-if tick (nat_lt (row ds n f e).p now) (next_ahead ds n None s f)
+      (record { state = u; table = None; front = f; entry = e; row = row ds n f e })
+      (before (ahead ds n k None (guess None s) g)) (before (ahead ds n k None (guess None u) g))
+      (λ early.
+      let free = free-early s f late early in (
+        ap (λ p. level-by tick p (row ds n f e)) (sym (plan-beside_ahead s u None alike free)),
+        shows-same tick k (guess None s) (guess None u) g (guess-machine None s m tt) (guess-alike s u m alike free) (behind-later ds n now f e late),
+      ))
+      ∙ ap (λ (x : Entry). shows tick (if nat_lt (row ds n f x).p now
+      then record { state = u; table = None; front = f; entry = x; row = row ds n f x } ∷ before (ahead ds n k None (guess None u) (after ds n f x))
+      else [])) (sym (entry-same None s u alike))
+
+-- ---- what is shown
+
+-- levels that are shown in the same way
+still-by : (m x : Overlap) → last_tick x ≡ last_tick m → shows (last_tick m) (levels_of m) ≡ shows (last_tick m) (levels_of x) → (shown x).x ≡ (shown m).x
+    → IsStill m x
+unfolding shown
+still-by m x tick levels index =
+    let many : length (levels_of x) ≡ length (levels_of m) =
+    sym (length-map (levels_of x) (λ a. Some (level_shown (last_tick m) a)))
+    ∙ ap length (sym levels) ∙ length-map (levels_of m) (λ a. Some (level_shown (last_tick m) a)) in
+    record {
+      levels =
+          ap (λ t. shows t (levels_of x) ++ replicate (8 - length (levels_of x)) None) tick
+          ∙ ap₂ (λ ls k. ls ++ replicate (8 - k) None) (sym levels) many;
+      index = index;
+    }
+
+-- without levels
+still-empty : (m x : Overlap) → last_tick x ≡ last_tick m → levels_of m ≡ [] → levels_of x ≡ [] → index_words x.state ≡ index_words m.state → IsStill m x
+still-empty m x tick old new same =
+    still-by m x tick (ap (shows (last_tick m)) (old ∙ sym new))
+    (shown-none x (ap length new) ∙ same ∙ sym (shown-none m (ap length old)))
+
+-- ---- behind a tick at which an entry was done
+
+counted-alike : (c : Option ℕ) (s u : Machine) → AreAlikeBesideOrders s u → AreAlikeBesideOrders (with_counter c s) (with_counter c u)
+counted-alike None s u is = is
+counted-alike (Some h) s u is = record {
+  size = is.size;
+  words = is.words;
+  ic = refl;
+  enabled = is.enabled;
+  waiting = is.waiting;
+  done = is.done;
+}
+
+seen-alike : (m : Overlap) (u : Machine) → AreAlikeBesideOrders m.state u → AreAlikeBesideOrders (seen m) (seen (record m { state = u }))
+unfolding seen
+seen-alike m u is = by-end m.ended
+  where
+    by-end : (b : Bool) → AreAlikeBesideOrders (if b then m.state else with_counter m.behind m.state) (if b then u else with_counter m.behind u)
+    by-end true = is
+    by-end false = counted-alike m.behind m.state u is
+
+still-going : (m : Overlap) (u : Machine) → IsKept m → m.taken ≡ None → m.now ≤ m.front.c → AreAlikeBesideOrders m.state u
+    → IsStill m (record m { state = u })
+unfolding levels_of
+still-going m u is none late alike =
+    let x = record m { state = u } in
+    let tick = last_tick m in
+    let s = seen m in
+    let v = seen x in
+    let machine : IsMachine s = seen-machine m is in
+    let both = seen-alike m u alike in
+    let ds = m.delays in
+    let n = m.levels in
+    let at = λ (t : Option ℕ) (w : Machine). prepared_before m.now (ahead ds n n t w m.front) in
+    let same : shows tick (levels_of m) ≡ shows tick (levels_of x) =
+    ap (λ t. shows tick (at t s)) none ∙ shows-same ds n m.now tick n s v m.front machine both late ∙ ap (λ t. shows tick (at t v)) (sym none) in
+    let many : length (levels_of x) ≡ length (levels_of m) =
+    sym (length-map (levels_of x) (λ a. Some (level_shown tick a))) ∙ ap length (sym same) ∙ length-map (levels_of m) (λ a. Some (level_shown tick a)) in
+    let run : RunAhead (length (levels_of m)) None s =
+    subst (λ t. RunAhead (length (at t s)) None s) (sym none) (run-all ds n m.now n s m.front machine late) in
+    still-by m x refl same
+    (shown-index x
+    ∙ ap₂ (λ k t. split_words k t v) many none
+    ∙ (passed-over (length (levels_of m)) s v machine both run).2
+    ∙ ap (λ t. split_words (length (levels_of m)) t s) (sym none)
+    ∙ sym (shown-index m))
+
+pub still-done : (m : Overlap) (u : Machine) → IsKept m → IsSome m.closing → AreAlikeBesideOrders m.state u → IsStill m (record m { state = u })
+still-done m u is some alike = by-end m.ended refl
+  where
+    by-end : (b : Bool) → m.ended ≡ b → IsStill m (record m { state = u })
+    by-end true over =
+        let early = ((fresh-of m is some).start over).0 in
+        still-empty m (record m { state = u }) refl (empty-levels m (omega (arith, early))) (empty-levels (record m { state = u }) (omega (arith, early)))
+        (same-index m.state u alike)
+    by-end false going =
+        let fresh = fresh-of m is some in
+        still-going m u is fresh.none (omega (arith, fresh.last going)) alike
+
+-- before the first tick
+still-first : (m : Overlap) (u : Machine) → m.now ≡ 0 → AreAlikeBesideOrders m.state u → IsStill m (record m { state = u })
+still-first m u first alike =
+    still-empty m (record m { state = u }) refl (empty-levels m (omega (arith, first))) (empty-levels (record m { state = u }) (omega (arith, first)))
+    (same-index m.state u alike)
+
+pub still-signalled : (m : Overlap) (made since i : ℕ) → IsReached m made since → MaySignal m → IsStill m (signalled_by i m)
+still-signalled m made since i from (inl first) = still-first m (signalled m.state i) first.1 (beside-signalled m.state i)
+still-signalled m made since i from (inr done) = still-done m (signalled m.state i) (kept from) done.1 (beside-signalled m.state i)

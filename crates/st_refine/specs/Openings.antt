@@ -1,0 +1,94 @@
+-- The opening of a segment, and a machine that stands at it.
+use Rattle.std.specs.Prelude.{ℕ, zero, suc, ◌≡◌, ◌+◌, ◌≤◌, ◌==◌, false, if◌then◌else◌, List, [], ◌∷◌, ◌++◌, All, Option, None, IfSome}
+use Rattle.st_state.specs.Machine.{Machine}
+use Rattle.st_state.specs.Interrupts.{signalled}
+use Rattle.st_exec.specs.Completion.{guess}
+use Rattle.st_exec.specs.Step.{step}
+use Rattle.st_exec.specs.Run.{read_in, printed_out}
+use Rattle.st_banks.specs.declared.answers.LastAnswers.{LastAnswers}
+use Rattle.st_rows.specs.Rows.{opening, row, after}
+use Rattle.st_rows.specs.Asked.{asked, made_before}
+use Rattle.st_rows.specs.declared.front.Front.{Front}
+use Rattle.st_segment.specs.Entries.{entry}
+use Rattle.st_segment.specs.Guesses.{table_behind}
+use Rattle.st_segment.specs.Ahead.{ahead, reads_before}
+use Rattle.st_ahead.specs.Overlap.{Overlap, started, last_tick}
+
+-- ---- changes from outside
+
+-- a signal; the order of the reader, for the area at a word, with a card or without one; that of the printer
+pub data Change : Type 0 where
+  Signalled : ℕ → Change
+  ReadIn : ℕ → Option (List ℕ) → Change
+  PrintedOut : Change
+
+abbrev pub changed : Change → Machine → Machine
+changed (Signalled i) s = signalled s i
+changed (ReadIn w card) s = read_in s w card
+changed PrintedOut s = printed_out s
+
+-- a change, with the number of instructions that were done when it came
+pub record Outside : Type 0 where
+  pub done : ℕ
+  pub change : Change
+
+-- those that came when as many were done as in this state, one after another
+unfoldable pub with_changes : List Outside → Machine → Machine
+with_changes [] s = s
+with_changes (x ∷ xs) s = with_changes xs (if x.done == s.done then changed x.change s else s)
+
+-- ---- an opening
+
+-- the first state of a segment, the interrupt whose table instruction comes first, if it is one, and the front that the segment starts with
+pub record Opening : Type 0 where
+  pub state : Machine
+  pub table : Option ℕ
+  pub front : Front
+
+-- that of the first segment
+abbrev pub first_opening : Machine → Opening
+first_opening s = record { state = s; table = None; front = (started [] 0 s).front }
+
+-- the state after j steps from it, with changes from outside
+unfoldable pub state_after : Opening → List Outside → ℕ → Machine
+state_after o changes zero = with_changes changes o.state
+state_after o changes (suc j) = with_changes changes (step (state_after o changes j))
+
+-- the front behind its first j entries, with the delays ds and n levels
+unfoldable pub front_after : List ℕ → ℕ → Opening → List Outside → ℕ → Front
+front_after ds n o changes zero = o.front
+front_after ds n o changes (suc j) =
+    after ds n (front_after ds n o changes j) (entry (table_behind j o.table) (state_after o changes j))
+
+-- the last answers of the banks where it ends at the completion of the last of them: of the reads of that entry and of those behind it, by the
+-- guess, those are made that are accepted before that tick; the reads of earlier entries are all accepted before
+unfoldable pub banks_behind : List ℕ → ℕ → Opening → List Outside → ℕ → LastAnswers
+banks_behind ds n o changes zero = o.front.bus.banks
+banks_behind ds n o changes (suc j) =
+    let s = state_after o changes j in
+    let t = table_behind j o.table in
+    let f = front_after ds n o changes j in
+    let e = entry t s in
+    let c = (row ds n f e).c in
+    (made_before ds c (asked ds n f e ++ reads_before ds n c (ahead ds n (suc n) None (guess t s) (after ds n f e))) f.bus).banks
+
+-- the opening of the next segment, where that one ends there and so many entries are dropped
+unfoldable pub opening_behind : List ℕ → ℕ → ℕ → Opening → List Outside → ℕ → Opening
+opening_behind ds n dropped o changes j = record {
+  state = state_after o changes j;
+  table = None;
+  front = opening (banks_behind ds n o changes j) ((front_after ds n o changes j).c + 1 + dropped);
+}
+
+-- ---- standing at it
+
+-- j entries of the segment are done: the state is the one after j steps, with the changes so far, and the front is the one behind j entries; the
+-- first entry is the table instruction until it is done; all these entries are done by the tick that was made last; where the segment may end
+-- at this tick, the banks are as the reads that are accepted before it leave them
+pub record StandsAt (o : Opening) (changes : List Outside) (j : ℕ) (m : Overlap) : Type 0 where
+  pub state : m.state ≡ state_after o changes j
+  pub front : m.front ≡ front_after m.delays m.levels o changes j
+  pub table : m.taken ≡ table_behind j o.table
+  pub done : 1 ≤ j → m.front.c ≤ last_tick m
+  pub before : All (λ x. x.done ≤ m.state.done) changes
+  pub banks : m.ended ≡ false → IfSome m.closing (λ b. b ≡ banks_behind m.delays m.levels o changes j)

@@ -1,0 +1,14 @@
+//! Completions come in time.
+ghost use Rattle.std.specs.Prelude.{ℕ, ◌+◌, ◌*◌, ◌≤◌};
+ghost use Rattle.st_rows.specs.Ranges.{AreDelays};
+ghost use Rattle.st_ahead.specs.Overlap.{Overlap};
+ghost use Rattle.st_refine.specs.Reached.{IsReached};
+
+// The number of ticks since the last completion, or since the machine was made, never exceeds 64 times (L and four), for any number L
+// that no delay exceeds.
+
+/// Since the last instruction was done, or since the start, at most 64 times (the longest delay and four) ticks were made.
+pub fn completions_come_in_time()
+    ensures { (m : Overlap) (made since most : ℕ) → IsReached m made since → AreDelays most m.delays →
+        since ≤ 64 * (most + 4) }
+{}
