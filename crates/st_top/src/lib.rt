@@ -6,6 +6,7 @@
 mod answer;
 mod block;
 mod command;
+mod delays;
 mod execution;
 mod layer_error;
 mod listing;
@@ -21,6 +22,7 @@ mod scene;
 
 pub use answer::{Answer, Status};
 pub use command::Command;
+pub use delays::marks_are_the_report;
 pub use objects::{lines_are_the_deck, lines_are_the_object_text};
 pub use program::stretch;
 
