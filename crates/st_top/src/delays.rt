@@ -16,3 +16,11 @@ pub fn marks_are_the_report()
     ensures output { (command : CommandOf) (job : List ℕ) →
         all_lines (marked_output command job) ≡ lines_of (output_of command job).events }
 {}
+
+/// With other delays, and with other cards `/SNAP`, `/TIME` and `/CHART`, a run has the same lines, in the same
+/// order, but for those that are marked: rows, dropped entries, ticks, and snapshots with all their lines.
+pub fn delays_change_nothing_but_the_timetable()
+    ensures { (asked : Asked) (ds snaps : List ℕ) (time chart : Bool) (start : Scene) →
+        unmarked (marked_run (record asked { delays = ds; snaps = snaps; time = time; chart = chart }) start)
+            ≡ unmarked (marked_run asked start) }
+{}
