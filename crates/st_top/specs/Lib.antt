@@ -10,3 +10,4 @@ pub mod Output
 pub mod Answers
 pub mod Layers
 pub mod Running
+pub mod Marks

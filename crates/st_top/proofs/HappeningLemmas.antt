@@ -1,0 +1,260 @@
+-- The lines of a report that are not marked are those of what happens in the plain run.
+use Rattle.std.proofs.Common.{◌≡◌, ℕ, Bool, true, false, if◌then◌else◌, List, [], ◌∷◌, ◌++◌, map, reverse, zero, suc, Option, None, Some, refl, sym, ◌∙◌, ap, subst, ◌+◌}
+use Rattle.std.proofs.lemmas.List.{map-append, append-nil}
+use Rattle.std.proofs.lemmas.Grind.{flat_map-append}
+use Rattle.std.specs.List.{flat_map}
+use Rattle.st_card.specs.Controls.{Asked}
+use Rattle.st_state.specs.Machine.{Machine}
+use Rattle.st_state.specs.Orders.{next_device}
+use Rattle.st_state.specs.declared.devices.Order.{Order}
+use Rattle.st_state.specs.declared.devices.Device.{Device}
+use Rattle.st_state.specs.declared.devices.Device.TheVariants.{Reader, Printer}
+use Rattle.st_exch.specs.Printer.{printed}
+use Rattle.st_exec.specs.Step.{rests, interrupt}
+use Rattle.st_exec.specs.Run.{Scene, Happening, Prints, Interrupts, Executes, Ends, settled, with_due_signals, with_due_orders, with_reader, with_printer, if_due, with_device, with_order_at_rest, with_wait, interrupts_by, nothing}
+use Rattle.st_report.specs.Line.{prt_line, trc_line, row_line, drop_line, int_line, time_line, end_line, done_line, ticks_line}
+use Rattle.st_run.specs.Events.{Event, Timed, Completes, Drops, Shows, Happens, plain as plain_event, untimed, drop_of, snapshot}
+use Rattle.st_run.specs.Moments.{Moment, Standing, start, next_state, standing, next_moment, ends_segment}
+use Rattle.st_run.specs.TimedRun.{at, ticks_before, ticks_from, drops, drops_if_ends, happening_at, between, snapshot_at, completion, until_done, last_snapshot_at, last_events, timed_from}
+use Rattle.st_run.specs.Told.{Told, told, told_of, what_of}
+use Rattle.st_run.proofs.DoneLemmas.{settled-done}
+use Rattle.st_top.specs.Marks.{Marked, marked, plain, unmarked, marked_lines, marked_report}
+use Rattle.st_top.specs.Report.{line_if, block, snapshot_lines}
+
+-- what holds both ways holds of what is chosen
+of_choice : {A : Type 0} (P : A → Type 0) (b : Bool) (x y : A) → P x → P y → P (if b then x else y)
+of_choice P true x y p q = p
+of_choice P false x y p q = q
+
+-- ---- lines that are not marked
+
+pub unmarked-append : (xs ys : List Marked) → unmarked (xs ++ ys) ≡ unmarked xs ++ unmarked ys
+unfolding unmarked
+unmarked-append [] ys = refl
+unmarked-append (x ∷ xs) ys = append-if (unmarked xs) (unmarked ys) (unmarked (xs ++ ys)) x.varies x.line (unmarked-append xs ys) where
+  append-if : (fs bs cs : List (List ℕ)) (b : Bool) (line : List ℕ) → cs ≡ fs ++ bs
+      → (if b then cs else line ∷ cs) ≡ (if b then fs else line ∷ fs) ++ bs
+  append-if fs bs cs true line same = same
+  append-if fs bs cs false line same = ap (λ rest. line ∷ rest) same
+
+pub unmarked-plain : (lines : List (List ℕ)) → unmarked (plain lines) ≡ lines
+unfolding unmarked
+unmarked-plain [] = refl
+unmarked-plain (x ∷ xs) = ap (λ rest. x ∷ rest) (unmarked-plain xs)
+
+pub unmarked-marked : (lines : List (List ℕ)) → unmarked (marked lines) ≡ []
+unfolding unmarked
+unmarked-marked [] = refl
+unmarked-marked (x ∷ xs) = unmarked-marked xs
+
+pub unmarked-before : (xs ys : List (List ℕ)) → unmarked (plain xs ++ marked ys) ≡ xs
+unmarked-before xs ys =
+    unmarked-append (plain xs) (marked ys)
+    ∙ ap (λ rest. unmarked (plain xs) ++ rest) (unmarked-marked ys)
+    ∙ append-nil (unmarked (plain xs))
+    ∙ unmarked-plain xs
+
+pub unmarked-between : (xs ys zs : List (List ℕ)) → unmarked (plain xs ++ marked ys ++ plain zs) ≡ xs ++ zs
+unmarked-between xs ys zs =
+    unmarked-append (plain xs ++ marked ys) (plain zs)
+    ∙ ap (λ front. front ++ unmarked (plain zs)) (unmarked-before xs ys)
+    ∙ ap (λ rest. xs ++ rest) (unmarked-plain zs)
+
+-- ---- what happens in the plain run, as lines
+
+pub happening_lines : Bool → List (ℕ × ℕ) → Happening → List (List ℕ)
+happening_lines trace dumps (Prints s words) = prt_line (printed words) ∷ []
+happening_lines trace dumps (Interrupts s i) = int_line i s.done ∷ block dumps s
+happening_lines trace dumps (Executes s address) = line_if trace (trc_line s.done address)
+happening_lines trace dumps (Ends s rests) = end_line rests ∷ done_line s.done ∷ block dumps s
+
+-- an event comes when as many entries are done as its state says
+pub HappensAt : ℕ → Happening → Type 0
+HappensAt done (Prints s words) = Unit {0}
+HappensAt done (Interrupts s i) = done ≡ s.done
+HappensAt done (Executes s address) = done ≡ s.done
+HappensAt done (Ends s rests) = done ≡ s.done
+
+pub ComesAt : ℕ → Event → Type 0
+ComesAt done (Completes s address row) = done ≡ s.done
+ComesAt done (Drops address p) = Unit {0}
+ComesAt done (Shows tick s levels) = Unit {0}
+ComesAt done (Happens happening) = HappensAt done happening
+
+pub AreCounted : List Timed → Type 0
+AreCounted [] = Unit {0}
+AreCounted (x ∷ xs) = ComesAt x.done x.event × AreCounted xs
+
+happens-lines : (asked : Asked) (done tick : ℕ) (h : Happening) → HappensAt done h
+    → unmarked (marked_lines asked (record { done = done; tick = tick; what = what_of (Happens h) }))
+    ≡ happening_lines asked.trace asked.dumps h
+unfolding unmarked happening_lines HappensAt
+happens-lines asked done tick (Prints s words) is = refl
+happens-lines asked done tick (Interrupts s i) is =
+    unmarked-between (int_line i done ∷ []) (line_if asked.time (time_line tick)) (block asked.dumps s)
+    ∙ ap (λ (d : ℕ). int_line i d ∷ block asked.dumps s) is
+happens-lines asked done tick (Executes s address) is =
+    unmarked-before (line_if asked.trace (trc_line done address)) (line_if asked.chart (row_line done address 0 0 0))
+    ∙ ap (λ (d : ℕ). line_if asked.trace (trc_line d address)) is
+happens-lines asked done tick (Ends s rests) is =
+    unmarked-between (end_line rests ∷ done_line done ∷ []) (line_if asked.time (ticks_line tick)) (block asked.dumps s)
+    ∙ ap (λ (d : ℕ). end_line rests ∷ done_line d ∷ block asked.dumps s) is
+
+event-lines : (asked : Asked) (done tick : ℕ) (e : Event) → ComesAt done e
+    → unmarked (marked_lines asked (record { done = done; tick = tick; what = what_of e }))
+    ≡ flat_map (happening_lines asked.trace asked.dumps) (plain_event e)
+unfolding ComesAt happening_lines
+event-lines asked done tick (Completes s address row) is =
+    unmarked-before (line_if asked.trace (trc_line done address)) (line_if asked.chart (row_line done address row.p row.r row.c))
+    ∙ ap (λ (d : ℕ). line_if asked.trace (trc_line d address)) is
+    ∙ sym (append-nil (line_if asked.trace (trc_line s.done address)))
+event-lines asked done tick (Drops address p) is = unmarked-marked (line_if asked.chart (drop_line address p))
+event-lines asked done tick (Shows at s levels) is = unmarked-marked (snapshot_lines asked done at s levels)
+event-lines asked done tick (Happens h) is =
+    happens-lines asked done tick h is ∙ sym (append-nil (happening_lines asked.trace asked.dumps h))
+
+pub report-lines : (asked : Asked) (xs : List Timed) → AreCounted xs
+    → unmarked (marked_report asked (told xs)) ≡ flat_map (happening_lines asked.trace asked.dumps) (untimed xs)
+unfolding AreCounted marked_report told untimed unmarked
+report-lines asked [] are = refl
+report-lines asked (x ∷ xs) are =
+    let lines = happening_lines asked.trace asked.dumps in
+    unmarked-append (marked_lines asked (told_of x)) (marked_report asked (told xs))
+    ∙ ap (λ front. front ++ unmarked (marked_report asked (told xs))) (event-lines asked x.done x.tick x.event are.0)
+    ∙ ap (λ rest. flat_map lines (plain_event x.event) ++ rest) (report-lines asked xs are.1)
+    ∙ sym (flat_map-append lines (plain_event x.event) (untimed xs))
+
+-- ---- what comes between two steps is prints alone
+
+ArePrints : List Happening → Type 0
+ArePrints [] = Unit {0}
+ArePrints (Prints s words ∷ hs) = ArePrints hs
+ArePrints (Interrupts s i ∷ hs) = ⊥
+ArePrints (Executes s address ∷ hs) = ⊥
+ArePrints (Ends s rests ∷ hs) = ⊥
+
+prints-append : (xs ys : List Happening) → ArePrints xs → ArePrints ys → ArePrints (xs ++ ys)
+unfolding ArePrints
+prints-append [] ys p q = q
+prints-append (Prints s words ∷ xs) ys p q = prints-append xs ys p q
+prints-append (Interrupts s i ∷ xs) ys p q = absurd p
+prints-append (Executes s address ∷ xs) ys p q = absurd p
+prints-append (Ends s rests ∷ xs) ys p q = absurd p
+
+reader-prints : (o : Option Order) (c : Scene) → ArePrints (with_reader o c).happened
+unfolding ArePrints
+reader-prints None c = tt
+reader-prints (Some order) c = tt
+
+printer-prints : (o : Option Order) (c : Scene) → ArePrints (with_printer o c).happened
+unfolding ArePrints
+printer-prints None c = tt
+printer-prints (Some order) c = tt
+
+device-prints : (d : Option Device) (c : Scene) → ArePrints (with_device d c).happened
+unfolding ArePrints
+device-prints None c = tt
+device-prints (Some Reader) c = reader-prints c.machine.reader c
+device-prints (Some Printer) c = printer-prints c.machine.printer c
+
+due-prints : (c : Scene) → ArePrints (with_due_orders c).happened
+unfolding with_due_orders
+due-prints c =
+    let d = (with_reader (if_due c.machine.done c.machine.reader) c).scene in
+    prints-append (with_reader (if_due c.machine.done c.machine.reader) c).happened
+    (with_printer (if_due d.machine.done d.machine.printer) d).happened
+    (reader-prints (if_due c.machine.done c.machine.reader) c)
+    (printer-prints (if_due d.machine.done d.machine.printer) d)
+
+rest-prints : (c : Scene) → ArePrints (with_order_at_rest c).happened
+unfolding with_order_at_rest ArePrints
+rest-prints c =
+    of_choice (λ r. ArePrints r.happened) (rests c.machine) (with_device (next_device c.machine) c) (nothing c)
+    (device-prints (next_device c.machine) c) tt
+
+settled-prints : (c : Scene) → ArePrints (settled c).happened
+unfolding settled with_wait ArePrints
+settled-prints c =
+    let d = with_due_signals c.machine c.signals c.cards in
+    let e = (with_due_orders d).scene in
+    let f = (with_order_at_rest e).scene in
+    let first = (with_order_at_rest e).happened in
+    let second = (with_order_at_rest f).happened in
+    prints-append (with_due_orders d).happened (first ++ second ++ []) (due-prints d)
+    (prints-append (first ++ second) [] (prints-append first second (rest-prints e) (rest-prints f)) tt)
+
+-- ---- the events of a run are counted
+
+counted-append : (xs ys : List Timed) → AreCounted xs → AreCounted ys → AreCounted (xs ++ ys)
+unfolding AreCounted
+counted-append [] ys p q = q
+counted-append (x ∷ xs) ys p q = (p.0, counted-append xs ys p.1 q)
+
+counted-map : {A : Type 0} (f : A → Timed) (xs : List A) → ((x : A) → ComesAt (f x).done (f x).event) → AreCounted (map f xs)
+unfolding AreCounted
+counted-map f [] each = tt
+counted-map f (x ∷ xs) each = (each x, counted-map f xs each)
+
+counted-prints : (m : Moment) (hs : List Happening) → ArePrints hs → AreCounted (map (happening_at m) hs)
+unfolding AreCounted ArePrints ComesAt HappensAt
+counted-prints m [] are = tt
+counted-prints m (Prints s words ∷ hs) are = (tt, counted-prints m hs are)
+counted-prints m (Interrupts s i ∷ hs) are = absurd are
+counted-prints m (Executes s address ∷ hs) are = absurd are
+counted-prints m (Ends s rests ∷ hs) are = absurd are
+
+counted-interrupt : (m : Moment) (i : Option ℕ) → AreCounted (map (happening_at m) (interrupts_by i (next_state m)))
+unfolding AreCounted ComesAt HappensAt
+counted-interrupt m None = tt
+counted-interrupt m (Some i) = (sym (settled-done m.scene), tt)
+
+counted-drops : (m : Moment) → AreCounted (drops m)
+unfolding drops ComesAt
+counted-drops m = counted-map (λ a. at m.tick m.scene.machine (drop_of a)) (reverse m.dropped) (λ a. tt)
+
+counted-drops_if : (b : Bool) (m : Moment) → AreCounted (if b then drops m else [])
+unfolding AreCounted
+counted-drops_if true m = counted-drops m
+counted-drops_if false m = tt
+
+counted-between : (m : Moment) → AreCounted (between m)
+unfolding between
+counted-between m =
+    let hs = (settled m.scene).happened in
+    let is = interrupts_by (interrupt (next_state m)) (next_state m) in
+    counted-append (drops_if_ends m) (map (happening_at m) (hs ++ is)) (counted-drops_if (ends_segment m) m)
+    (subst AreCounted (sym (map-append (happening_at m) hs is))
+    (counted-append (map (happening_at m) hs) (map (happening_at m) is) (counted-prints m hs (settled-prints m.scene))
+    (counted-interrupt m (interrupt (next_state m)))))
+
+counted-until_done : (ds : List ℕ) (n : ℕ) (p : Standing) (snaps : List ℕ) → AreCounted (until_done ds n p snaps)
+unfolding until_done snapshot AreCounted ComesAt
+counted-until_done ds n p snaps =
+    let due = ticks_before (next_moment ds n p).tick snaps in
+    counted-append (map (snapshot_at ds n p) due) (completion ds n p ∷ [])
+    (counted-map (snapshot_at ds n p) due (λ x. tt)) (refl, tt)
+
+counted-last : (m : Moment) (snaps : List ℕ) → AreCounted (last_events m snaps)
+unfolding last_events AreCounted ComesAt HappensAt
+counted-last m snaps =
+    let hs = (settled m.scene).happened in
+    let due = ticks_before (m.tick + 1) snaps in
+    let last = happening_at m (Ends (next_state m) (rests (next_state m))) in
+    counted-append (drops m ++ map (happening_at m) hs ++ map (last_snapshot_at m) due) (last ∷ [])
+    (counted-append (drops m ++ map (happening_at m) hs) (map (last_snapshot_at m) due)
+    (counted-append (drops m) (map (happening_at m) hs) (counted-drops m) (counted-prints m hs (settled-prints m.scene)))
+    (counted-map (last_snapshot_at m) due (λ x. tt)))
+    (sym (settled-done m.scene), tt)
+
+pub counted-run : (ds : List ℕ) (n left : ℕ) (m : Moment) (snaps : List ℕ) → AreCounted (timed_from ds n left m snaps)
+unfolding timed_from
+counted-run ds n zero m snaps = counted-last m snaps
+counted-run ds n (suc left) m snaps =
+    let p = standing m in
+    let next = next_moment ds n p in
+    let rest = timed_from ds n left next (ticks_from next.tick snaps) in
+    of_choice AreCounted (rests (next_state m)) (last_events m snaps) (between m ++ until_done ds n p snaps ++ rest)
+    (counted-last m snaps)
+    (counted-append (between m ++ until_done ds n p snaps) rest
+    (counted-append (between m) (until_done ds n p snaps) (counted-between m) (counted-until_done ds n p snaps))
+    (counted-run ds n left next (ticks_from next.tick snaps)))

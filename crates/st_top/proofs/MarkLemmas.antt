@@ -1,0 +1,149 @@
+-- Lines with marks: all of them, and those that are not marked.
+use Rattle.std.proofs.Common.{◌≡◌, ℕ, Bool, true, false, if◌then◌else◌, List, [], ◌∷◌, ◌++◌, length, drop, map, refl, sym, ◌∙◌, ap, append_assoc}
+use Rattle.std.proofs.lemmas.List.{map-append, append-nil}
+use Rattle.std.specs.Prelude.{Result, Ok, Err}
+use Rattle.st_card.specs.Cards.{cards_of}
+use Rattle.st_card.specs.Controls.{Asked}
+use Rattle.st_card.specs.declared.cards.Card.{Card}
+use Rattle.st_asm.specs.Assembly.{Assembly, assembly}
+use Rattle.st_asm.specs.Pass.{Refusal}
+use Rattle.st_asm.specs.declared.valuing.Listed.{Listed}
+use Rattle.st_exch.specs.Reader.{has_statement, behind_statements}
+use Rattle.st_exec.specs.Run.{Scene}
+use Rattle.st_lines.specs.Event.{Event, lines_of, at_moment}
+use Rattle.st_lines.proofs.Writing.{lines_of-append, lines_of-at_moment}
+use Rattle.st_object.specs.Object.{Program}
+use Rattle.st_report.specs.Line.{trc_line, row_line, drop_line, int_line, time_line, end_line, done_line, ticks_line}
+use Rattle.st_run.specs.Told.{What, Done, Dropped, Printed, Interrupted, Shown, Ended, Told, told}
+use Rattle.st_top.specs.Listing.{rows_lines, row_line as card_line, symbols_lines, listing}
+use Rattle.st_top.specs.Loading.{loaded}
+use Rattle.st_top.specs.Marks.{Marked, marked, plain, all_lines, unmarked, marked_at, marked_lines, marked_report, marked_run, up_to_end, end_card, listed_lines, marked_listing, marked_by, marked_load, marked_output}
+use Rattle.st_top.specs.Output.{output_of, start_of, loaded_start}
+use Rattle.st_top.specs.Report.{line_if, block, snapshot_lines, lines_at, lines_told, report}
+use Rattle.st_top.specs.StepsBack.{timed, end_of, last_state, states, back_lines, run_report}
+use Rattle.st_top.specs.declared.command.Command.{Command}
+use Rattle.st_top.specs.declared.command.Command.TheVariants.{Run, Assemble, Load, Disassemble}
+
+-- ---- all lines
+
+pub lines-append : (xs ys : List Marked) → all_lines (xs ++ ys) ≡ all_lines xs ++ all_lines ys
+lines-append xs ys = map-append (λ m. m.line) xs ys
+
+pub lines-plain : (lines : List (List ℕ)) → all_lines (plain lines) ≡ lines
+lines-plain [] = refl
+lines-plain (x ∷ xs) = ap (λ rest. x ∷ rest) (lines-plain xs)
+
+pub lines-marked : (lines : List (List ℕ)) → all_lines (marked lines) ≡ lines
+lines-marked [] = refl
+lines-marked (x ∷ xs) = ap (λ rest. x ∷ rest) (lines-marked xs)
+
+-- lines that are not marked, some that are, and again some that are not
+lines-between : (xs ys zs : List (List ℕ)) → all_lines (plain xs ++ marked ys ++ plain zs) ≡ xs ++ ys ++ zs
+lines-between xs ys zs =
+    lines-append (plain xs ++ marked ys) (plain zs)
+    ∙ ap (λ rest. rest ++ all_lines (plain zs)) (lines-append (plain xs) (marked ys))
+    ∙ ap (λ front. front ++ all_lines (marked ys) ++ all_lines (plain zs)) (lines-plain xs)
+    ∙ ap (λ middle. xs ++ middle ++ all_lines (plain zs)) (lines-marked ys)
+    ∙ ap (λ rest. xs ++ ys ++ rest) (lines-plain zs)
+
+lines-before : (xs ys : List (List ℕ)) → all_lines (plain xs ++ marked ys) ≡ xs ++ ys
+lines-before xs ys =
+    lines-append (plain xs) (marked ys)
+    ∙ ap (λ front. front ++ all_lines (marked ys)) (lines-plain xs)
+    ∙ ap (λ rest. xs ++ rest) (lines-marked ys)
+
+-- ---- the lines of a report
+
+lines-at : (asked : Asked) (done tick : ℕ) (w : What) → all_lines (marked_at asked done tick w) ≡ lines_at asked done tick w
+lines-at asked done tick (Done address p r c) =
+    lines-before (line_if asked.trace (trc_line done address)) (line_if asked.chart (row_line done address p r c))
+lines-at asked done tick (Dropped address p) = lines-marked (line_if asked.chart (drop_line address p))
+lines-at asked done tick (Printed text) = refl
+lines-at asked done tick (Interrupted i s) =
+    lines-between (int_line i done ∷ []) (line_if asked.time (time_line tick)) (block asked.dumps s)
+lines-at asked done tick (Shown at s levels) = lines-marked (snapshot_lines asked done at s levels)
+lines-at asked done tick (Ended rests s) =
+    lines-between (end_line rests ∷ done_line done ∷ []) (line_if asked.time (ticks_line tick)) (block asked.dumps s)
+
+lines-report : (asked : Asked) (ts : List Told) → all_lines (marked_report asked ts) ≡ lines_of (report asked ts)
+unfolding marked_report report
+lines-report asked [] = refl
+lines-report asked (t ∷ ts) =
+    let event = at_moment t.done t.tick (lines_told asked t) in
+    lines-append (marked_lines asked t) (marked_report asked ts)
+    ∙ ap (λ front. front ++ all_lines (marked_report asked ts)) (lines-at asked t.done t.tick t.what ∙ sym (lines_of-at_moment t.done t.tick (lines_told asked t)))
+    ∙ ap (λ rest. lines_of event ++ rest) (lines-report asked ts)
+    ∙ sym (lines_of-append event (report asked ts))
+
+pub lines-run : (asked : Asked) (start : Scene) → all_lines (marked_run asked start) ≡ lines_of (run_report asked start)
+unfolding marked_run run_report
+lines-run asked start =
+    let ts = told (timed asked start) in
+    let back = back_lines asked (states asked.budget start) (last_state asked start) in
+    let e = end_of asked start in
+    lines-append (marked_report asked ts) (plain back)
+    ∙ ap (λ front. front ++ all_lines (plain back)) (lines-report asked ts)
+    ∙ ap (λ rest. lines_of (report asked ts) ++ rest) (lines-plain back ∙ sym (lines_of-at_moment e.done e.tick back))
+    ∙ sym (lines_of-append (report asked ts) (at_moment e.done e.tick back))
+
+-- ---- a listing
+
+-- the cards up to END, and those behind it, are all cards
+cards-split : (cards : List Card) → up_to_end cards ++ behind_statements cards ≡ cards
+unfolding up_to_end behind_statements
+cards-split [] = refl
+cards-split (card ∷ cards) = split-if (has_statement (card ∷ cards)) card cards (cards-split cards) where
+  split-if : (b : Bool) (card : Card) (cards : List Card) → up_to_end cards ++ behind_statements cards ≡ cards
+      → (if b then card ∷ up_to_end cards else []) ++ (if b then behind_statements cards else card ∷ cards) ≡ card ∷ cards
+  split-if true card cards same = ap (λ rest. card ∷ rest) same
+  split-if false card cards same = refl
+
+-- the lines of cards and of cards behind them
+rows-split : (job : List ℕ) (rows : List Listed) (xs ys : List Card)
+    → rows_lines job rows xs ++ rows_lines job (drop (length xs) rows) ys ≡ rows_lines job rows (xs ++ ys)
+rows-split job [] [] ys = refl
+rows-split job [] (x ∷ xs) ys = refl
+rows-split job (row ∷ rows) [] ys = refl
+rows-split job (row ∷ rows) (x ∷ xs) ys = ap (λ rest. card_line job row x ∷ rest) (rows-split job rows xs ys)
+
+lines-listed : (job : List ℕ) (a : Assembly)
+    → all_lines (listed_lines job a) ≡ rows_lines job a.rows (cards_of job) ++ symbols_lines a.symbols
+lines-listed job a =
+    let front = up_to_end (cards_of job) in
+    let behind = behind_statements (cards_of job) in
+    lines-between (rows_lines job a.rows front) (rows_lines job (drop (end_card job) a.rows) behind) (symbols_lines a.symbols)
+    ∙ ap (λ lines. lines ++ symbols_lines a.symbols)
+    (rows-split job a.rows front behind ∙ ap (rows_lines job a.rows) (cards-split (cards_of job)))
+
+lines-listing : (job : List ℕ) (a : Assembly) → all_lines (marked_listing job a) ≡ listing job a
+unfolding marked_listing listing
+lines-listing job a = listing-if a.asked.list (listed_lines job a) _ (lines-listed job a) where
+  listing-if : (b : Bool) (xs : List Marked) (lines : List (List ℕ)) → all_lines xs ≡ lines
+      → all_lines (if b then xs else []) ≡ (if b then lines else [])
+  listing-if true xs lines same = same
+  listing-if false xs lines same = refl
+
+-- ---- what a command writes
+
+lines-by : (job : List ℕ) (r : Result Assembly Refusal) → assembly job ≡ r → all_lines (marked_by job r) ≡ lines_of (output_of Run job).events
+unfolding output_of
+lines-by job (Ok a) is =
+    let start = start_of job a in
+    lines-append (marked_listing job a) (marked_run a.asked start)
+    ∙ ap (λ front. front ++ all_lines (marked_run a.asked start)) (lines-listing job a ∙ sym (lines_of-at_moment 0 0 (listing job a)))
+    ∙ ap (λ rest. lines_of (at_moment 0 0 (listing job a)) ++ rest) (lines-run a.asked start)
+    ∙ sym (lines_of-append (at_moment 0 0 (listing job a)) (run_report a.asked start))
+    ∙ rw is refl
+lines-by job (Err r) is = lines-plain _
+
+lines-load : (text : List ℕ) (r : Result Program ℕ) → loaded text ≡ r → all_lines (marked_load text r) ≡ lines_of (output_of Load text).events
+unfolding output_of
+lines-load text (Ok p) is = lines-run p.controls (loaded_start p) ∙ rw is refl
+lines-load text (Err n) is = lines-plain _
+
+pub lines-output : (command : Command) (job : List ℕ) → all_lines (marked_output command job) ≡ lines_of (output_of command job).events
+unfolding marked_output
+lines-output Run job = lines-by job (assembly job) refl
+lines-output Load job = lines-load job (loaded job) refl
+lines-output Assemble job = lines-plain _
+lines-output Disassemble job = lines-plain _
