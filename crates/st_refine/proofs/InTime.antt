@@ -1,11 +1,17 @@
 -- Completions come in time.
 use Rattle.std.specs.Prelude.{All, IfSome, IsSome, if◌then◌else◌}
-use Rattle.std.proofs.Common.{◌≡◌, ℕ, ◌+◌, ◌*◌, ◌≤◌, Bool, true, false, List, length, inl, inr, Option, None, Some, refl, sym, subst, ◌∙◌, ap, arith}
+use Rattle.std.proofs.Math.Nat.{mul-add}
+use Rattle.std.proofs.Common.{◌≡◌, ℕ, ◌+◌, ◌*◌, ◌≤◌, Bool, true, false, List, [], ◌∷◌, length, inl, inr, Option, None, Some, refl, sym, subst, ◌∙◌, ap, arith}
 use Rattle.std.proofs.lemmas.Bool.{eqb-true}
 use Rattle.std.proofs.lemmas.List.Elements.{All-replicate, All-weaker}
 use Rattle.st_fetch.specs.declared.fetched.Fetched.{Fetched}
-use Rattle.st_state.specs.Machine.{Machine}
+use Rattle.st_state.specs.Machine.{Machine, stored}
+use Rattle.st_state.specs.Interrupts.{signalled}
+use Rattle.st_prep.specs.Plan.{plan}
+use Rattle.st_exec.proofs.Unchanged.{completed-done}
+use Rattle.st_exec.specs.Completion.{executed}
 use Rattle.st_exec.specs.Step.{rests}
+use Rattle.st_exec.specs.Run.{all_stored, read_in, printed_out}
 use Rattle.st_banks.specs.declared.answers.LastAnswers.{LastAnswers}
 use Rattle.st_banks.specs.declared.answers.TheConstants.{BANKS}
 use Rattle.st_rows.specs.Ranges.{AreDelays, IsEntry, IsTight, IsNear}
@@ -226,3 +232,80 @@ in-time m made since most from are =
           omega (arith, w.ticks, w.near, idle.early, row-within most m.delays m.levels m.front (entry m.taken m.state) are fits w.tight)
       | inr some ↦ omega (arith, w.fresh some)
     ]
+
+-- ---- all ticks
+
+-- what a tick at which an entry is done needs
+done-early : (m : Overlap) (made since most : ℕ) → IsReached m made since → AreDelays most m.delays → m.owed ≡ false → since + 1 ≤ 64 * (most + 4)
+done-early m made since most from are over =
+    let w = within most from are in
+    let is = kept from in
+    let idle = (idle-of m is over).1 in
+    let fits = entry-ranges m.taken m.state is.machine is.indicator in
+    omega (arith, w.ticks, w.near, idle.early, row-within most m.delays m.levels m.front (entry m.taken m.state) are fits w.tight)
+
+-- each tick lies behind as many completions as the state counts, with those since the last one
+abbrev IsCounted : ℕ → ℕ → ℕ → Overlap → Type 0
+IsCounted b made since m = made ≤ b * m.state.done + since
+
+counted-ticked : (b made since : ℕ) (m : Overlap) → since + 1 ≤ b → IsCounted b made since m
+    → IsCounted b (made + 1) (if is_done m then 0 else since + 1) (ticked m)
+unfolding ticked completed
+counted-ticked b made since m early counted = by-done (is_done m)
+  where
+    by-done : (c : Bool) → IsCounted b (made + 1) (if c then 0 else since + 1) (if c then completed m else record m { owed = true; closing = None })
+    by-done true =
+        let more : (executed m.taken m.state).done ≡ m.state.done + 1 = completed-done (plan m.state m.taken) m.state in
+        omega (arith, counted, early, mul-add b m.state.done 1, ap (λ d. b * d) more)
+    by-done false = omega (arith, counted)
+
+changed-counted : (b made since : ℕ) (m : Overlap) (s : Machine) → s.done ≡ m.state.done → IsCounted b made since m
+    → IsCounted b made since (record m { state = s })
+changed-counted b made since m s same counted = subst (λ d. made ≤ b * d + since) (sym same) counted
+
+same-counted : (b made since : ℕ) (m x : Overlap) → x.state ≡ m.state → IsCounted b made since m → IsCounted b made since x
+same-counted b made since m x same counted = subst (λ (s : Machine). made ≤ b * s.done + since) (sym same) counted
+
+all_stored-done : (m : Machine) (w : ℕ) (xs : List ℕ) → (all_stored m w xs).done ≡ m.done
+unfolding all_stored
+all_stored-done m w [] = refl
+all_stored-done m w (x ∷ xs) = all_stored-done (stored m w x) (w + 1) xs
+
+pub read-done : (s : Machine) (w : ℕ) (card : Option (List ℕ)) → (read_in s w card).done ≡ s.done
+read-done s w None = refl
+read-done s w (Some card) = all_stored-done (record s { reader = None }) w card
+
+read-state : (w : ℕ) (m : Overlap) (card : Option (List ℕ)) → (read_in_by w card m).state ≡ read_in m.state w card
+read-state w m None = refl
+read-state w m (Some card) = refl
+
+settled_by-state : (due behind : Option ℕ) (resting : Bool) (m : Overlap) → (settled_by due resting behind m).state ≡ m.state
+settled_by-state (Some i) behind resting m = (ended-rest m).state
+settled_by-state None behind true m = (ended-rest m).state
+settled_by-state None (Some h) false m = (ended-rest m).state
+settled_by-state None None false m = refl
+
+pub settled-state : (m : Overlap) → (settled m).state ≡ m.state
+unfolding settled
+settled-state m = settled_by-state (interrupt_due m) m.behind (rests m.state) m
+
+counted : (most : ℕ) {m : Overlap} {made since : ℕ} → IsReached m made since → AreDelays most m.delays → IsCounted (64 * (most + 4)) made since m
+counted most (Starts ds n s can) are = omega arith
+counted most (Ticks m made since from may) are =
+    let same = subst (AreDelays most) (ticked-delays m) are in
+    counted-ticked (64 * (most + 4)) made since m (done-early m made since most from same may.settled) (counted most from same)
+counted most (Settles m made since from owed) are =
+    same-counted (64 * (most + 4)) made since m (settled m) (settled-state m) (counted most from (subst (AreDelays most) (settled-delays m) are))
+counted most (Signals m made since i from known may) are = changed-counted (64 * (most + 4)) made since m (signalled m.state i) refl (counted most from are)
+counted most (Reads m made since order card from given fits may) are =
+    let before = counted most from (subst (AreDelays most) (read-delays order.word m card) are) in
+    subst (λ d. made ≤ 64 * (most + 4) * d + since) (sym (ap (λ (s : Machine). s.done) (read-state order.word m card) ∙ read-done m.state order.word card)) before
+counted most (Prints m made since from given may) are = changed-counted (64 * (most + 4)) made since m (printed_out m.state) refl (counted most from are)
+counted most (Stops m made since from may) are =
+    same-counted (64 * (most + 4)) made since m (ended m) (ended-rest m).state (counted most from (subst (AreDelays most) (ended-rest m).delays are))
+
+pub all-in_time : (m : Overlap) (made since most : ℕ) → IsReached m made since → AreDelays most m.delays
+    → made ≤ 64 * (most + 4) * (m.state.done + 1)
+all-in_time m made since most from are =
+    let b = 64 * (most + 4) in
+    omega (arith, counted most from are, in-time m made since most from are, mul-add b m.state.done 1)

@@ -3,10 +3,10 @@ use Rattle.std.specs.Prelude.{All, IfSome, IsSome, ◌==◌, if◌then◌else◌
 use Rattle.std.proofs.Common.{◌≡◌, ℕ, zero, suc, ◌+◌, ◌<◌, ◌≤◌, Bool, true, false, List, [], ◌∷◌, ◌++◌, length, Option, None, Some, refl, sym, subst, ◌∙◌, ap, ap₂, arith}
 use Rattle.std.proofs.lemmas.Bool.{eqb-true, ne_eqb, eq-eqb}
 use Rattle.std.proofs.lemmas.List.Elements.{All-nil, All-cons, All-head, All-tail, All-append, All-weaker}
-use Rattle.st_state.specs.Machine.{Machine, stored}
+use Rattle.st_state.specs.Machine.{Machine}
 use Rattle.st_exec.specs.Completion.{executed, guess}
 use Rattle.st_exec.specs.Step.{interrupt, rests, step}
-use Rattle.st_exec.specs.Run.{all_stored, read_in}
+use Rattle.st_exec.specs.Run.{read_in}
 use Rattle.st_exec.proofs.Runs.{step-done}
 use Rattle.st_banks.specs.declared.answers.LastAnswers.{LastAnswers}
 use Rattle.st_rows.specs.Asked.{asked, made_before}
@@ -23,19 +23,14 @@ use Rattle.st_refine.specs.Reached.{IsReached, MayTick}
 use Rattle.st_refine.specs.Openings.{Change, Signalled, ReadIn, PrintedOut, changed, Outside, with_changes, Opening, first_opening, state_after, front_after, banks_behind, opening_behind, StandsAt}
 use Rattle.st_refine.proofs.LevelLists.{after-c}
 use Rattle.st_refine.proofs.Kept.{IsIdle, idle-of, fresh-of, kept, seen-idle, ended-rest}
+use Rattle.st_refine.proofs.InTime.{read-done}
 use Rattle.st_refine.proofs.RefinedLemmas.{goes-by, taken-by, missed-by, waits-by, settled-goes, settled-taken, settled-missed}
 
 -- ---- changes
 
-all_stored-done : (m : Machine) (w : ℕ) (xs : List ℕ) → (all_stored m w xs).done ≡ m.done
-unfolding all_stored
-all_stored-done m w [] = refl
-all_stored-done m w (x ∷ xs) = all_stored-done (stored m w x) (w + 1) xs
-
 changed-done : (x : Change) (s : Machine) → (changed x s).done ≡ s.done
 changed-done (Signalled i) s = refl
-changed-done (ReadIn w None) s = refl
-changed-done (ReadIn w (Some card)) s = all_stored-done (record s { reader = None }) w card
+changed-done (ReadIn w card) s = read-done s w card
 changed-done PrintedOut s = refl
 
 one-done : (b : Bool) (x : Change) (s : Machine) → (if b then changed x s else s).done ≡ s.done

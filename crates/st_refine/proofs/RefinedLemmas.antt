@@ -11,7 +11,8 @@ use Rattle.st_exec.specs.Run.{read_in}
 use Rattle.st_exec.proofs.Runs.{step-done}
 use Rattle.st_rows.specs.Rows.{row, after}
 use Rattle.st_segment.specs.Entries.{entry}
-use Rattle.st_segment.specs.Ahead.{next_ahead, ahead, prepared_before}
+use Rattle.st_segment.specs.Guesses.{guesses}
+use Rattle.st_segment.specs.Ahead.{next_ahead, ahead, prepared_before, front_behind}
 use Rattle.st_segment.proofs.StepLemmas.{guess-right, guess-missed}
 use Rattle.st_ahead.specs.Overlap.{Overlap, started, seen, with_counter, oldest_row, levels_of, interrupt_due}
 use Rattle.st_ahead.specs.Calls.{is_done, row_done, missed_counter, completed, ticked, dropped, ended, passed, settled, settled_by, answer, answer_by, read_in_by, dropped_by, MayServe}
@@ -20,7 +21,7 @@ use Rattle.st_ahead.specs.declared.events.Settled.TheVariants.{Goes, Interrupt, 
 use Rattle.st_ahead.proofs.Settling.{due-taken}
 use Rattle.st_ahead.proofs.Standing.{guess-seen}
 use Rattle.st_refine.specs.Reached.{IsReached, MayTick}
-use Rattle.st_refine.specs.Refined.{IsUnwound, AddsOneAtMost}
+use Rattle.st_refine.specs.Refined.{row_of, IsUnwound, AddsOneAtMost}
 use Rattle.st_refine.proofs.LevelLists.{none-before, one-more, done-levels}
 use Rattle.st_refine.proofs.Kept.{IsIdle, IsPhase, IsKept, idle-of, fresh-of, kept, kept-ended, seen-idle, ended-rest, quiet, closing-cases}
 use Rattle.st_refine.proofs.SplitLemmas.{plan-address, shown-none}
@@ -98,6 +99,11 @@ tick-row m made since from may done = (
   sym (completed-tick m) ∙ ap (λ (x : Overlap). (shown x).tick) (sym (ticked-done m done)),
 )
 
+pub tick-times : (m : Overlap) → is_done m ≡ true
+    → ((row_done m).p ≡ (row_of 0 m).p) × ((row_done m).r ≡ (row_of 0 m).r) × ((row_done m).c ≡ (row_of 0 m).c)
+unfolding oldest_row front_behind guesses
+tick-times m done = (refl, refl, sym (eqb-true (oldest_row m).c m.now done))
+
 pub tick-missed : (m : Overlap) → is_done m ≡ true → (ticked m).behind ≡ missed_counter m
 tick-missed m done = ap (λ (x : Overlap). x.behind) (ticked-done m done) ∙ completed-behind m
 
@@ -110,18 +116,6 @@ tick-passed m later = (
   ap (λ (x : Overlap). x.state) (ticked-passed m later),
   ap levels_of (ticked-passed m later) ∙ passed-levels m,
 )
-
--- ---- a settle leaves the state
-
-settled_by-state : (due behind : Option ℕ) (resting : Bool) (m : Overlap) → (settled_by due resting behind m).state ≡ m.state
-settled_by-state (Some i) behind resting m = (ended-rest m).state
-settled_by-state None behind true m = (ended-rest m).state
-settled_by-state None (Some h) false m = (ended-rest m).state
-settled_by-state None None false m = refl
-
-pub settled-state : (m : Overlap) → (settled m).state ≡ m.state
-unfolding settled
-settled-state m = settled_by-state (interrupt_due m) m.behind (rests m.state) m
 
 -- ---- what an answer says
 

@@ -1,10 +1,12 @@
 -- Which entries are done, and which are levels, is told by their rows.
 use Rattle.std.specs.Prelude.{if◌then◌else◌, ◌-◌}
-use Rattle.std.proofs.Common.{◌≡◌, ℕ, zero, suc, ◌+◌, ◌<◌, ◌≤◌, Bool, true, false, List, length, inl, inr, refl, sym, subst, ap, arith}
+use Rattle.std.proofs.Common.{◌≡◌, ℕ, zero, suc, ◌+◌, ◌<◌, ◌≤◌, Bool, true, false, List, length, inl, inr, Option, refl, sym, subst, ◌∙◌, ap, ap₂, arith}
+use Rattle.st_state.specs.Machine.{Machine}
 use Rattle.st_rows.specs.Rows.{after, tick_c}
 use Rattle.st_rows.specs.declared.entry.Entry.{Entry}
 use Rattle.st_rows.specs.declared.front.Front.{Front}
 use Rattle.st_segment.specs.Entries.{entry}
+use Rattle.st_segment.specs.Ahead.{ahead, prepared_before}
 use Rattle.st_segment.specs.Guesses.{table_behind}
 use Rattle.st_port.proofs.Made.{before-cases}
 use Rattle.st_ahead.specs.Overlap.{Overlap, seen, oldest_row, levels_of, last_tick}
@@ -86,3 +88,12 @@ next-told m made since from =
       behind-late m.delays m.levels _ m.now m.taken (seen m) m.front is.some is.few (oldest-late m is) refl,
       level-later m.delays m.levels _ (last_tick m) m.taken (seen m) m.front (seen-machine m is) is.indicator (oldest-behind m is),
     )
+
+pub levels-ahead : (m : Overlap) (j : ℕ) (o : Opening) (xs : List Outside) → StandsAt o xs j m → seen m ≡ m.state
+    → levels_of m
+    ≡ prepared_before m.now (ahead m.delays m.levels m.levels (table_behind j o.table) (state_after o xs j) (front_after m.delays m.levels o xs j))
+unfolding levels_of
+levels-ahead m j o xs is same =
+    let at = λ (t : Option ℕ) (s : Machine) (f : Front). prepared_before m.now (ahead m.delays m.levels m.levels t s f) in
+    ap (λ t. at t (seen m) m.front) is.table
+    ∙ ap₂ (λ s f. at (table_behind j o.table) s f) (same ∙ is.state) is.front

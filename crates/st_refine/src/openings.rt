@@ -1,12 +1,14 @@
 //! A machine stands at the opening of its segment.
 ghost use Rattle.std.specs.Prelude.{◌≡◌, ℕ, suc, ◌+◌, ◌≤◌, ◌<◌, false, true, if◌then◌else◌, length, List, [], ◌∷◌, ◌++◌, None, Some};
 ghost use Rattle.st_state.specs.Machine.{Machine};
-ghost use Rattle.st_ahead.specs.Overlap.{Overlap, started, last_tick, levels_of};
+ghost use Rattle.st_segment.specs.Ahead.{ahead, prepared_before};
+ghost use Rattle.st_segment.specs.Guesses.{table_behind};
+ghost use Rattle.st_ahead.specs.Overlap.{Overlap, started, seen, last_tick, levels_of};
 ghost use Rattle.st_ahead.specs.Calls.{is_done, ticked, ended, settled, answer, signalled_by, read_in_by, printed_by, MayServe};
 ghost use Rattle.st_ahead.specs.declared.events.Settled.TheVariants.{Goes, Interrupt, Missed, Waits};
 ghost use Rattle.st_refine.specs.Reached.{IsReached, MayTick};
 ghost use Rattle.st_refine.specs.Refined.{row_of};
-ghost use Rattle.st_refine.specs.Openings.{Opening, Outside, Change, Signalled, ReadIn, PrintedOut, changed, first_opening, front_after, opening_behind, StandsAt};
+ghost use Rattle.st_refine.specs.Openings.{Opening, Outside, Signalled, ReadIn, PrintedOut, first_opening, state_after, front_after, opening_behind, StandsAt};
 
 // A new machine stands at the opening of the first segment (`start`). At each opening at which a machine stands, the next tick and a settle with which it
 // goes on leave it standing there, with one entry more done where the tick completes one (`tick`, `goes`). What changes the state from outside is added to
@@ -47,6 +49,8 @@ pub fn openings_follow()
         StandsAt o (changes ++ record { done = m.state.done; change = ReadIn w (Some card) } ∷ []) 0 (read_in_by w (Some card) m) }
 {}
 
+// The levels of a machine that stands at an opening are entries behind those that are done, by guessed steps from the state, unless a branch was missed at this
+// tick (`ahead`).
 // Of a segment at whose opening a machine stands, the entries with C up to the tick are done (`done`), and the levels are those with P up to the tick and C
 // behind it (`levels`, `next`); between a tick and its settle those with P at it are not there yet.
 
@@ -54,6 +58,9 @@ pub fn openings_follow()
 pub fn rows_tell_the_levels()
     ensures done { (m : Overlap) (i j : ℕ) (o : Opening) (changes : List Outside) → StandsAt o changes j m → i < j →
         (front_after m.delays m.levels o changes (suc i)).c ≤ last_tick m }
+    ensures ahead { (m : Overlap) (j : ℕ) (o : Opening) (changes : List Outside) → StandsAt o changes j m → seen m ≡ m.state →
+        levels_of m ≡ prepared_before m.now (ahead m.delays m.levels m.levels (table_behind j o.table)
+        (state_after o changes j) (front_after m.delays m.levels o changes j)) }
     ensures levels { (m : Overlap) (made since k : ℕ) → IsReached m made since → k < length (levels_of m) →
         ((row_of k m).p < m.now) × (last_tick m < (row_of k m).c) }
     ensures next { (m : Overlap) (made since : ℕ) → IsReached m made since →

@@ -14,11 +14,11 @@ ghost use Rattle.st_ahead.specs.declared.events.Row.{Row};
 ghost use Rattle.st_ahead.specs.declared.events.Event.TheVariants.{Passed, Done};
 ghost use Rattle.st_ahead.specs.declared.events.Settled.TheVariants.{Goes, Interrupt, Missed, Waits};
 ghost use Rattle.st_refine.specs.Reached.{IsReached, MayTick};
-ghost use Rattle.st_refine.specs.Refined.{IsUnwound, AddsOneAtMost};
+ghost use Rattle.st_refine.specs.Refined.{row_of, IsUnwound, AddsOneAtMost};
 
 // A tick that answers with a row makes the state the step of the old one (`state`), which takes the interrupt that was taken (`table`); it removes the
-// oldest level, and there is one (`oldest`); its row has the new number done, the address of the entry and the tick (`row`). The mark of a
-// missed branch is then set, and only then (`missed`). Another tick leaves the state and the levels (`passed`).
+// oldest level, and there is one (`oldest`); its row has the new number done, the address of the entry and the tick (`row`), and the P, R and C of the oldest
+// entry (`times`). The mark of a missed branch is then set, and only then (`missed`). Another tick leaves the state and the levels (`passed`).
 
 /// A tick at which an entry is done is one step.
 pub fn completions_are_steps()
@@ -30,6 +30,8 @@ pub fn completions_are_steps()
         levels_of m ≡ next_ahead m.delays m.levels m.taken m.state m.front ∷ levels_of (ticked m) }
     ensures row { (m : Overlap) (made since : ℕ) (row : Row) → IsReached m made since → MayTick m → IsEvent m (Done row) →
         (row.number ≡ (step m.state).done) × (row.address ≡ address m.state) × (row.c ≡ (shown (ticked m)).tick) }
+    ensures times { (m : Overlap) (row : Row) → IsEvent m (Done row) →
+        (row.p ≡ (row_of 0 m).p) × (row.r ≡ (row_of 0 m).r) × (row.c ≡ (row_of 0 m).c) }
     ensures missed { (m : Overlap) (row : Row) → IsEvent m (Done row) → (ticked m).behind
         ≡ (if is_missed (plan m.state m.taken) m.state then Some (plan m.state m.taken).following else None) }
     ensures passed { (m : Overlap) → IsEvent m Passed →

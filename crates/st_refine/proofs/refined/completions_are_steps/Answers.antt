@@ -1,6 +1,6 @@
 use Rattle.std.proofs.Common.{◌∙◌, ap}
 use Rattle.st_ahead.specs.declared.events.Row.{Row}
-use Rattle.st_refine.proofs.RefinedLemmas.{table-is, tick-state, tick-oldest, tick-row, tick-missed, tick-passed}
+use Rattle.st_refine.proofs.RefinedLemmas.{table-is, tick-state, tick-oldest, tick-row, tick-times, tick-missed, tick-passed}
 use Rattle.st_refine.proofs.refined.completions_are_steps.Goals as goal
 
 pub returns-clause-table : goal.returns-clause-table
@@ -17,6 +17,14 @@ returns-clause-row c m made since row from may is =
     let told = tick-row m made since from may is.0 in (
       ap (λ (r : Row). r.number) is.1 ∙ told.0,
       ap (λ (r : Row). r.address) is.1 ∙ told.1,
+      ap (λ (r : Row). r.c) is.1 ∙ told.2,
+    )
+
+pub returns-clause-times : goal.returns-clause-times
+returns-clause-times c m row is =
+    let told = tick-times m is.0 in (
+      ap (λ (r : Row). r.p) is.1 ∙ told.0,
+      ap (λ (r : Row). r.r) is.1 ∙ told.1,
       ap (λ (r : Row). r.c) is.1 ∙ told.2,
     )
 

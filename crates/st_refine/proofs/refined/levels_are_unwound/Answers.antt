@@ -1,4 +1,5 @@
-use Rattle.st_refine.proofs.RefinedLemmas.{settled-state, goes-more, interrupt-unwinds, missed-unwinds, waits-unwinds, stop-unwinds, card-unwinds, start-unwound}
+use Rattle.st_refine.proofs.InTime.{settled-state}
+use Rattle.st_refine.proofs.RefinedLemmas.{goes-more, interrupt-unwinds, missed-unwinds, waits-unwinds, stop-unwinds, card-unwinds, start-unwound}
 use Rattle.st_refine.proofs.refined.levels_are_unwound.Goals as goal
 
 pub returns-clause-settle : goal.returns-clause-settle
