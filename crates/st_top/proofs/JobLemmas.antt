@@ -9,11 +9,10 @@ use Rattle.st_asm.specs.declared.naming.Symbol.{Symbol}
 use Rattle.st_asm.specs.declared.valuing.Listed.{Listed}
 use Rattle.st_exch.specs.Reader.{behind_statements, reader_cards}
 use Rattle.st_exec.specs.Run.{Scene}
-use Rattle.st_object.specs.Object.{Program}
+use Rattle.st_object.specs.Object.{Program, read_text}
 use Rattle.st_report.specs.Listing.{listed_line}
 use Rattle.st_state.specs.Machine.{opening}
 use Rattle.st_top.specs.Listing.{rows_lines, symbols_lines}
-use Rattle.st_top.specs.Loading.{loaded}
 use Rattle.st_top.specs.Marks.{Marked, unmarked, marked_run, up_to_end, texts_up_to_end, end_card, listed_lines, marked_listing, marked_by, marked_load, marked_output, DifferInDelays}
 use Rattle.st_top.specs.Output.{start_of, loaded_start}
 use Rattle.st_top.specs.Signals.{signals_of}
@@ -112,7 +111,7 @@ loads-same p q h =
     sym (delays-same p.controls q.controls.delays p.words p.start [])
     ∙ ap (λ (r : Program). unmarked (marked_run r.controls (loaded_start r))) h
 
-pub texts-same : (text other : List ℕ) (p q : Program) → loaded text ≡ Ok p → loaded other ≡ Ok q
+pub texts-same : (text other : List ℕ) (p q : Program) → read_text text ≡ Ok p → read_text other ≡ Ok q
     → record p { controls = record p.controls { delays = q.controls.delays } } ≡ q
     → unmarked (marked_output Load text) ≡ unmarked (marked_output Load other)
 unfolding marked_output

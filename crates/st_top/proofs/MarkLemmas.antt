@@ -12,17 +12,16 @@ use Rattle.st_exch.specs.Reader.{has_statement, behind_statements}
 use Rattle.st_exec.specs.Run.{Scene}
 use Rattle.st_lines.specs.Event.{Event, lines_of, at_moment}
 use Rattle.st_lines.proofs.Writing.{lines_of-append, lines_of-at_moment}
-use Rattle.st_object.specs.Object.{Program}
+use Rattle.st_object.specs.Object.{Program, read_text}
 use Rattle.st_report.specs.Line.{trc_line, row_line, drop_line, int_line, time_line, end_line, done_line, ticks_line}
 use Rattle.st_run.specs.Told.{What, Done, Dropped, Printed, Interrupted, Shown, Ended, Told, told}
 use Rattle.st_top.specs.Listing.{rows_lines, row_line as card_line, symbols_lines, listing}
-use Rattle.st_top.specs.Loading.{loaded}
 use Rattle.st_top.specs.Marks.{Marked, marked, plain, all_lines, unmarked, marked_at, marked_lines, marked_report, marked_run, up_to_end, end_card, listed_lines, marked_listing, marked_by, marked_load, marked_output}
 use Rattle.st_top.specs.Output.{output_of, start_of, loaded_start}
 use Rattle.st_top.specs.Report.{line_if, block, snapshot_lines, lines_at, lines_told, report}
 use Rattle.st_top.specs.StepsBack.{timed, end_of, last_state, states, back_lines, run_report}
 use Rattle.st_top.specs.declared.command.Command.{Command}
-use Rattle.st_top.specs.declared.command.Command.TheVariants.{Run, Assemble, Load, Disassemble}
+use Rattle.st_top.specs.declared.command.Command.TheVariants.{Run, Assemble, Load, Disassemble, Soak}
 
 -- ---- all lines
 
@@ -136,7 +135,7 @@ lines-by job (Ok a) is =
     ∙ rw is refl
 lines-by job (Err r) is = lines-plain _
 
-lines-load : (text : List ℕ) (r : Result Program ℕ) → loaded text ≡ r → all_lines (marked_load text r) ≡ lines_of (output_of Load text).events
+lines-load : (text : List ℕ) (r : Result Program ℕ) → read_text text ≡ r → all_lines (marked_load text r) ≡ lines_of (output_of Load text).events
 unfolding output_of
 lines-load text (Ok p) is = lines-run p.controls (loaded_start p) ∙ rw is refl
 lines-load text (Err n) is = lines-plain _
@@ -144,6 +143,7 @@ lines-load text (Err n) is = lines-plain _
 pub lines-output : (command : Command) (job : List ℕ) → all_lines (marked_output command job) ≡ lines_of (output_of command job).events
 unfolding marked_output
 lines-output Run job = lines-by job (assembly job) refl
-lines-output Load job = lines-load job (loaded job) refl
+lines-output Load job = lines-load job (read_text job) refl
 lines-output Assemble job = lines-plain _
 lines-output Disassemble job = lines-plain _
+lines-output (Soak number cards) job = lines-marked _

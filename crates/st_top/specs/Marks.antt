@@ -9,16 +9,15 @@ use Rattle.st_asm.specs.Assembly.{Assembly, assembly}
 use Rattle.st_exch.specs.Reader.{has_statement, behind_statements, reader_cards}
 use Rattle.st_exec.specs.Run.{Scene}
 use Rattle.st_lines.specs.Event.{lines_of}
-use Rattle.st_object.specs.Object.{Program}
+use Rattle.st_object.specs.Object.{Program, read_text}
 use Rattle.st_report.specs.Line.{prt_line, trc_line, row_line, drop_line, int_line, time_line, end_line, done_line, ticks_line}
 use Rattle.st_run.specs.Told.{What, Done, Dropped, Printed, Interrupted, Shown, Ended, Told, told}
 use Rattle.st_top.specs.Listing.{rows_lines, symbols_lines}
-use Rattle.st_top.specs.Loading.{loaded}
 use Rattle.st_top.specs.Output.{output_of, start_of, loaded_start}
 use Rattle.st_top.specs.Report.{line_if, block, snapshot_lines}
 use Rattle.st_top.specs.StepsBack.{timed, last_state, states, back_lines}
 use Rattle.st_top.specs.declared.command.Command.{Command}
-use Rattle.st_top.specs.declared.command.Command.TheVariants.{Run, Assemble, Load, Disassemble}
+use Rattle.st_top.specs.declared.command.Command.TheVariants.{Run, Assemble, Load, Disassemble, Soak}
 
 -- a line, and whether the delays may change it
 pub record Marked : Type 0 where
@@ -107,12 +106,13 @@ abbrev pub marked_load : List ℕ → Result Program ℕ → List Marked
 marked_load text (Ok p) = marked_run p.controls (loaded_start p)
 marked_load text (Err n) = plain (lines_of (output_of Load text).events)
 
--- what a command writes for a job: where nothing runs no line depends on the delays
+-- what a command writes for a job: where nothing runs no line depends on the delays; `soak` draws its delays itself
 unfoldable pub marked_output : Command → List ℕ → List Marked
 marked_output Run job = marked_by job (assembly job)
-marked_output Load text = marked_load text (loaded text)
+marked_output Load text = marked_load text (read_text text)
 marked_output Assemble job = plain (lines_of (output_of Assemble job).events)
 marked_output Disassemble text = plain (lines_of (output_of Disassemble text).events)
+marked_output (Soak number cards) job = marked (lines_of (output_of (Soak number cards) job).events)
 
 -- ---- two jobs
 
