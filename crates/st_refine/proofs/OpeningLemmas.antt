@@ -9,10 +9,14 @@ use Rattle.st_exec.specs.Step.{interrupt, rests, step}
 use Rattle.st_exec.specs.Run.{read_in}
 use Rattle.st_exec.proofs.Runs.{step-done}
 use Rattle.st_banks.specs.declared.answers.LastAnswers.{LastAnswers}
-use Rattle.st_rows.specs.Asked.{asked, made_before}
-use Rattle.st_rows.specs.Rows.{row, after, opening}
+use Rattle.st_rows.specs.Asked.{Read, asked, served, made_before}
+use Rattle.st_rows.specs.Rows.{row, after, opening, addressed, prepared, tick_a, tick_p, tick_c}
+use Rattle.st_rows.specs.declared.bus.Bus.{Bus}
 use Rattle.st_rows.specs.declared.entry.Entry.{Entry}
 use Rattle.st_rows.specs.declared.front.Front.{Front}
+use Rattle.st_rows.proofs.Awaited.{ready-after}
+use Rattle.st_rows.proofs.Served.{served-append, served-asked}
+use Rattle.st_port.proofs.Made.{made-append, all-made}
 use Rattle.st_segment.specs.Entries.{entry}
 use Rattle.st_segment.specs.Guesses.{table_behind}
 use Rattle.st_segment.specs.Ahead.{ahead, reads_before}
@@ -20,7 +24,7 @@ use Rattle.st_ahead.specs.Overlap.{Overlap, started, seen, oldest, oldest_row, l
 use Rattle.st_ahead.specs.Calls.{is_done, completed, ticked, banks_left, ended, passed, settled, answer, read_in_by, MayServe}
 use Rattle.st_ahead.specs.declared.events.Settled.TheVariants.{Goes, Interrupt, Missed, Waits}
 use Rattle.st_refine.specs.Reached.{IsReached, MayTick}
-use Rattle.st_refine.specs.Openings.{Change, Signalled, ReadIn, PrintedOut, changed, Outside, with_changes, Opening, first_opening, state_after, front_after, banks_behind, opening_behind, StandsAt}
+use Rattle.st_refine.specs.Openings.{Change, Signalled, ReadIn, PrintedOut, changed, Outside, with_changes, Opening, first_opening, state_after, front_after, reads_after, banks_behind, opening_behind, StandsAt}
 use Rattle.st_refine.proofs.LevelLists.{after-c}
 use Rattle.st_refine.proofs.Kept.{IsIdle, idle-of, fresh-of, kept, seen-idle, ended-rest}
 use Rattle.st_refine.proofs.InTime.{read-done}
@@ -72,6 +76,51 @@ changes-none (x ∷ xs) s before =
     ap (λ b. with_changes xs (if b then changed x.change s else s)) (ne_eqb x.done s.done (λ is. omega (arith, early, is)))
     ∙ changes-none xs s (All-tail (λ (y : Outside). y.done < s.done) x xs before)
 
+-- ---- the banks where a segment ends
+
+-- of the reads of the entry that is done and of those behind it
+banks-of : List ℕ → ℕ → ℕ → Option ℕ → Machine → Front → Entry → LastAnswers
+banks-of ds n c t s f e =
+    (made_before ds c (asked ds n f e ++ reads_before ds n c (ahead ds n (suc n) None (guess t s) (after ds n f e))) f.bus).banks
+
+-- reads that are all accepted before come first
+made-behind : (ds : List ℕ) (t : ℕ) (xs ys : List Read) (b : Bus) → (served ds xs b).free ≤ t
+    → made_before ds t (xs ++ ys) b ≡ made_before ds t ys (served ds xs b)
+made-behind ds t xs ys b early =
+    let all = all-made ds t xs b early in
+    sym (made-append ds t xs ys b) ∙ ap₂ (λ (left : List Read) (c : Bus). made_before ds t (left ++ ys) c) all.1 all.0
+
+free-done : (ds : List ℕ) (n : ℕ) (f : Front) (e : Entry) → f.bus.free ≤ (row ds n f e).c
+unfolding row tick_a tick_p tick_c addressed prepared
+free-done ds n f e = omega (arith, ready-after ds n f e)
+
+module _ (ds : List ℕ) (n : ℕ) (o : Opening) (xs : List Outside) where
+  reads-served : (j : ℕ) → served ds (reads_after ds n o xs j) o.front.bus ≡ (front_after ds n o xs j).bus
+  unfolding reads_after front_after served
+  reads-served zero = refl
+  reads-served (suc j) =
+      let f = front_after ds n o xs j in
+      let e = entry (table_behind j o.table) (state_after o xs j) in
+      served-append ds (reads_after ds n o xs j) (asked ds n f e) o.front.bus
+      ∙ ap (served ds (asked ds n f e)) (reads-served j) ∙ served-asked ds n f e
+
+  banks-whole : (j : ℕ)
+      → banks_behind ds n o xs (suc j)
+      ≡ banks-of ds n (row ds n (front_after ds n o xs j) (entry (table_behind j o.table) (state_after o xs j))).c (table_behind j o.table)
+      (state_after o xs j) (front_after ds n o xs j) (entry (table_behind j o.table) (state_after o xs j))
+  unfolding banks_behind banks-of
+  banks-whole j =
+      let s = state_after o xs j in
+      let t = table_behind j o.table in
+      let f = front_after ds n o xs j in
+      let e = entry t s in
+      let c = (row ds n f e).c in
+      let rest = asked ds n f e ++ reads_before ds n c (ahead ds n (suc n) None (guess t s) (after ds n f e)) in
+      let served_is = reads-served j in
+      let early : (served ds (reads_after ds n o xs j) o.front.bus).free ≤ c = omega (arith, ap (λ (b : Bus). b.free) served_is, free-done ds n f e) in
+      ap (λ (b : Bus). b.banks) (made-behind ds c (reads_after ds n o xs j) rest o.front.bus early)
+      ∙ ap (λ (b : Bus). (made_before ds c rest b).banks) served_is
+
 -- ---- states and fronts after j steps
 
 module _ (o : Opening) (xs : List Outside) where
@@ -112,11 +161,10 @@ module _ (o : Opening) (xs : List Outside) where
       banks-same zero early = refl
       banks-same (suc i) early =
           let t = table_behind i o.table in
-          let banks = λ (f : Front) (s : Machine).
-          let e = entry t s in
-          let c = (row ds n f e).c in
-          (made_before ds c (asked ds n f e ++ reads_before ds n c (ahead ds n (suc n) None (guess t s) (after ds n f e))) f.bus).banks in
-          ap₂ banks (front-same i (omega (arith, early))) (state-before i (omega (arith, early)))
+          banks-whole ds n o (xs ++ x ∷ []) i
+          ∙ ap₂ (λ (f : Front) (s : Machine). banks-of ds n (row ds n f (entry t s)).c t s f (entry t s)) (front-same i (omega (arith, early)))
+          (state-before i (omega (arith, early)))
+          ∙ sym (banks-whole ds n o xs i)
 
 -- ---- a start
 
@@ -181,13 +229,9 @@ unfolding step
 executed-step t s table = ap (λ i. executed i s) table
 
 -- the banks where the segment ends at the completion of an entry
-banks-of : List ℕ → ℕ → ℕ → Option ℕ → Machine → Front → Entry → LastAnswers
-banks-of ds n c t s f e =
-    (made_before ds c (asked ds n f e ++ reads_before ds n c (ahead ds n (suc n) None (guess t s) (after ds n f e))) f.bus).banks
-
 banks-are : (m : Overlap) (j : ℕ) (o : Opening) (xs : List Outside) → (row m.delays m.levels m.front (oldest m)).c ≡ m.now → StandsAt o xs j m
     → seen m ≡ m.state → banks_at_its_end m ≡ banks_behind m.delays m.levels o xs (suc j)
-unfolding banks_at_its_end banks_behind banks-of
+unfolding banks_at_its_end banks-of
 banks-are m j o xs due is seen_is =
     let ds = m.delays in
     let n = m.levels in
@@ -195,10 +239,11 @@ banks-are m j o xs due is seen_is =
     ∙ ap (λ s. banks-of ds n (row ds n m.front (entry m.taken s)).c m.taken m.state m.front (entry m.taken s)) (seen_is ∙ is.state)
     ∙ ap (λ s. banks-of ds n (row ds n m.front (entry m.taken (state_after o xs j))).c m.taken s m.front (entry m.taken (state_after o xs j))) is.state
     ∙ ap₂ (λ t f. banks-of ds n (row ds n f (entry t (state_after o xs j))).c t (state_after o xs j) f (entry t (state_after o xs j))) is.table is.front
+    ∙ sym (banks-whole ds n o xs j)
 
 stands-completed : (m : Overlap) (made since j : ℕ) (o : Opening) (xs : List Outside) → IsReached m made since → MayTick m → is_done m ≡ true
     → StandsAt o xs j m → StandsAt o xs (suc j) (completed m)
-unfolding completed state_after front_after banks_behind banks_at_its_end oldest_row
+unfolding completed state_after front_after oldest_row
 stands-completed m made since j o xs from may done is =
     let idle : IsIdle m = (idle-of m (kept from) may.settled).1 in
     let seen_is : seen m ≡ m.state = seen-idle m idle.going idle.right in

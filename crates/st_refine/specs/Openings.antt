@@ -1,18 +1,19 @@
 -- The opening of a segment, and a machine that stands at it.
-use Rattle.std.specs.Prelude.{ℕ, zero, suc, ◌≡◌, ◌+◌, ◌≤◌, ◌==◌, false, if◌then◌else◌, List, [], ◌∷◌, ◌++◌, All, Option, None, IfSome}
+use Rattle.std.specs.Prelude.{ℕ, zero, suc, ◌≡◌, ◌+◌, ◌≤◌, ◌==◌, false, if◌then◌else◌, List, [], ◌∷◌, ◌++◌, All, replicate, Option, None, IfSome}
 use Rattle.st_state.specs.Machine.{Machine}
 use Rattle.st_state.specs.Interrupts.{signalled}
 use Rattle.st_exec.specs.Completion.{guess}
 use Rattle.st_exec.specs.Step.{step}
 use Rattle.st_exec.specs.Run.{read_in, printed_out}
 use Rattle.st_banks.specs.declared.answers.LastAnswers.{LastAnswers}
+use Rattle.st_banks.specs.declared.answers.TheConstants.{BANKS}
 use Rattle.st_rows.specs.Rows.{opening, row, after}
-use Rattle.st_rows.specs.Asked.{asked, made_before}
+use Rattle.st_rows.specs.Asked.{Read, asked, made_before}
 use Rattle.st_rows.specs.declared.front.Front.{Front}
 use Rattle.st_segment.specs.Entries.{entry}
 use Rattle.st_segment.specs.Guesses.{table_behind}
 use Rattle.st_segment.specs.Ahead.{ahead, reads_before}
-use Rattle.st_ahead.specs.Overlap.{Overlap, started, last_tick}
+use Rattle.st_ahead.specs.Overlap.{Overlap, last_tick}
 
 -- ---- changes from outside
 
@@ -47,7 +48,7 @@ pub record Opening : Type 0 where
 
 -- that of the first segment
 abbrev pub first_opening : Machine → Opening
-first_opening s = record { state = s; table = None; front = (started [] 0 s).front }
+first_opening s = record { state = s; table = None; front = opening (record { ticks = replicate BANKS 0 }) 0 }
 
 -- the state after j steps from it, with changes from outside
 unfoldable pub state_after : Opening → List Outside → ℕ → Machine
@@ -60,8 +61,15 @@ front_after ds n o changes zero = o.front
 front_after ds n o changes (suc j) =
     after ds n (front_after ds n o changes j) (entry (table_behind j o.table) (state_after o changes j))
 
--- the last answers of the banks where it ends at the completion of the last of them: of the reads of that entry and of those behind it, by the
--- guess, those are made that are accepted before that tick; the reads of earlier entries are all accepted before
+-- the reads of those entries
+unfoldable pub reads_after : List ℕ → ℕ → Opening → List Outside → ℕ → List Read
+reads_after ds n o changes zero = []
+reads_after ds n o changes (suc j) =
+    reads_after ds n o changes j
+    ++ asked ds n (front_after ds n o changes j) (entry (table_behind j o.table) (state_after o changes j))
+
+-- the last answers of the banks where the segment ends at the completion of entry j, after j others: of all its reads, with those of the entries behind
+-- that one by the guess, those are made that are accepted before that tick
 unfoldable pub banks_behind : List ℕ → ℕ → Opening → List Outside → ℕ → LastAnswers
 banks_behind ds n o changes zero = o.front.bus.banks
 banks_behind ds n o changes (suc j) =
@@ -70,7 +78,8 @@ banks_behind ds n o changes (suc j) =
     let f = front_after ds n o changes j in
     let e = entry t s in
     let c = (row ds n f e).c in
-    (made_before ds c (asked ds n f e ++ reads_before ds n c (ahead ds n (suc n) None (guess t s) (after ds n f e))) f.bus).banks
+    (made_before ds c (reads_after ds n o changes j
+    ++ (asked ds n f e ++ reads_before ds n c (ahead ds n (suc n) None (guess t s) (after ds n f e)))) o.front.bus).banks
 
 -- the opening of the next segment, where that one ends there and so many entries are dropped
 unfoldable pub opening_behind : List ℕ → ℕ → ℕ → Opening → List Outside → ℕ → Opening
