@@ -8,6 +8,8 @@ mod leaving;
 mod progress;
 mod run;
 mod seen;
+#[cfg(test)]
+mod tests;
 mod ticking;
 mod told;
 mod turn;
