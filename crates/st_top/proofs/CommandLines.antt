@@ -222,7 +222,8 @@ soak_within (Some n) (Some k) h = h
 named_within : (w : List ℕ) → AllowsCards (command_named w)
 named_within w =
     of_test (pointwise nat_eq w (codes "run")) _ _ tt (of_test (pointwise nat_eq w (codes "assemble")) _ _ tt
-    (of_test (pointwise nat_eq w (codes "load")) _ _ tt (of_test (pointwise nat_eq w (codes "disassemble")) _ _ tt tt)))
+    (of_test (pointwise nat_eq w (codes "load")) _ _ tt (of_test (pointwise nat_eq w (codes "disassemble")) _ _ tt
+    (of_test (pointwise nat_eq w (codes "sweep")) _ _ tt tt))))
 
 pub commands_are_within : (ws : List (List ℕ)) → AllowsCards (command_of ws)
 commands_are_within [] = tt

@@ -21,7 +21,7 @@ use Rattle.st_top.specs.Output.{output_of, start_of, loaded_start}
 use Rattle.st_top.specs.Report.{line_if, block, snapshot_lines, lines_at, lines_told, report}
 use Rattle.st_top.specs.StepsBack.{timed, end_of, last_state, states, back_lines, run_report}
 use Rattle.st_top.specs.declared.command.Command.{Command}
-use Rattle.st_top.specs.declared.command.Command.TheVariants.{Run, Assemble, Load, Disassemble, Soak}
+use Rattle.st_top.specs.declared.command.Command.TheVariants.{Run, Assemble, Load, Disassemble, Sweep, Soak}
 
 -- ---- all lines
 
@@ -146,4 +146,5 @@ lines-output Run job = lines-by job (assembly job) refl
 lines-output Load job = lines-load job (read_text job) refl
 lines-output Assemble job = lines-plain _
 lines-output Disassemble job = lines-plain _
+lines-output Sweep job = lines-marked _
 lines-output (Soak number cards) job = lines-marked _

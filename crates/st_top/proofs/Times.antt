@@ -3,6 +3,7 @@ use Rattle.std.proofs.Common.{◌≡◌, ℕ, ◌+◌, ◌*◌, ◌≤◌, List,
 use Rattle.std.proofs.lemmas.Bool.{and_parts, leb-true}
 use Rattle.std.proofs.lemmas.List.Elements.{All-nil, All-cons, All-head, All-tail, All-append}
 use Rattle.std.specs.List.{AllPass}
+use Rattle.std.specs.Prelude.{slice_index}
 use Rattle.st_io.specs.Output.{OutputState}
 use Rattle.st_lines.specs.Event.{Event, at_moment, StoppedAt}
 use Rattle.st_card.specs.Controls.{Asked, is_among}
@@ -16,7 +17,9 @@ use Rattle.st_run.proofs.Bounds.{run-time}
 use Rattle.st_run.proofs.EndLemmas.{run-ends}
 use Rattle.st_top.specs.Report.{report, lines_told}
 use Rattle.st_top.specs.StepsBack.{states, back_lines, last_state, timed, end_of, run_report}
-use Rattle.st_top.specs.Output.{output_of_run}
+use Rattle.st_sweep.specs.Sweep.{ticks}
+use Rattle.st_top.specs.Sweep.{sweep_lines, sweep_start, sweep_of}
+use Rattle.st_top.specs.Output.{output_of_run, output_of_sweep}
 use Rattle.st_top.specs.Answers.{Writes, KeepsTime}
 use Rattle.st_top.specs.declared.answer.Answer.{Answer}
 use Rattle.st_top.specs.declared.answer.Status.{Status}
@@ -101,6 +104,37 @@ module _ (most : ℕ) (asked : Asked) (start : Scene) (are : AreDelays most aske
       → Writes answer.status s t (output_of_run listed asked start) answer → IsIn most answer
   writes_time s t listed answer w = by-status answer.status s t listed answer w
 
+-- a sweep is in time
+module _ (most : ℕ) (image : List ℕ) (first : ℕ) (asked : Asked) (are : AreDelays most asked.delays) (is : IsScene (sweep_start image first asked)) where
+  eight-time : slice_index (sweep_of image first asked).ticks 7 ≤ 64 * (most + 4) * ((sweep_of image first asked).done + 1)
+  unfolding sweep_of ticks
+  eight-time =
+      let few : 8 ≤ 8 = omega arith in
+      run-ends most 8 asked.delays are few asked.budget (sweep_start image first asked) [] 0 is
+
+  swept-whole : (answer : Answer) → answer.done ≡ (sweep_of image first asked).done → answer.ticks ≡ slice_index (sweep_of image first asked).ticks 7
+      → IsIn most answer
+  swept-whole answer done ticks =
+      subst (λ k. k ≤ 64 * (most + 4) * (answer.done + 1)) (sym ticks)
+      (subst (λ n. slice_index (sweep_of image first asked).ticks 7 ≤ 64 * (most + 4) * (n + 1)) (sym done) eight-time)
+
+  swept-status : (status : Status) (s t : OutputState) (answer : Answer)
+      → Writes status s t (output_of_sweep (sweep_of image first asked)) answer → IsIn most answer
+  swept-status Done s t answer w = swept-whole answer w.done w.ticks
+  swept-status Refused s t answer w = swept-whole answer w.done w.ticks
+  swept-status WriteFault s t answer w =
+      let lines = sweep_lines (sweep_of image first asked) in
+      stopped-time (64 * (most + 4)) s t (at_moment 0 0 lines) answer.done answer.ticks (moment-time (64 * (most + 4)) 0 0 lines (omega arith)) w
+  swept-status NoMemory s t answer w =
+      let none : answer.ticks ≡ 0 = w.1.no_ticks in omega (arith, none)
+  swept-status Usage s t answer w = absurd w
+  swept-status JobTooLong s t answer w = absurd w
+  swept-status ReadFault s t answer w = absurd w
+
+  pub swept_time : (s t : OutputState) (answer : Answer)
+      → Writes answer.status s t (output_of_sweep (sweep_of image first asked)) answer → IsIn most answer
+  swept_time s t answer w = swept-status answer.status s t answer w
+
 -- delays that keep the limits of control cards, none of which exceeds a number
 pub delays_within : (most : ℕ) (ds : List ℕ) → 1 ≤ length ds → AllPass (is_among 1 MOST_DELAY) ds → All (λ d. d ≤ most) ds → AreDelays most ds
 delays_within most ds some limits below = record {
@@ -117,6 +151,13 @@ pub keeps_time : (asked : Asked) (start : Scene) (s t : OutputState) (listed : L
     → Writes answer.status s t (output_of_run listed asked start) answer → KeepsTime asked.delays answer
 keeps_time asked start s t listed answer some limits is w = λ most below.
     writes_time most asked start (delays_within most asked.delays some limits below) is s t listed answer w
+
+-- so they bound the ticks of its sweep
+pub keeps_sweep : (image : List ℕ) (first : ℕ) (asked : Asked) (s t : OutputState) (answer : Answer)
+    → 1 ≤ length asked.delays → AllPass (is_among 1 MOST_DELAY) asked.delays → IsScene (sweep_start image first asked)
+    → Writes answer.status s t (output_of_sweep (sweep_of image first asked)) answer → KeepsTime asked.delays answer
+keeps_sweep image first asked s t answer some limits is w = λ most below.
+    swept_time most image first asked (delays_within most asked.delays some limits below) is s t answer w
 
 -- an answer without ticks is in time
 pub keeps_still : (delays : List ℕ) (answer : Answer) → answer.ticks ≡ 0 → KeepsTime delays answer

@@ -10,7 +10,7 @@ use Rattle.st_top.specs.declared.answer.Answer.{Answer}
 use Rattle.st_top.specs.declared.answer.Status.{Status}
 use Rattle.st_top.specs.declared.answer.Status.TheVariants.{Done, Refused, Usage, JobTooLong, ReadFault, WriteFault, NoMemory}
 use Rattle.st_top.specs.declared.command.Command.{Command}
-use Rattle.st_top.specs.declared.command.Command.TheVariants.{Run, Assemble, Load, Disassemble, Soak}
+use Rattle.st_top.specs.declared.command.Command.TheVariants.{Run, Assemble, Load, Disassemble, Sweep, Soak}
 
 -- the longest job, in bytes
 abbrev pub job_limit : ℕ
@@ -82,6 +82,7 @@ Acted Run status input input' before after answer = Did Run status input input' 
 Acted Assemble status input input' before after answer = Did Assemble status input input' before after answer
 Acted Load status input input' before after answer = Did Load status input input' before after answer
 Acted Disassemble status input input' before after answer = Did Disassemble status input input' before after answer
+Acted Sweep status input input' before after answer = Did Sweep status input input' before after answer
 Acted (Soak number cards) status input input' before after answer =
     (input' ≡ input) × Writes status before after (soaked number cards) answer
     × KeepsTime (soaked_delays number cards) answer

@@ -3,7 +3,7 @@ use Rattle.std.specs.Prelude.{ℕ, ◌-◌, ◌^◌, ◌&&◌, ◌≤◌, nat_eq
 use Rattle.std.specs.Cmp.Lexicographic.{pointwise}
 use Rattle.st_card.specs.Number.{is_number, value}
 use Rattle.st_top.specs.declared.command.Command.{Command}
-use Rattle.st_top.specs.declared.command.Command.TheVariants.{Run, Assemble, Load, Disassemble, Soak}
+use Rattle.st_top.specs.declared.command.Command.TheVariants.{Run, Assemble, Load, Disassemble, Sweep, Soak}
 
 -- the command that a word is by itself
 abbrev pub command_named : List ℕ → Option Command
@@ -12,6 +12,7 @@ command_named word =
     else if pointwise nat_eq word (codes "assemble") then Some Assemble
     else if pointwise nat_eq word (codes "load") then Some Load
     else if pointwise nat_eq word (codes "disassemble") then Some Disassemble
+    else if pointwise nat_eq word (codes "sweep") then Some Sweep
     else None
 
 -- the number that a word of 1 to 20 decimal digits is, where it is from `least` to `most`
@@ -33,6 +34,7 @@ IsWithinCards Run = Unit {0}
 IsWithinCards Assemble = Unit {0}
 IsWithinCards Load = Unit {0}
 IsWithinCards Disassemble = Unit {0}
+IsWithinCards Sweep = Unit {0}
 
 -- the command that a word is with a seed and a number of cards
 abbrev pub command_with : List ℕ → List ℕ → List ℕ → Option Command

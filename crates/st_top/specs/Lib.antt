@@ -6,6 +6,7 @@ pub mod StepsBack
 pub mod Beside
 pub mod Listing
 pub mod ObjectText
+pub mod Sweep
 pub mod Output
 pub mod Answers
 pub mod Layers

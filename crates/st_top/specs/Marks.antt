@@ -17,7 +17,7 @@ use Rattle.st_top.specs.Output.{output_of, start_of, loaded_start}
 use Rattle.st_top.specs.Report.{line_if, block, snapshot_lines}
 use Rattle.st_top.specs.StepsBack.{timed, last_state, states, back_lines}
 use Rattle.st_top.specs.declared.command.Command.{Command}
-use Rattle.st_top.specs.declared.command.Command.TheVariants.{Run, Assemble, Load, Disassemble, Soak}
+use Rattle.st_top.specs.declared.command.Command.TheVariants.{Run, Assemble, Load, Disassemble, Sweep, Soak}
 
 -- a line, and whether the delays may change it
 pub record Marked : Type 0 where
@@ -106,12 +106,14 @@ abbrev pub marked_load : List ℕ → Result Program ℕ → List Marked
 marked_load text (Ok p) = marked_run p.controls (loaded_start p)
 marked_load text (Err n) = plain (lines_of (output_of Load text).events)
 
--- what a command writes for a job: where nothing runs no line depends on the delays; `soak` draws its delays itself
+-- what a command writes for a job: where nothing runs no line depends on the delays; all that `sweep` tells does, and `soak` draws
+-- its delays itself
 unfoldable pub marked_output : Command → List ℕ → List Marked
 marked_output Run job = marked_by job (assembly job)
 marked_output Load text = marked_load text (read_text text)
 marked_output Assemble job = plain (lines_of (output_of Assemble job).events)
 marked_output Disassemble text = plain (lines_of (output_of Disassemble text).events)
+marked_output Sweep job = marked (lines_of (output_of Sweep job).events)
 marked_output (Soak number cards) job = marked (lines_of (output_of (Soak number cards) job).events)
 
 -- ---- two jobs

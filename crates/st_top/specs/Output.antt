@@ -1,5 +1,5 @@
 -- What the program writes for a command and a job.
-use Rattle.std.specs.Prelude.{ℕ, List, [], ◌∷◌, ◌++◌, nat_le, if◌then◌else◌, Option, None, Some, Result, Ok, Err}
+use Rattle.std.specs.Prelude.{ℕ, slice_index, List, [], ◌∷◌, ◌++◌, nat_le, if◌then◌else◌, Option, None, Some, Result, Ok, Err}
 use Rattle.st_card.specs.Controls.{Asked}
 use Rattle.st_card.specs.Faults.{name_of}
 use Rattle.st_asm.specs.Pass.{Refusal}
@@ -12,15 +12,17 @@ use Rattle.st_report.specs.Line.{fault_line}
 use Rattle.st_top.specs.Signals.{signals_of}
 use Rattle.st_top.specs.Listing.{front}
 use Rattle.st_top.specs.StepsBack.{end_of, run_report}
+use Rattle.st_top.specs.Sweep.{sweep_lines, sweep_of}
 use Rattle.st_top.specs.ObjectText.{program_in, object_lines, deck_lines}
 use Rattle.st_object.specs.Object.{Program, read_text}
 use Rattle.st_dis.specs.Deck.{card_count}
 use Rattle.st_gen.specs.Deck.{made_deck}
+use Rattle.st_sweep.specs.declared.sweeping.Swept.{Swept}
 use Rattle.st_card.specs.declared.faults.Fault.TheVariants.{TooManyCards, BadObjectCard}
 use Rattle.st_top.specs.declared.answer.Status.{Status}
 use Rattle.st_top.specs.declared.answer.Status.TheVariants.{Done, Refused}
 use Rattle.st_top.specs.declared.command.Command.{Command}
-use Rattle.st_top.specs.declared.command.Command.TheVariants.{Run, Assemble, Load, Disassemble, Soak}
+use Rattle.st_top.specs.declared.command.Command.TheVariants.{Run, Assemble, Load, Disassemble, Sweep, Soak}
 
 -- the status, the lines, the number of instructions done and the tick of the last completion
 pub record Output : Type 0 where
@@ -69,6 +71,20 @@ soaked number cards =
     let deck = made_deck number cards in
     ran_by (Some (number, cards)) deck (assembly deck)
 
+-- the output of a sweep: its lines belong to no moment of a run, and what is done is that of the run on eight levels
+abbrev pub output_of_sweep : Swept → Output
+output_of_sweep s = record {
+  status = Done;
+  events = at_moment 0 0 (sweep_lines s);
+  done = s.done;
+  ticks = slice_index s.ticks 7;
+}
+
+-- the output of `sweep`, by what a job gives
+abbrev pub swept_by : Result Assembly Refusal → Output
+swept_by (Ok a) = output_of_sweep (sweep_of a.image a.start a.asked)
+swept_by (Err r) = refused r
+
 -- the output of `assemble`, by what a job gives: its object text, line by line
 abbrev pub assembled_by : Result Assembly Refusal → Output
 assembled_by (Ok a) = lines_alone Done (object_lines (program_in a))
@@ -100,6 +116,7 @@ output_of Run job = ran_by None job (assembly job)
 output_of Assemble job = assembled_by (assembly job)
 output_of Load text = loaded_by (read_text text)
 output_of Disassemble text = disassembled_by (read_text text)
+output_of Sweep job = swept_by (assembly job)
 output_of (Soak number cards) job = soaked number cards
 
 -- the delays of storage with which an assembled job, or a program that is loaded, runs
@@ -121,4 +138,5 @@ delays_of Run job = assembled_delays (assembly job)
 delays_of Assemble job = []
 delays_of Load text = loaded_delays (read_text text)
 delays_of Disassemble text = []
+delays_of Sweep job = assembled_delays (assembly job)
 delays_of (Soak number cards) job = soaked_delays number cards

@@ -117,7 +117,11 @@ fn write_enabled<K: Sink>(out: &mut K, seen: &Seen<'_>) -> Result<(), Failed>
 }
 
 /// Writes the state block, with the dumps that are asked for.
-pub fn write_block<K: Sink>(out: &mut K, seen: &Seen<'_>, dumps: &[(u32, u32)]) -> Result<(), Failed>
+pub fn write_block<K: Sink>(
+    out: &mut K,
+    seen: &Seen<'_>,
+    dumps: &[(u32, u32)],
+) -> Result<(), Failed>
     requires { AllPass is_part dumps.now }
     ensures { WritesLines (K.output out.old) (K.output out.new) (block dumps.now seen.now) result }
 {

@@ -23,6 +23,8 @@ pub enum Command {
     Load,
     /// Read an object text and write the deck that assembles to it.
     Disassemble,
+    /// Assemble a deck, run it with an empty reader on machines of one to eight levels, and write the ticks of each run.
+    Sweep,
     /// Make the deck of a seed with 1 to 4,000 drawn cards, run it and write its report.
     Soak {
         /// The seed.
@@ -85,6 +87,7 @@ fn command_named_by(word: &str) -> Option<Command>
         "assemble" => Some(Command::Assemble),
         "load" => Some(Command::Load),
         "disassemble" => Some(Command::Disassemble),
+        "sweep" => Some(Command::Sweep),
         _ => None,
     }
 }

@@ -104,7 +104,7 @@ fn answer_of(written: Result<(), Failed>, moment: Moment) -> Answer
 }
 
 /// The signals that are asked for.
-fn signals(controls: &Controls) -> &[Signal]
+pub fn signals(controls: &Controls) -> &[Signal]
     ensures { result.now ≡ controls.now.signals }
 {
     controls.signals.as_slice()
@@ -209,7 +209,14 @@ fn prepare<'a>(
     let cards = reader(alloc, job)?;
     let delays = delays(alloc, controls)?;
     let past = beside(alloc, job, image, start, controls)?;
-    let run = Run::new(state, delays, signals(controls), cards, snaps(controls), budget(controls));
+    let run = Run::new(
+        state,
+        delays,
+        signals(controls),
+        cards,
+        snaps(controls),
+        budget(controls),
+    );
     Ok((run, past))
 }
 
@@ -260,7 +267,8 @@ pub fn execute<K: Sink>(
     let Ok(cards) = split(alloc, job) else {
         return Answer::without_run(Status::NoMemory);
     };
-    let Ok((mut run, mut past)) = prepare(alloc, job, words, program.start, &program.controls) else {
+    let Ok((mut run, mut past)) = prepare(alloc, job, words, program.start, &program.controls)
+    else {
         return Answer::without_run(Status::NoMemory);
     };
     answer_run(
@@ -304,7 +312,8 @@ pub fn execute_loaded<K: Sink>(alloc: Global, program: &Image, out: &mut K) -> A
     ensures in_time { KeepsTime program.now.controls.delays result }
 {
     let words = program.words.as_slice();
-    let Ok((mut run, mut past)) = prepare(alloc, b"", words, program.start, &program.controls) else {
+    let Ok((mut run, mut past)) = prepare(alloc, b"", words, program.start, &program.controls)
+    else {
         return Answer::without_run(Status::NoMemory);
     };
     answer_loaded(out, &mut run, &mut past, &program.controls)

@@ -16,8 +16,9 @@ mod past;
 mod program;
 mod refusal;
 mod reporting;
-mod telling;
 mod scene;
+mod sweeping;
+mod telling;
 
 pub use answer::{Answer, Status};
 pub use command::Command;

@@ -4,7 +4,7 @@ ghost use Rattle.std.specs.List.{list_all};
 ghost use Rattle.std.specs.String.{string_bytes};
 ghost use Rattle.st_top.specs.Command.{command_of, IsWithinCards};
 ghost use Rattle.st_top.specs.CommandLine.{is_plain};
-ghost use Rattle.st_top.specs.declared.command.Command.TheVariants.{Run, Assemble, Load, Disassemble};
+ghost use Rattle.st_top.specs.declared.command.Command.TheVariants.{Run, Assemble, Load, Disassemble, Sweep};
 ghost use Rattle.st_top.specs.Output.{output_of, delays_of, soaked, soaked_delays};
 ghost use Rattle.st_top.specs.Answers.{Did, Acted, IsAnswer, Writes, KeepsTime};
 ghost use Rattle.st_top.specs.Layers.{Ends, Tries};
@@ -15,6 +15,7 @@ use crate::execution::{execute, execute_loaded};
 use crate::layer_error::LayerError;
 use crate::objects::{answer_deck, answer_object, image_of};
 use crate::refusal::refuse;
+use crate::sweeping::execute_sweep;
 use st_asm::assemble;
 use st_gen::make_deck;
 use st_io::{Sink, Source, read_all};
@@ -64,6 +65,16 @@ fn disassemble_text<K: Sink>(alloc: Global, text: &[u8], out: &mut K) -> Result<
     answer_deck(alloc, &program, out)
 }
 
+/// Assembles a job and runs it on machines of one to eight levels.
+#[tactic(auto, unfolding(crate::specs::Output::output_of, crate::specs::Output::delays_of))]
+fn sweep_job<K: Sink>(alloc: Global, job: &[u8], out: &mut K) -> Result<Answer, LayerError>
+    requires { length job.now < 2 ^ 32 }
+    ensures { Ends (K.output out.old) (K.output out.new) (output_of Sweep job.now) (delays_of Sweep job.now) result }
+{
+    let program = assemble(alloc, job)?;
+    Ok(execute_sweep(alloc, &program, out))
+}
+
 /// Makes a deck, assembles it and runs it.
 fn run_made<K: Sink>(
     alloc: Global,
@@ -102,6 +113,7 @@ fn try_job<K: Sink>(
         Command::Assemble => assemble_job(alloc, job, out),
         Command::Load => load_job(alloc, job, out),
         Command::Disassemble => disassemble_text(alloc, job, out),
+        Command::Sweep => sweep_job(alloc, job, out),
         Command::Soak { number, cards } => run_made(alloc, number, cards, out),
     }
 }
@@ -162,16 +174,16 @@ fn act<S: Source, K: Sink>(alloc: Global, command: Command, job: &mut S, out: &m
 {
     match command {
         Command::Soak { number, cards } => answer_made(alloc, number, cards, out),
-        Command::Run | Command::Assemble | Command::Load | Command::Disassemble => {
-            answer(alloc, command, job, out)
-        }
+        Command::Run | Command::Assemble | Command::Load | Command::Disassemble | Command::Sweep =>
+            answer(alloc, command, job, out),
     }
 }
 
 /// Does what the words of the command line, after the program's name, ask for, on a job of at most 2,000,000
 /// bytes. `run` assembles it, runs it and writes its report; `assemble` assembles it and writes its object text;
 /// `load` takes it as an object text, runs that and writes its report; `disassemble` takes it as an object text and
-/// writes its deck. `soak` reads no job: it makes the deck of a seed and a number of cards, and does with it what `run`
+/// writes its deck; `sweep` assembles it, runs it with an empty reader on machines of one to eight levels, and writes the
+/// ticks of each run. `soak` reads no job: it makes the deck of a seed and a number of cards, and does with it what `run`
 /// does, behind a line that names them. Each line is written by itself, and all memory is taken before the first one.
 pub fn stretch<S: Source, K: Sink>(
     alloc: Global,

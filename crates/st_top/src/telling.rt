@@ -23,11 +23,7 @@ use st_run::{Run, Seen, Told, What};
 use st_time::{chart, level_line, snap_line};
 
 /// Writes the state block, with the dumps that are asked for.
-pub fn write_state<K: Sink>(
-    out: &mut K,
-    seen: &Seen<'_>,
-    controls: &Controls,
-) -> Result<(), Failed>
+pub fn write_state<K: Sink>(out: &mut K, seen: &Seen<'_>, controls: &Controls) -> Result<(), Failed>
     requires { AllPass is_part controls.now.dumps }
     ensures { WritesLines (K.output out.old) (K.output out.new)
         (block controls.now.dumps seen.now) result }
@@ -75,12 +71,7 @@ fn write_trace<K: Sink>(
 
 /// Writes the line of a row, where the timetable is asked for.
 #[tactic(auto, using(st_lines::proofs::Progress::wrote_nothing))]
-fn write_row<K: Sink>(
-    out: &mut K,
-    done: u64,
-    row: Row,
-    controls: &Controls,
-) -> Result<(), Failed>
+fn write_row<K: Sink>(out: &mut K, done: u64, row: Row, controls: &Controls) -> Result<(), Failed>
     ensures { WritesLines (K.output out.old) (K.output out.new)
         (line_if controls.now.chart (row_line done row.address row.p row.r row.c)) result }
 {
@@ -95,12 +86,7 @@ fn write_row<K: Sink>(
 }
 
 /// Writes the lines of an entry that is done.
-fn write_done<K: Sink>(
-    out: &mut K,
-    done: u64,
-    row: Row,
-    controls: &Controls,
-) -> Result<(), Failed>
+fn write_done<K: Sink>(out: &mut K, done: u64, row: Row, controls: &Controls) -> Result<(), Failed>
     ensures { WritesLines (K.output out.old) (K.output out.new)
         (done_lines controls.now done row.address row.p row.r row.c) result }
 {

@@ -11,6 +11,7 @@ mod objects;
 mod refusals;
 mod reports;
 mod soak;
+mod sweep;
 
 /// Gives a command line and a job to the program. It has no contract, so the tests do not carry that of the program.
 fn answered<S: Source, K: Sink>(

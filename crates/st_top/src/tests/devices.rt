@@ -34,7 +34,7 @@ fn words_that_mean_nothing_touch_neither_job_nor_report(rt: HostRuntime) -> Resu
         &["soak", "", "1"],
         &["run", "7030", "40"],
         &["disassembled"],
-        &["sweep"],
+        &["sweep", "8"],
     ];
     for line in lines {
         let bytes = LOAD.as_bytes().to_vec(rt.alloc())?;

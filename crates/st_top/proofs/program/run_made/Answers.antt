@@ -16,7 +16,7 @@ returns g c =
     let same : assembly c.as_slice-job.result.now ≡ Ok (shown c.in_ok-program.program) = c.in_ok-program.ensures.ok in (
       subst (λ (job : List ℕ). Writes answer.status (g.K.Sink.output c.args.out.now) (g.K.Sink.output c.execute.new.out) (ran_by (Some (n, k)) job (assembly job)) answer) deck
           (subst (λ (r : Result Assembly Refusal). Writes answer.status (g.K.Sink.output c.args.out.now) (g.K.Sink.output c.execute.new.out) (ran_by (Some (n, k)) c.as_slice-job.result.now r) answer)
-              (sym same) c.execute.ensures.writes),
+          (sym same) c.execute.ensures.writes),
       subst (λ (job : List ℕ). KeepsTime (assembled_delays (assembly job)) answer) deck
           (subst (λ (r : Result Assembly Refusal). KeepsTime (assembled_delays r) answer) (sym same) c.execute.ensures.in_time),
     )

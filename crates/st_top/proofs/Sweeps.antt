@@ -1,0 +1,69 @@
+-- What a sweep tells, and its lines.
+use Rattle.std.proofs.Common.{◌≡◌, ℕ, ◌+◌, ◌<◌, ◌≤◌, ◌^◌, List, [], ◌∷◌, All, get_or, length, nat_le, slice_index_or, sym, ◌∙◌, ap, subst}
+use Rattle.std.proofs.lemmas.Bool.{and_parts, leb-true}
+use Rattle.std.proofs.lemmas.List.Elements.{All-nil}
+use Rattle.std.specs.Prelude.{Result, Ok, Err, IfOk, slice_index}
+use Rattle.std.specs.List.{AllPass}
+use Rattle.st_bits.specs.Storage.{words_of_storage}
+use Rattle.st_io.specs.Output.{OutputState, Wrote}
+use Rattle.st_lines.specs.Lines.{text}
+use Rattle.st_lines.proofs.Writing.{wrote_at_moment}
+use Rattle.st_card.specs.Controls.{Asked, is_among}
+use Rattle.st_card.specs.declared.limits.TheConstants.{MOST_DELAY}
+use Rattle.st_card.specs.declared.control_cards.Signal.{Signal as SignalCard}
+use Rattle.st_state.specs.Machine.{opening}
+use Rattle.st_state.proofs.Kept.{is_machine-opening}
+use Rattle.st_report.specs.Line.{levels_line}
+use Rattle.st_run.specs.Scenes.{IsCard, IsScene}
+use Rattle.st_sweep.specs.Sweep.{without_cards}
+use Rattle.st_sweep.specs.SideBySide.{swept}
+use Rattle.st_sweep.specs.declared.sweeping.Swept.{Swept}
+use Rattle.st_top.specs.Signals.{signals_of}
+use Rattle.st_top.specs.Sweep.{levels_lines, sweep_lines, sweep_start, sweep_of}
+use Rattle.st_top.specs.Output.{output_of_sweep}
+use Rattle.st_top.specs.Answers.{WroteAll, Writes}
+use Rattle.st_top.specs.declared.answer.Answer.{Answer}
+use Rattle.st_top.specs.declared.answer.Status.TheVariants.{Done}
+
+-- the line of the first machine, and those of the others
+pub first_lines : (n t : ℕ) (ts xs : List ℕ) → xs ≡ t ∷ ts → levels_lines n xs ≡ levels_line n t ∷ levels_lines (n + 1) ts
+unfolding levels_lines
+first_lines n t ts xs is = ap (levels_lines n) is
+
+pub no_lines : (n : ℕ) (xs : List ℕ) → xs ≡ [] → [] ≡ levels_lines n xs
+unfolding levels_lines
+no_lines n xs is = sym (ap (levels_lines n) is)
+
+-- each delay that keeps its limits is 1 at least
+pub delays_last : (ds es : List ℕ) → AllPass (is_among 1 MOST_DELAY) ds → es ≡ ds → All (λ d. 1 ≤ d) es
+delays_last ds es limits same =
+    subst (All (λ d. 1 ≤ d)) (sym same) (λ k d lt.
+    let x = slice_index_or ds k d in leb-true 1 x (and_parts (nat_le 1 x) (nat_le x MOST_DELAY) (limits k d lt)).0)
+
+-- what is swept is what is asked for
+pub swept_is : {E : Type 0} (r : Result Swept E) (image : List ℕ) (start : ℕ) (asked : Asked) (ds : List ℕ) (budget : ℕ) (xs : List SignalCard)
+    → IfOk r (λ s. s ≡ swept ds budget (without_cards (opening image start) (signals_of xs)))
+    → ds ≡ asked.delays → budget ≡ asked.budget → xs ≡ asked.signals → IfOk r (λ s. s ≡ sweep_of image start asked)
+unfolding sweep_of
+swept_is (Ok s) image start asked ds budget xs e delays many signals =
+    e ∙ (ap (λ (es : List ℕ). swept es budget (without_cards (opening image start) (signals_of xs))) delays
+    ∙ (ap (λ (n : ℕ). swept asked.delays n (without_cards (opening image start) (signals_of xs))) many
+    ∙ ap (λ (ys : List SignalCard). swept asked.delays asked.budget (without_cards (opening image start) (signals_of ys))) signals))
+swept_is (Err x) image start asked ds budget xs e delays many signals = tt
+
+-- its start is a scene
+pub sweeps_scene : (image : List ℕ) (start : ℕ) (asked : Asked) → length image ≡ words_of_storage
+    → ((w : ℕ) → w < 32 → get_or image w 0 ≡ 0) → ((w : ℕ) → get_or image w 0 < 2 ^ 64) → start < 2 ^ 19
+    → IsScene (sweep_start image start asked)
+sweeps_scene image start asked size zeros below counter = record {
+  machine = is_machine-opening image start size zeros below counter;
+  cards = All-nil IsCard;
+}
+
+-- all its lines are written
+pub swept_all : (s t : OutputState) (w : Swept) (answer : Answer) → Wrote s t (text (sweep_lines w))
+    → answer.status ≡ Done → answer.done ≡ w.done → answer.ticks ≡ slice_index w.ticks 7 → Writes answer.status s t (output_of_sweep w) answer
+swept_all s t w answer wrote good done ticks =
+    let all : WroteAll s t (output_of_sweep w) answer =
+    record { status = good; wrote = wrote_at_moment s t 0 0 (sweep_lines w) wrote; done = done; ticks = ticks } in
+    subst (λ st. Writes st s t (output_of_sweep w) answer) (sym good) all

@@ -1,0 +1,135 @@
+//! A job on machines of one to eight levels, and what is written of it.
+ghost use Rattle.std.specs.Prelude.{◌≡◌, ◌+◌, ◌≤◌, ◌<◌, ◌^◌, ℕ, Ok, None, [], ◌∷◌, All, IfOk, IfSome, MatchOption, length, slice_index};
+ghost use Rattle.st_bits.specs.Storage.{words_of_storage};
+ghost use Rattle.st_bits.specs.declared.register.TheConstants.{FIRST_STORAGE_WORD};
+ghost use Rattle.st_asm.specs.Assembly.{shown};
+ghost use Rattle.st_asm.specs.Sound.{IsImage};
+ghost use Rattle.st_card.specs.Limits.{IsWithinLimits};
+ghost use Rattle.st_lines.specs.Lines.{WritesLines};
+ghost use Rattle.st_report.specs.Line.{calm_line};
+ghost use Rattle.st_run.specs.Scenes.{IsScene};
+ghost use Rattle.st_top.specs.Sweep.{levels_lines, sweep_lines, sweep_start, sweep_of};
+ghost use Rattle.st_top.specs.Output.{output_of_sweep, swept_by};
+ghost use Rattle.st_top.specs.Answers.{Writes, KeepsTime};
+
+use crate::answer::{Answer, Status};
+use crate::block::put;
+use crate::execution::signals;
+use crate::reporting::budget;
+use st_asm::Assembled;
+use st_bits::NoMemory;
+use st_card::Controls;
+use st_io::{Failed, Sink};
+use st_report::{line_calm, line_levels};
+use st_sweep::{Swept, sweep};
+use std::alloc::Global;
+
+/// The first of some ticks, and what is behind it.
+fn first_ticks(ticks: &[u64]) -> Option<(u64, &[u64])>
+    ensures parts { MatchOption result (ticks.now ≡ []) (λ r. ticks.now ≡ r.0 ∷ r.1.now) }
+    ensures fewer { IfSome result (λ r. length r.1.now + 1 ≡ length ticks.now) }
+{
+    match ticks {
+        [first, more @ ..] => Some((*first, more)),
+        [] => None,
+    }
+}
+
+/// Writes the lines of machines with `n` levels, `n + 1` levels and so on, by their ticks.
+#[tactic(auto, using(st_lines::proofs::Progress::wrote_nothing))]
+fn write_levels<K: Sink>(out: &mut K, n: u8, ticks: &[u64]) -> Result<(), Failed>
+    requires { n + length ticks.now ≤ 9 }
+    ensures { WritesLines (K.output out.old) (K.output out.new) (levels_lines n ticks.now) result }
+{
+    let Some((first, more)) = first_ticks(ticks) else {
+        return Ok(());
+    };
+    put(out, &line_levels(n, first))?;
+    write_levels(out, n + 1, more)
+}
+
+/// Writes the line that says whether a run is calm.
+fn write_calm<K: Sink>(out: &mut K, calm: bool) -> Result<(), Failed>
+    ensures { WritesLines (K.output out.old) (K.output out.new) (calm_line calm ∷ []) result }
+{
+    put(out, &line_calm(calm))
+}
+
+/// Writes the lines of a sweep.
+fn write_sweep<K: Sink>(out: &mut K, swept: Swept) -> Result<(), Failed>
+    ensures { WritesLines (K.output out.old) (K.output out.new) (sweep_lines swept) result }
+{
+    write_levels(out, 1, &swept.ticks)?;
+    write_calm(out, swept.calm)
+}
+
+/// Writes the lines of a sweep, and answers by the run on eight levels.
+fn answer_swept<K: Sink>(out: &mut K, swept: Swept) -> Answer
+    ensures { Writes result.status (K.output out.old) (K.output out.new)
+        (output_of_sweep swept) result }
+{
+    match write_sweep(out, swept) {
+        Ok(()) => Answer {
+            status: Status::Done,
+            done: swept.done,
+            ticks: swept.ticks[7],
+        },
+        Err(_) => Answer {
+            status: Status::WriteFault,
+            done: 0,
+            ticks: 0,
+        },
+    }
+}
+
+/// The delays of storage that are asked for.
+fn delays(controls: &Controls) -> &[u8]
+    ensures { result.now ≡ controls.now.delays }
+{
+    controls.delays.as_slice()
+}
+
+/// Runs an image from a start on machines of one to eight levels, with an empty reader.
+fn sweep_image(
+    alloc: Global,
+    image: &[u64],
+    start: u32,
+    controls: &Controls,
+) -> Result<Swept, NoMemory>
+    requires whole { length image.now ≡ words_of_storage }
+    requires registers { (w : ℕ) → w < FIRST_STORAGE_WORD → slice_index image.now w ≡ 0 }
+    requires counter { start < 2 ^ 19 }
+    requires limits { IsWithinLimits controls.now }
+    requires budget { 1 ≤ controls.now.budget }
+    requires delays { 1 ≤ length controls.now.delays }
+    ensures value { IfOk result (λ swept. swept ≡ sweep_of image.now start controls.now) }
+    ensures scene { IsScene (sweep_start image.now start controls.now) }
+{
+    sweep(
+        alloc,
+        image,
+        start,
+        delays(controls),
+        signals(controls),
+        budget(controls),
+    )
+}
+
+/// Runs a job that is assembled on machines of one to eight levels, and writes the lines of the sweep.
+#[tactic(auto, using(st_bits::specs::Storage::words_of_storage_is, crate::proofs::Times::keeps_still))]
+pub fn execute_sweep<K: Sink>(alloc: Global, program: &Assembled, out: &mut K) -> Answer
+    requires image { IsImage program.now.image.items }
+    requires counter { program.now.start < 2 ^ 19 }
+    requires limits { IsWithinLimits program.now.controls }
+    requires budget { 1 ≤ program.now.controls.budget }
+    requires delays { 1 ≤ length program.now.controls.delays }
+    ensures writes { Writes result.status (K.output out.old) (K.output out.new)
+        (swept_by (Ok (shown program.now))) result }
+    ensures in_time { KeepsTime program.now.controls.delays result }
+{
+    let words = program.image.as_slice();
+    let Ok(swept) = sweep_image(alloc, words, program.start, &program.controls) else {
+        return Answer::without_run(Status::NoMemory);
+    };
+    answer_swept(out, swept)
+}
