@@ -60,10 +60,10 @@ unfolding marked_listing
 listing-same job other a b h =
     asked-same a.asked.list (listed_lines job a) (listed_lines other b) (listed-same job other a b h)
     ∙ ap (λ (asked : Asked). unmarked (if asked.list then listed_lines other b else [])) h.asked where
-  asked-same : (test : Bool) (xs ys : List Marked) → unmarked xs ≡ unmarked ys
-      → unmarked (if test then xs else []) ≡ unmarked (if test then ys else [])
-  asked-same true xs ys same = same
-  asked-same false xs ys same = refl
+      asked-same : (test : Bool) (xs ys : List Marked) → unmarked xs ≡ unmarked ys
+          → unmarked (if test then xs else []) ≡ unmarked (if test then ys else [])
+      asked-same true xs ys same = same
+      asked-same false xs ys same = refl
 
 -- ---- the run
 

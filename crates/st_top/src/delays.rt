@@ -25,7 +25,7 @@ pub fn marks_are_the_report()
 pub fn delays_change_nothing_but_the_timetable()
     ensures { (asked : Asked) (ds snaps : List ℕ) (time chart : Bool) (start : Scene) →
         unmarked (marked_run (record asked { delays = ds; snaps = snaps; time = time; chart = chart }) start)
-            ≡ unmarked (marked_run asked start) }
+        ≡ unmarked (marked_run asked start) }
 {}
 
 /// Two jobs that are not refused and differ in their delays alone write the same lines but for those that are marked: those

@@ -22,7 +22,9 @@ mod telling;
 
 pub use answer::{Answer, Status};
 pub use command::Command;
-pub use delays::{delays_change_nothing_but_the_timetable, jobs_that_differ_in_delays_alone, marks_are_the_report};
+pub use delays::{
+    delays_change_nothing_but_the_timetable, jobs_that_differ_in_delays_alone, marks_are_the_report,
+};
 pub use objects::{lines_are_the_deck, lines_are_the_object_text};
 pub use program::stretch;
 
