@@ -23,7 +23,7 @@ fn assembled(alloc: Global, job: &[u8]) -> Result<Assembled, Fail> {
 }
 
 // A job of its kind for each fault, the card that has it; then jobs with several, of which the first in the earliest pass counts.
-const FAULTY: [(&[u8], u32, Fault); 50] = [
+const FAULTY: [(&[u8], u32, Fault); 46] = [
     (b"\x07", 1, Fault::NotAscii),
     (
         b"                                                                                 ",
