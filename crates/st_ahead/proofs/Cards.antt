@@ -10,7 +10,7 @@ use Rattle.st_prep.specs.declared.entries.Place.{Place}
 use Rattle.st_ahead.specs.Overlap.{Overlap}
 use Rattle.st_ahead.specs.Calls.{ended, read_in_by}
 use Rattle.st_prep.specs.Fetch.{index_words, place_of}
-use Rattle.st_exec.specs.Run.{all_stored, read_in}
+use Rattle.st_exec.specs.Transfer.{all_stored, read_in}
 use Rattle.st_exec.proofs.Unchanged.{stored-other}
 use Rattle.st_rows.specs.Rows.{opening}
 use Rattle.st_rows.specs.declared.front.Front.{Front}

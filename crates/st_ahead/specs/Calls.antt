@@ -5,7 +5,7 @@ use Rattle.st_state.specs.Interrupts.{signalled}
 use Rattle.st_prep.specs.Plan.{plan}
 use Rattle.st_exec.specs.Completion.{executed, is_missed}
 use Rattle.st_exec.specs.Step.{rests}
-use Rattle.st_exec.specs.Run.{read_in, printed_out}
+use Rattle.st_exec.specs.Transfer.{read_in, printed_out}
 use Rattle.st_rows.specs.Rows.{opening, after}
 use Rattle.st_ahead.specs.Overlap.{Overlap, oldest, oldest_row, levels_of, banks_at_its_end, interrupt_due}
 use Rattle.st_ahead.specs.declared.events.Row.{Row}

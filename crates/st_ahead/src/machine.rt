@@ -46,7 +46,7 @@ impl<const N: usize> Machine<N> {
     ghost use Rattle.st_exec.specs.Step.{rests};
     ghost use Rattle.st_ahead.specs.Overlap.{started, interrupt_due as interrupt_due_of};
     ghost use Rattle.st_ahead.specs.Calls.{IsEvent, ticked, dropped, ended, answer, settled, passed, signalled_by, MaySignal, MayServe, read_in_by, dropped_by, printed_by};
-    ghost use Rattle.st_exec.specs.Run.{read_in as read_in_of, words_from};
+    ghost use Rattle.st_exec.specs.Transfer.{read_in as read_in_of, words_from};
     ghost use Rattle.st_ahead.specs.Overlap.{last_tick as last_tick_of};
     ghost use Rattle.st_ahead.specs.Shown.{AreLevelsOf, index_of, shown};
 

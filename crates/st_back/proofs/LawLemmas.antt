@@ -9,7 +9,7 @@ use Rattle.st_bits.specs.Storage.{words_of_storage_is}
 use Rattle.st_state.specs.Machine.{Machine, IsMachine, word, with_word, stored}
 use Rattle.st_state.specs.Interrupts.{signalled}
 use Rattle.st_state.specs.declared.devices.Order.{Order}
-use Rattle.st_exec.specs.Run.{read_in, printed_out}
+use Rattle.st_exec.specs.Transfer.{read_in, printed_out}
 use Rattle.st_exec.specs.Step.{IsStep}
 use Rattle.st_exec.specs.declared.step.Step.{Step}
 use Rattle.st_exec.specs.declared.step.Step.TheVariants.{Plain, Interrupt, Waits}

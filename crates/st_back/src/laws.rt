@@ -3,7 +3,7 @@ ghost use Rattle.std.specs.Prelude.{◌≡◌, ◌≢◌, ℕ, ◌≤◌, true, 
 ghost use Rattle.circular_buffer.specs.Buffer.{keep_last};
 ghost use Rattle.st_state.specs.Machine.{Machine, IsMachine};
 ghost use Rattle.st_state.specs.Interrupts.{signalled};
-ghost use Rattle.st_exec.specs.Run.{read_in, printed_out};
+ghost use Rattle.st_exec.specs.Transfer.{read_in, printed_out};
 ghost use Rattle.st_exec.specs.Step.{IsStep};
 ghost use Rattle.st_exec.specs.declared.step.Step.{Step as Answer};
 ghost use Rattle.st_exec.specs.declared.step.Step.TheVariants.{Waits};

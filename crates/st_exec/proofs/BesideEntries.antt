@@ -19,7 +19,7 @@ use Rattle.st_exec.specs.Deed.{deed_of, deed, done}
 use Rattle.st_exec.specs.declared.deeds.Deed.{Deed}
 use Rattle.st_exec.specs.declared.deeds.Deed.TheVariants.{Rest, Put, Copy, Exchange, TurnOff, Enable, Wait, Give, Settle}
 use Rattle.st_exec.specs.Completion.{with_change, early, counter, counted, guessed}
-use Rattle.st_exec.specs.Run.{read_in, printed_out}
+use Rattle.st_exec.specs.Transfer.{read_in, printed_out}
 use Rattle.st_exec.proofs.SparedLemmas.{IsQuiet, quiet-deed}
 use Rattle.st_exec.proofs.AheadLemmas.{late}
 use Rattle.st_exec.proofs.AlikeDeeds.{guessed-late, guessed-alike}

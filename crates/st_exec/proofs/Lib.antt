@@ -1,4 +1,4 @@
-pub mod Runs
+pub mod StepLemmas
 pub mod OperandLemmas
 pub mod MoveLemmas
 pub mod InsideLemmas

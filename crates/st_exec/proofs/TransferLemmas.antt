@@ -2,7 +2,7 @@
 use Rattle.std.proofs.Common.{◌≡◌, ℕ, zero, suc, ◌+◌, ◌<◌, ◌≤◌, List, [], ◌∷◌, length, get_or, drop, refl, sym, ◌∙◌, ap, arith}
 use Rattle.std.proofs.lemmas.List.{drop_more, length-drop}
 use Rattle.st_state.specs.Machine.{Machine, word, stored}
-use Rattle.st_exec.specs.Run.{all_stored, words_from}
+use Rattle.st_exec.specs.Transfer.{all_stored, words_from}
 
 -- what is left of a card after k words
 pub all_stored-next : (s : Machine) (w k : ℕ) (xs : List ℕ) → k < length xs

@@ -1,5 +1,5 @@
 pub mod Step
-pub mod Run
+pub mod Transfer
 pub mod Operand
 pub mod Outcome
 pub mod Deed

@@ -10,7 +10,7 @@ ghost use Rattle.st_prep.specs.Plan.{opened};
 ghost use Rattle.st_prep.specs.Ranges.{IsPrepared};
 ghost use Rattle.st_exec.specs.Ahead.{IsNotAmong, IsPast};
 ghost use Rattle.st_exec.specs.Completion.{early, completed, guessed};
-ghost use Rattle.st_exec.specs.Run.{read_in, printed_out};
+ghost use Rattle.st_exec.specs.Transfer.{read_in, printed_out};
 
 /// The index words after the early change of any entry are those of that change: of one that is done alone and of a table
 /// instruction, whose interrupt is taken first, too.

@@ -1,7 +1,7 @@
 //! What the reader and the printer do between two instructions.
 ghost use Rattle.std.specs.Prelude.{◌≡◌, ◌+◌, ◌≤◌, IsSome, IfSome};
 ghost use Rattle.st_bits.specs.Storage.{words_of_storage};
-ghost use Rattle.st_exec.specs.Run.{all_stored, words_from, read_in as read_in_of, printed_out};
+ghost use Rattle.st_exec.specs.Transfer.{all_stored, words_from, read_in as read_in_of, printed_out};
 
 use st_bits::indicators::{END_EXCEPTION, END_OF_OPERATION};
 use st_state::State;

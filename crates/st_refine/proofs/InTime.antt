@@ -11,7 +11,7 @@ use Rattle.st_prep.specs.Plan.{plan}
 use Rattle.st_exec.proofs.Unchanged.{completed-done}
 use Rattle.st_exec.specs.Completion.{executed}
 use Rattle.st_exec.specs.Step.{rests}
-use Rattle.st_exec.specs.Run.{all_stored, read_in, printed_out}
+use Rattle.st_exec.specs.Transfer.{all_stored, read_in, printed_out}
 use Rattle.st_banks.specs.declared.answers.LastAnswers.{LastAnswers}
 use Rattle.st_banks.specs.declared.answers.TheConstants.{BANKS}
 use Rattle.st_rows.specs.Ranges.{AreDelays, IsEntry, IsTight, IsNear}

@@ -6,8 +6,8 @@ use Rattle.std.proofs.lemmas.List.Elements.{All-nil, All-cons, All-head, All-tai
 use Rattle.st_state.specs.Machine.{Machine}
 use Rattle.st_exec.specs.Completion.{executed, guess}
 use Rattle.st_exec.specs.Step.{interrupt, rests, step}
-use Rattle.st_exec.specs.Run.{read_in}
-use Rattle.st_exec.proofs.Runs.{step-done}
+use Rattle.st_exec.specs.Transfer.{read_in}
+use Rattle.st_exec.proofs.StepLemmas.{step-done}
 use Rattle.st_banks.specs.declared.answers.LastAnswers.{LastAnswers}
 use Rattle.st_rows.specs.Asked.{Read, asked, served, made_before}
 use Rattle.st_rows.specs.Rows.{row, after, opening, addressed, prepared, tick_a, tick_p, tick_c}

@@ -7,8 +7,8 @@ use Rattle.st_prep.specs.Fetch.{address_by}
 use Rattle.st_prep.specs.Plan.{plan}
 use Rattle.st_exec.specs.Completion.{executed, guess, is_missed}
 use Rattle.st_exec.specs.Step.{interrupt, rests, step, address}
-use Rattle.st_exec.specs.Run.{read_in}
-use Rattle.st_exec.proofs.Runs.{step-done}
+use Rattle.st_exec.specs.Transfer.{read_in}
+use Rattle.st_exec.proofs.StepLemmas.{step-done}
 use Rattle.st_rows.specs.Rows.{row, after}
 use Rattle.st_segment.specs.Entries.{entry}
 use Rattle.st_segment.specs.Guesses.{guesses}

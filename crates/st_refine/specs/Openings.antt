@@ -4,7 +4,7 @@ use Rattle.st_state.specs.Machine.{Machine}
 use Rattle.st_state.specs.Interrupts.{signalled}
 use Rattle.st_exec.specs.Completion.{guess}
 use Rattle.st_exec.specs.Step.{step}
-use Rattle.st_exec.specs.Run.{read_in, printed_out}
+use Rattle.st_exec.specs.Transfer.{read_in, printed_out}
 use Rattle.st_banks.specs.declared.answers.LastAnswers.{LastAnswers}
 use Rattle.st_banks.specs.declared.answers.TheConstants.{BANKS}
 use Rattle.st_rows.specs.Rows.{opening, row, after}

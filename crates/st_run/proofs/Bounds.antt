@@ -8,8 +8,8 @@ use Rattle.st_state.specs.Machine.{Machine}
 use Rattle.st_prep.proofs.Choices.{of_choice}
 use Rattle.st_exec.specs.Completion.{guess}
 use Rattle.st_exec.specs.Step.{interrupt, rests}
-use Rattle.st_exec.specs.Run.{Scene, Happening, Ends, settled, interrupts_by}
-use Rattle.st_exec.proofs.Runs.{step-done}
+use Rattle.st_run.specs.Run.{Scene, Happening, Ends, settled, interrupts_by}
+use Rattle.st_exec.proofs.StepLemmas.{step-done}
 use Rattle.st_banks.specs.declared.answers.LastAnswers.{LastAnswers}
 use Rattle.st_banks.specs.declared.answers.TheConstants.{BANKS}
 use Rattle.st_rows.specs.Ranges.{AreDelays, IsEntry, IsTight}

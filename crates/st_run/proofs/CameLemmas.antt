@@ -10,7 +10,8 @@ use Rattle.st_prep.specs.BesideOrders.{AreAlikeBesideOrders}
 use Rattle.st_prep.proofs.Choices.{of_choice}
 use Rattle.st_exch.specs.Printer.{printed}
 use Rattle.st_exec.specs.Step.{rests}
-use Rattle.st_exec.specs.Run.{Signal, Scene, Reached, Happening, with_due_signals, with_signals_at_rest, first_card, cards_after, words_from, read_in, with_reader, with_printer, nothing, and_then, if_due, with_due_orders, with_device, with_order_at_rest, with_wait, settled}
+use Rattle.st_exec.specs.Transfer.{words_from, read_in}
+use Rattle.st_run.specs.Run.{Signal, Scene, Reached, Happening, with_due_signals, with_signals_at_rest, first_card, cards_after, with_reader, with_printer, nothing, and_then, if_due, with_due_orders, with_device, with_order_at_rest, with_wait, settled}
 use Rattle.st_exec.proofs.BesideEntries.{beside-printed, beside-no_card, beside-signalled, beside-same, beside-then}
 use Rattle.st_ahead.specs.Overlap.{Overlap, interrupt_due}
 use Rattle.st_ahead.specs.Calls.{ended, settled as settled_of, read_in_by, printed_by, MayServe}

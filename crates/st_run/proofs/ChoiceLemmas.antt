@@ -5,7 +5,7 @@ use Rattle.st_state.specs.Machine.{Machine, IsMachine}
 use Rattle.st_prep.proofs.Choices.{of_choice}
 use Rattle.st_exec.proofs.BesideEntries.{beside-same}
 use Rattle.st_exec.specs.Step.{rests, interrupt}
-use Rattle.st_exec.specs.Run.{Scene, Signal, settled}
+use Rattle.st_run.specs.Run.{Scene, Signal, settled}
 use Rattle.st_rows.specs.Rows.{row, tick_c}
 use Rattle.st_rows.specs.Ranges.{IsEntry, AreDelays}
 use Rattle.st_rows.specs.declared.entry.Entry.{Entry}

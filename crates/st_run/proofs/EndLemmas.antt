@@ -2,7 +2,7 @@
 use Rattle.std.proofs.Common.{◌≡◌, ℕ, zero, suc, ◌+◌, ◌*◌, ◌≤◌, Bool, true, false, if◌then◌else◌, List, ◌++◌, sym, subst, arith}
 use Rattle.std.proofs.Math.Nat.{mul-add}
 use Rattle.st_exec.specs.Step.{rests}
-use Rattle.st_exec.specs.Run.{Scene, Ran, settled, stepped, ended, goes_on, run}
+use Rattle.st_run.specs.Run.{Scene, Ran, settled, stepped, ended, goes_on, run}
 use Rattle.st_rows.specs.Ranges.{AreDelays}
 use Rattle.st_run.specs.Events.{Timed}
 use Rattle.st_run.specs.Moments.{Moment, start, next_scene, next_state, standing, next_moment}

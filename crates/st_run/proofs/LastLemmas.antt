@@ -1,7 +1,7 @@
 -- The last thing that is told of a run is told at its end.
 use Rattle.std.proofs.Common.{◌≡◌, ℕ, zero, suc, Bool, true, false, if◌then◌else◌, List, [], ◌∷◌, ◌++◌, ◌+◌, refl, sym, ◌∙◌, ap, map}
 use Rattle.st_exec.specs.Step.{rests}
-use Rattle.st_exec.specs.Run.{Scene, Ran, Ends, settled, stepped, ended, goes_on, run}
+use Rattle.st_run.specs.Run.{Scene, Ran, Ends, settled, stepped, ended, goes_on, run}
 use Rattle.st_run.specs.Events.{Timed}
 use Rattle.st_run.specs.Moments.{Moment, start, next_scene, next_state, standing, next_moment}
 use Rattle.st_run.specs.TimedRun.{ticks_before, ticks_from, drops, happening_at, last_snapshot_at, between, until_done, last_events, timed_from}

@@ -7,8 +7,8 @@ use Rattle.st_prep.specs.Plan.{plan, prepared, prepared_by, suppressed, entry as
 use Rattle.st_prep.specs.declared.entries.Place.{Place}
 use Rattle.st_prep.specs.declared.entries.Aim.{Aim}
 use Rattle.st_exec.specs.Step.{interrupt, rests, address}
-use Rattle.st_exec.specs.Run.{Scene, settled}
-use Rattle.st_exec.proofs.Runs.{step-done}
+use Rattle.st_run.specs.Run.{Scene, settled}
+use Rattle.st_exec.proofs.StepLemmas.{step-done}
 use Rattle.st_rows.specs.declared.front.Front.{Front}
 use Rattle.st_segment.specs.Ahead.{prepared_before}
 use Rattle.st_ahead.specs.Overlap.{seen, oldest_row, levels_of}

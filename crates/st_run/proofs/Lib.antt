@@ -1,3 +1,4 @@
+pub mod Runs
 pub mod Untimed
 pub mod Turns
 pub mod OrderLemmas

@@ -7,7 +7,7 @@ use Rattle.st_prep.proofs.Choices.{of_choice}
 use Rattle.st_prep.proofs.PlanLemmas.{plan-prepared}
 use Rattle.st_exec.specs.Completion.{executed, is_missed}
 use Rattle.st_exec.specs.Step.{interrupt, step}
-use Rattle.st_exec.specs.Run.{Scene}
+use Rattle.st_run.specs.Run.{Scene}
 use Rattle.st_rows.specs.Ranges.{AreDelays}
 use Rattle.st_rows.specs.Rows.{row, after}
 use Rattle.st_rows.specs.declared.front.Front.{Front}

@@ -3,7 +3,7 @@ use Rattle.std.proofs.Common.{◌≡◌, ℕ, ◌+◌, Bool, true, false, List, 
 use Rattle.st_prep.proofs.Choices.{of_choice}
 use Rattle.st_exec.proofs.BesideEntries.{beside-same}
 use Rattle.st_exec.specs.Step.{rests}
-use Rattle.st_exec.specs.Run.{settled}
+use Rattle.st_run.specs.Run.{settled}
 use Rattle.st_rows.specs.Rows.{opening}
 use Rattle.st_ahead.specs.Overlap.{Overlap, levels_of, interrupt_due}
 use Rattle.st_ahead.specs.Calls.{banks_left, ended, settled as settled_of, settled_by}

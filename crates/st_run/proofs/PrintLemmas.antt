@@ -8,7 +8,8 @@ use Rattle.st_state.specs.declared.devices.Device.{Device}
 use Rattle.st_state.specs.declared.devices.Device.TheVariants.{Reader, Printer}
 use Rattle.st_prep.proofs.Choices.{of_choice}
 use Rattle.st_exec.specs.Step.{rests}
-use Rattle.st_exec.specs.Run.{Signal, Scene, Reached, all_stored, read_in, first_card, with_due_signals, with_signals_at_rest, with_reader, with_printer, if_due, with_due_orders, with_device, with_order_at_rest, with_wait, settled, nothing, and_then}
+use Rattle.st_exec.specs.Transfer.{all_stored, read_in}
+use Rattle.st_run.specs.Run.{Signal, Scene, Reached, first_card, with_due_signals, with_signals_at_rest, with_reader, with_printer, if_due, with_due_orders, with_device, with_order_at_rest, with_wait, settled, nothing, and_then}
 
 -- how many orders the printer has
 orders : Option Order → ℕ

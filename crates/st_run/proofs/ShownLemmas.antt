@@ -3,7 +3,7 @@ use Rattle.std.specs.Prelude.{map, reverse}
 use Rattle.std.proofs.Common.{◌≡◌, ℕ, zero, suc, ◌+◌, ◌≤◌, ◌<◌, inl, inr, Bool, true, false, if◌then◌else◌, List, [], ◌∷◌, ◌++◌, refl, sym, ◌∙◌, ap, arith, append_assoc, append-nil}
 use Rattle.std.proofs.lemmas.Bool.{lt-ltb}
 use Rattle.st_exec.specs.Step.{interrupt, rests}
-use Rattle.st_exec.specs.Run.{Ends, settled, interrupts_by}
+use Rattle.st_run.specs.Run.{Ends, settled, interrupts_by}
 use Rattle.st_run.specs.Events.{Timed, drop_of, snapshot}
 use Rattle.st_run.specs.Moments.{Moment, Standing, next_state, ends_segment, standing, next_moment}
 use Rattle.st_run.specs.TimedRun.{at, ticks_before, ticks_from, snapshot_at, last_snapshot_at, drops, drops_if_ends, happening_at, between, completion, until_done, last_events, timed_from}

@@ -10,12 +10,12 @@ use Rattle.st_state.specs.Orders.{next_device}
 use Rattle.st_state.specs.declared.devices.Order.{Order}
 use Rattle.st_prep.proofs.Choices.{of_choice}
 use Rattle.st_exec.specs.Step.{interrupt, rests}
-use Rattle.st_exec.specs.Run.{Signal, Scene, Happening, Ends, with_due_signals, with_due_orders, with_order_at_rest, with_signals_at_rest, with_wait, settled, interrupts_by, if_due, Reached, nothing, and_then, with_reader, with_printer, with_device}
+use Rattle.st_run.specs.Run.{Signal, Scene, Happening, Ends, with_due_signals, with_due_orders, with_order_at_rest, with_signals_at_rest, with_wait, settled, interrupts_by, if_due, Reached, nothing, and_then, with_reader, with_printer, with_device}
 use Rattle.st_rows.specs.Ranges.{AreDelays}
 use Rattle.st_rows.specs.Rows.{opening}
 use Rattle.st_ahead.specs.Overlap.{started}
 use Rattle.st_segment.specs.Ahead.{Ahead}
-use Rattle.st_exec.proofs.Runs.{step-done}
+use Rattle.st_exec.proofs.StepLemmas.{step-done}
 use Rattle.st_run.specs.Events.{Timed, drop_of}
 use Rattle.st_run.specs.Scenes.{IsScene}
 use Rattle.st_run.specs.Moments.{Moment, Standing, start, unread, next_state, has_card, has_waited, ends_segment, next_segment, next_front, standing, next_moment}

@@ -6,7 +6,7 @@ use Rattle.std.proofs.lemmas.List.{reverse-append, map-append}
 use Rattle.std.proofs.lemmas.List.Elements.{All-head, All-tail}
 use Rattle.st_state.specs.Machine.{Machine}
 use Rattle.st_exec.specs.Step.{interrupt, rests}
-use Rattle.st_exec.specs.Run.{Happening, Ends, settled, interrupts_by}
+use Rattle.st_run.specs.Run.{Happening, Ends, settled, interrupts_by}
 use Rattle.st_segment.specs.Ahead.{Ahead}
 use Rattle.st_run.specs.Events.{Timed, address_of, drop_of}
 use Rattle.st_run.specs.Moments.{Moment, Standing, next_state, ends_segment, next_moment}

@@ -2,7 +2,7 @@
 use Rattle.std.specs.Prelude.{map, reverse}
 use Rattle.std.proofs.Common.{◌≡◌, ℕ, zero, suc, ◌+◌, Bool, true, false, if◌then◌else◌, List, [], ◌∷◌, ◌++◌, refl, sym, ◌∙◌, ap, append_assoc, append-nil}
 use Rattle.st_exec.specs.Step.{step, rests, address, interrupt}
-use Rattle.st_exec.specs.Run.{Happening, Executes, Ends, settled, interrupts_by, Ran, ended, stepped, happens, goes_on, run}
+use Rattle.st_run.specs.Run.{Happening, Executes, Ends, settled, interrupts_by, Ran, ended, stepped, happens, goes_on, run}
 use Rattle.st_run.specs.Events.{Timed, plain, untimed, drop_of, snapshot}
 use Rattle.st_run.specs.Moments.{Moment, Standing, next_scene, next_state, ends_segment, standing, next_moment}
 use Rattle.st_run.specs.TimedRun.{at, ticks_before, ticks_from, snapshot_at, last_snapshot_at, drops, drops_if_ends, happening_at, between, completion, until_done, last_events, timed_from}

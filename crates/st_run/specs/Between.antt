@@ -1,7 +1,7 @@
 -- What comes between two entries, one thing after another, and the decision how the run goes on.
 use Rattle.std.specs.Prelude.{ℕ, ◌≡◌, ◌≢◌, ◌≤◌, Bool, true, false, ◌||◌, is_some, length, List, Option, None, Some}
 use Rattle.st_exec.specs.Step.{rests}
-use Rattle.st_exec.specs.Run.{Reached}
+use Rattle.st_run.specs.Run.{Reached}
 use Rattle.st_ahead.specs.Overlap.{Overlap, interrupt_due}
 use Rattle.st_ahead.specs.Calls.{ended, settled, MayServe}
 use Rattle.st_ahead.specs.declared.events.Settled.{Settled}

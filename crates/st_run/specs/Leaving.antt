@@ -1,7 +1,7 @@
 -- What was decided between two entries.
 use Rattle.std.specs.Prelude.{ℕ, ◌≡◌, ◌≢◌, true, false, None, option_map}
 use Rattle.st_exec.specs.Step.{rests}
-use Rattle.st_exec.specs.Run.{settled}
+use Rattle.st_run.specs.Run.{settled}
 use Rattle.st_run.specs.Moments.{Moment, next_state}
 use Rattle.st_run.specs.Together.{Together, AreTexts, GoesOn, Stops}
 use Rattle.st_run.specs.declared.turn.Turn.{Turn}

@@ -1,7 +1,7 @@
 -- What each scene of a run keeps.
 use Rattle.std.specs.Prelude.{ℕ, ◌≡◌, ◌<◌, ◌^◌, List, length, All}
 use Rattle.st_state.specs.Machine.{IsMachine}
-use Rattle.st_exec.specs.Run.{Scene}
+use Rattle.st_run.specs.Run.{Scene}
 
 -- a card of the reader: eight words
 pub record IsCard (card : List ℕ) : Type 0 where

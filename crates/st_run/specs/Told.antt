@@ -2,7 +2,7 @@
 use Rattle.std.specs.Prelude.{ℕ, Bool, List, [], ◌∷◌}
 use Rattle.st_state.specs.Machine.{Machine}
 use Rattle.st_exch.specs.Printer.{printed}
-use Rattle.st_exec.specs.Run.{Happening, Prints, Interrupts, Executes, Ends}
+use Rattle.st_run.specs.Run.{Happening, Prints, Interrupts, Executes, Ends}
 use Rattle.st_run.specs.Events.{Event, Level, Timed, Completes, Drops, Shows, Happens}
 
 -- an entry is done, with its address and the ticks at which it was prepared, ready and done; one that ran ahead

@@ -2,7 +2,7 @@
 ghost use Rattle.std.specs.Prelude.{◌≡◌, ℕ, List};
 ghost use Rattle.std.specs.List.{AllPass};
 ghost use Rattle.st_card.specs.Limits.{is_signal};
-ghost use Rattle.st_exec.specs.Run.{with_due_signals};
+ghost use Rattle.st_run.specs.Run.{with_due_signals};
 ghost use Rattle.st_ahead.specs.Calls.{MaySignal};
 ghost use Rattle.st_ahead.specs.Shown.{shown};
 ghost use Rattle.st_run.specs.Together.{signals_of, with_scene};

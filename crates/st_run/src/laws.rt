@@ -2,7 +2,7 @@
 ghost use Rattle.std.specs.Prelude.{◌≡◌, ℕ, ◌+◌, ◌*◌, ◌<◌, ◌≤◌, true, false, List, [], length, All, Option, None, IfSome};
 ghost use Rattle.st_state.specs.Machine.{Machine};
 ghost use Rattle.st_prep.specs.Plan.{plan};
-ghost use Rattle.st_exec.specs.Run.{Scene, settled, run};
+ghost use Rattle.st_run.specs.Run.{Scene, settled, run};
 ghost use Rattle.st_rows.specs.Ranges.{AreDelays};
 ghost use Rattle.st_segment.specs.Ahead.{ahead, prepared_before};
 ghost use Rattle.st_run.specs.Events.{Timed, Shows, snapshot, untimed};

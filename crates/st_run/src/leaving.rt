@@ -5,7 +5,7 @@ ghost use Rattle.std.specs.List.{AllPass};
 ghost use Rattle.st_card.specs.Limits.{is_signal};
 ghost use Rattle.st_state.specs.Orders.{is_due as is_due_of};
 ghost use Rattle.st_exec.specs.Step.{rests};
-ghost use Rattle.st_exec.specs.Run as run;
+ghost use Rattle.st_run.specs.Run as run;
 ghost use Rattle.st_ahead.specs.Overlap.{levels_of};
 ghost use Rattle.st_ahead.specs.Calls.{ended, MayServe, MaySignal};
 ghost use Rattle.st_run.specs.Events.{address_of};

@@ -8,7 +8,7 @@ use Rattle.st_state.specs.Machine.{Machine}
 use Rattle.st_prep.specs.Plan.{plan}
 use Rattle.st_exec.specs.Completion.{is_missed}
 use Rattle.st_exec.specs.Step.{interrupt, rests}
-use Rattle.st_exec.specs.Run.{Scene, with_due_signals, with_due_orders, settled, stepped}
+use Rattle.st_run.specs.Run.{Scene, with_due_signals, with_due_orders, settled, stepped}
 use Rattle.st_rows.specs.Entries.{is_among}
 use Rattle.st_rows.specs.Levels.{AreEqual, IsUnwritten, IsRunUnwritten, IsCalm}
 use Rattle.st_rows.specs.declared.entry.Run.{Run}

@@ -1,7 +1,7 @@
 -- The ticks of a calm run do not rise with the number of levels.
 use Rattle.std.specs.Prelude.{IfOk, Result, Ok, Err}
 use Rattle.std.proofs.Common.{◌≡◌, ℕ, zero, suc, ◌+◌, ◌≤◌, ◌<◌, true, List, [], ◌∷◌, length, slice_index, refl, sym, ◌∙◌, ap, subst, arith}
-use Rattle.st_exec.specs.Run.{Scene}
+use Rattle.st_run.specs.Run.{Scene}
 use Rattle.st_sweep.specs.Calm.{is_calm}
 use Rattle.st_sweep.specs.Sweep.{ticks}
 use Rattle.st_sweep.specs.SideBySide.{swept, AreNotRising}

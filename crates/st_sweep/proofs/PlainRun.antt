@@ -6,12 +6,13 @@ use Rattle.st_state.specs.Machine.{Machine}
 use Rattle.st_prep.specs.Plan.{plan}
 use Rattle.st_exec.specs.Completion.{is_missed}
 use Rattle.st_exec.specs.Step.{interrupt, step, rests, IsStep}
-use Rattle.st_exec.specs.Run.{Signal, Scene, settled, stepped, run}
+use Rattle.st_run.specs.Run.{Signal, Scene, settled, stepped, run}
 use Rattle.st_exec.specs.Trails.{IsTrail, CanBePutBack, IsKept}
 use Rattle.st_exec.specs.declared.kept.Trail.{Trail}
 use Rattle.st_exec.specs.declared.step.Step.{Step}
 use Rattle.st_exec.specs.declared.step.Step.TheVariants.{Plain, Interrupt, Waits}
-use Rattle.st_exec.proofs.Runs.{run-rests, run-budget, run-goes_on, step-done}
+use Rattle.st_exec.proofs.StepLemmas.{step-done}
+use Rattle.st_run.proofs.Runs.{run-rests, run-budget, run-goes_on}
 use Rattle.st_rows.specs.declared.entry.Runs.{Runs}
 use Rattle.st_run.proofs.DoneLemmas.{settled-done}
 use Rattle.st_sweep.specs.Calm.{side_is_written, one_is_written, next_writes, next_side, is_calm_entry, is_quiet, is_calm_behind}

@@ -2,7 +2,7 @@
 use Rattle.std.proofs.Common.{◌≡◌, ℕ, zero, suc, ◌-◌, ◌≤◌, inl, inr, true, false, List, [], ◌∷◌, ◌++◌, length, refl, ◌∙◌, ap, arith}
 use Rattle.std.proofs.lemmas.Bool.{cases_Bool, and_parts}
 use Rattle.st_exec.specs.Step.{interrupt, rests}
-use Rattle.st_exec.specs.Run.{Scene, settled, stepped}
+use Rattle.st_run.specs.Run.{Scene, settled, stepped}
 use Rattle.st_banks.specs.declared.answers.LastAnswers.{LastAnswers}
 use Rattle.st_rows.specs.Levels.{AreEqual, IsFrontSooner, AreInOrder, AreCovered}
 use Rattle.st_rows.specs.Rows.{opening, row, after}

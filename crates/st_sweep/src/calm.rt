@@ -6,7 +6,7 @@ ghost use Rattle.st_card.specs.Limits.{is_signal};
 ghost use Rattle.st_prep.specs.Plan.{plan as plan_of};
 ghost use Rattle.st_exec.specs.Completion.{is_missed as is_missed_of};
 ghost use Rattle.st_exec.specs.Step.{interrupt as interrupt_of, rests, step as step_of};
-ghost use Rattle.st_exec.specs.Run.{run};
+ghost use Rattle.st_run.specs.Run.{run};
 ghost use Rattle.st_rows.specs.declared.entry.Runs.{Runs};
 ghost use Rattle.st_run.specs.Together.{signals_of};
 ghost use Rattle.st_sweep.specs.Calm.{are_equal as are_equal_of, next_writes, is_calm_entry, is_calm_behind};

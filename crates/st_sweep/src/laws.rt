@@ -1,6 +1,6 @@
 //! What holds of each run that is calm.
 ghost use Rattle.std.specs.Prelude.{◌≡◌, ℕ, ◌≤◌, true, List, [], length};
-ghost use Rattle.st_exec.specs.Run.{Scene};
+ghost use Rattle.st_run.specs.Run.{Scene};
 ghost use Rattle.st_sweep.specs.Calm.{is_calm};
 ghost use Rattle.st_sweep.specs.Sweep.{ticks};
 

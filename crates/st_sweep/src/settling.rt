@@ -2,7 +2,7 @@
 ghost use Rattle.std.specs.Prelude.{◌≡◌, ◌||◌, not, ℕ, List};
 ghost use Rattle.std.specs.List.{AllPass};
 ghost use Rattle.st_card.specs.Limits.{is_signal};
-ghost use Rattle.st_exec.specs.Run.{Signal as SignalOf, with_due_signals, with_reader, with_printer, if_due, with_due_orders, with_order_at_rest, with_signals_at_rest, with_wait, settled};
+ghost use Rattle.st_run.specs.Run.{Signal as SignalOf, with_due_signals, with_reader, with_printer, if_due, with_due_orders, with_order_at_rest, with_signals_at_rest, with_wait, settled};
 ghost use Rattle.st_run.specs.Together.{signals_of};
 ghost use Rattle.st_sweep.specs.Calm.{is_quiet};
 ghost use Rattle.st_sweep.specs.Sweep.{without_cards};

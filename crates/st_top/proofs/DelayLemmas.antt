@@ -2,7 +2,7 @@
 use Rattle.std.proofs.Common.{◌≡◌, ℕ, Bool, List, ◌++◌, sym, ◌∙◌, ap}
 use Rattle.std.specs.List.{flat_map}
 use Rattle.st_card.specs.Controls.{Asked}
-use Rattle.st_exec.specs.Run.{Scene, run}
+use Rattle.st_run.specs.Run.{Scene, run}
 use Rattle.st_run.specs.Moments.{start}
 use Rattle.st_run.specs.Told.{told}
 use Rattle.st_run.proofs.Untimed.{timed-plain}

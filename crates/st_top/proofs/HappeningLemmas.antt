@@ -11,7 +11,7 @@ use Rattle.st_state.specs.declared.devices.Device.{Device}
 use Rattle.st_state.specs.declared.devices.Device.TheVariants.{Reader, Printer}
 use Rattle.st_exch.specs.Printer.{printed}
 use Rattle.st_exec.specs.Step.{rests, interrupt}
-use Rattle.st_exec.specs.Run.{Scene, Happening, Prints, Interrupts, Executes, Ends, settled, with_due_signals, with_due_orders, with_reader, with_printer, if_due, with_device, with_order_at_rest, with_wait, interrupts_by, nothing}
+use Rattle.st_run.specs.Run.{Scene, Happening, Prints, Interrupts, Executes, Ends, settled, with_due_signals, with_due_orders, with_reader, with_printer, if_due, with_device, with_order_at_rest, with_wait, interrupts_by, nothing}
 use Rattle.st_report.specs.Line.{prt_line, trc_line, row_line, drop_line, int_line, time_line, end_line, done_line, ticks_line}
 use Rattle.st_run.specs.Events.{Event, Timed, Completes, Drops, Shows, Happens, plain as plain_event, untimed, drop_of, snapshot}
 use Rattle.st_run.specs.Moments.{Moment, Standing, start, next_state, standing, next_moment, ends_segment}

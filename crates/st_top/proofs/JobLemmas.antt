@@ -8,7 +8,7 @@ use Rattle.st_asm.specs.Assembly.{Assembly, assembly}
 use Rattle.st_asm.specs.declared.naming.Symbol.{Symbol}
 use Rattle.st_asm.specs.declared.valuing.Listed.{Listed}
 use Rattle.st_exch.specs.Reader.{behind_statements, reader_cards}
-use Rattle.st_exec.specs.Run.{Scene}
+use Rattle.st_run.specs.Run.{Scene}
 use Rattle.st_object.specs.Object.{Program, read_text}
 use Rattle.st_report.specs.Listing.{listed_line}
 use Rattle.st_state.specs.Machine.{opening}

@@ -9,7 +9,7 @@ use Rattle.st_asm.specs.Assembly.{Assembly, assembly}
 use Rattle.st_asm.specs.Pass.{Refusal}
 use Rattle.st_asm.specs.declared.valuing.Listed.{Listed}
 use Rattle.st_exch.specs.Reader.{has_statement, behind_statements}
-use Rattle.st_exec.specs.Run.{Scene}
+use Rattle.st_run.specs.Run.{Scene}
 use Rattle.st_lines.specs.Event.{Event, lines_of, at_moment}
 use Rattle.st_lines.proofs.Writing.{lines_of-append, lines_of-at_moment}
 use Rattle.st_object.specs.Object.{Program, read_text}

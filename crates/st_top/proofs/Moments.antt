@@ -6,7 +6,7 @@ use Rattle.st_io.specs.Output.{OutputState}
 use Rattle.st_io.specs.declared.Failed.{Failed}
 use Rattle.st_lines.specs.Lines.{WritesLines}
 use Rattle.st_lines.specs.Event.{at_moment}
-use Rattle.st_exec.specs.Run.{Scene, run}
+use Rattle.st_run.specs.Run.{Scene, run}
 use Rattle.st_run.specs.Events.{Timed}
 use Rattle.st_run.specs.Order.{last_tick}
 use Rattle.st_run.specs.Told.{Told, told}

@@ -10,7 +10,7 @@ use Rattle.st_asm.specs.Assembly.{Assembly}
 use Rattle.st_state.specs.Machine.{Machine, opening}
 use Rattle.st_top.specs.declared.moment.Moment.{Moment}
 use Rattle.st_exch.specs.Reader.{reader_cards}
-use Rattle.st_exec.specs.Run.{Signal, Scene}
+use Rattle.st_run.specs.Run.{Signal, Scene}
 use Rattle.st_top.specs.Signals.{signals_of}
 use Rattle.st_object.specs.Object.{Program}
 use Rattle.st_top.specs.Output.{Output, lines_alone, output_of_run, ran_by, scene_of, start_of, loaded_by, loaded_start}

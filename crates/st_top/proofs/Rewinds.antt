@@ -5,8 +5,9 @@ use Rattle.std.proofs.lemmas.Bool.Decides.{nat_tests}
 use Rattle.st_card.specs.Controls.{Asked}
 use Rattle.st_state.specs.Machine.{Machine}
 use Rattle.st_exec.specs.Step.{rests}
-use Rattle.st_exec.specs.Run.{Scene, Ran, settled, stepped, ended, run}
-use Rattle.st_exec.proofs.Runs.{step-done, run-rests, run-budget, run-goes_on}
+use Rattle.st_run.specs.Run.{Scene, Ran, settled, stepped, ended, run}
+use Rattle.st_exec.proofs.StepLemmas.{step-done}
+use Rattle.st_run.proofs.Runs.{run-rests, run-budget, run-goes_on}
 use Rattle.st_back.specs.declared.kept.Kept.{Kept}
 use Rattle.st_back.specs.Steps.{Steps, IsBack, states_before}
 use Rattle.st_back.proofs.ManyLemmas.{back-states}

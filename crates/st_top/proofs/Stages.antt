@@ -5,7 +5,7 @@ use Rattle.st_card.specs.declared.control_cards.Signal.{Signal as SignalCard}
 use Rattle.st_state.specs.Machine.{Machine}
 use Rattle.st_state.specs.Interrupts.{signalled}
 use Rattle.st_exec.specs.Step.{rests}
-use Rattle.st_exec.specs.Run.{Scene, with_due_signals, with_signals_at_rest, first_card, cards_after}
+use Rattle.st_run.specs.Run.{Scene, with_due_signals, with_signals_at_rest, first_card, cards_after}
 use Rattle.st_top.specs.Signals.{signals_of}
 
 -- ---- signals

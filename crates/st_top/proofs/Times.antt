@@ -8,7 +8,7 @@ use Rattle.st_io.specs.Output.{OutputState}
 use Rattle.st_lines.specs.Event.{Event, at_moment, StoppedAt}
 use Rattle.st_card.specs.Controls.{Asked, is_among}
 use Rattle.st_card.specs.declared.limits.TheConstants.{MOST_DELAY}
-use Rattle.st_exec.specs.Run.{Scene}
+use Rattle.st_run.specs.Run.{Scene}
 use Rattle.st_rows.specs.Ranges.{AreDelays}
 use Rattle.st_run.specs.Events.{Timed}
 use Rattle.st_run.specs.Told.{told, told_of}

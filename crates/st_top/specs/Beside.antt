@@ -3,7 +3,7 @@ use Rattle.std.specs.Prelude.{◌≡◌, ◌≤◌, ℕ, List, [], ◌∷◌, �
 use Rattle.circular_buffer.specs.Buffer.{keep_last}
 use Rattle.st_state.specs.Machine.{Machine}
 use Rattle.st_state.specs.declared.devices.Order.{Order}
-use Rattle.st_exec.specs.Run.{Scene, stepped, run}
+use Rattle.st_run.specs.Run.{Scene, stepped, run}
 use Rattle.st_back.specs.declared.kept.Kept.{Kept}
 use Rattle.st_back.specs.Steps.{Steps, newest, states_before}
 use Rattle.st_top.specs.StepsBack.{states}

@@ -2,7 +2,7 @@
 use Rattle.std.specs.Prelude.{ℕ, ◌+◌, List, [], ◌∷◌, ◌++◌}
 use Rattle.st_card.specs.Controls.{Asked}
 use Rattle.st_state.specs.Machine.{opening}
-use Rattle.st_exec.specs.Run.{Scene}
+use Rattle.st_run.specs.Run.{Scene}
 use Rattle.st_report.specs.Line.{levels_line, calm_line}
 use Rattle.st_sweep.specs.Sweep.{without_cards}
 use Rattle.st_sweep.specs.SideBySide.{swept}

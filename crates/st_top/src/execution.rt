@@ -28,7 +28,7 @@ ghost use Rattle.st_card.specs.Limits.{IsWithinLimits, is_part};
 ghost use Rattle.st_exch.specs.Reader.{reader_cards};
 ghost use Rattle.st_run.specs.Scenes.{IsCard, IsScene};
 ghost use Rattle.st_state.specs.Machine.{IsMachine, opening};
-ghost use Rattle.st_exec.specs.Run.{Scene as SceneOf};
+ghost use Rattle.st_run.specs.Run.{Scene as SceneOf};
 ghost use Rattle.st_lines.specs.Event.{at_moment};
 ghost use Rattle.st_object.specs.Object.{IsProgram};
 ghost use Rattle.st_run.specs.Told.{told};

@@ -18,7 +18,7 @@ ghost use Rattle.std.specs.Prelude.{
 };
 ghost use Rattle.st_bits.specs.Storage.{words_of_storage};
 ghost use Rattle.st_bits.specs.declared.limits.TheConstants.{MOST_INSTRUCTIONS};
-ghost use Rattle.st_exec.specs.Run as run;
+ghost use Rattle.st_run.specs.Run as run;
 ghost use Rattle.st_exec.specs.Step.{rests};
 ghost use Rattle.st_back.specs.Steps.{states_before};
 ghost use Rattle.st_top.specs.Beside.{IsFresh, IsReady, IsMoved, IsStepped, IsBeside, HasRun, StandsAtStart, StandsAtEnd};

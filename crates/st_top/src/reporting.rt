@@ -3,7 +3,7 @@ ghost use Rattle.std.specs.Prelude.{◌≡◌, ◌≤◌, [], ◌∷◌, IfSome}
 ghost use Rattle.std.specs.List.{AllPass};
 ghost use Rattle.st_bits.specs.declared.limits.TheConstants.{MOST_INSTRUCTIONS};
 ghost use Rattle.st_card.specs.Limits.{is_part};
-ghost use Rattle.st_exec.specs.Run.{Scene as SceneOf};
+ghost use Rattle.st_run.specs.Run.{Scene as SceneOf};
 ghost use Rattle.st_lines.specs.Lines.{WritesLines};
 ghost use Rattle.st_report.specs.Line.{back_line};
 ghost use Rattle.st_run.specs.Told.{told};

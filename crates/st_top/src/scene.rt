@@ -3,7 +3,7 @@ ghost use Rattle.std.specs.Prelude.{◌≡◌, ℕ, List, is_none};
 ghost use Rattle.std.specs.List.{AllPass};
 ghost use Rattle.st_card.specs.Limits.{is_signal};
 ghost use Rattle.st_state.specs.Orders.{is_due as is_due_of};
-ghost use Rattle.st_exec.specs.Run as run;
+ghost use Rattle.st_run.specs.Run as run;
 ghost use Rattle.st_top.specs.Signals.{signals_of};
 
 use st_card::Signal;
@@ -23,7 +23,7 @@ pub struct Scene<'a> {
 impl<'a> Model for Scene<'a> {
     ghost use Rattle.std.specs.List.{AllPass};
     ghost use Rattle.st_card.specs.Limits.{is_signal};
-    ghost use Rattle.st_exec.specs.Run as run;
+    ghost use Rattle.st_run.specs.Run as run;
     ghost use Rattle.st_top.specs.Signals.{signals_of};
 
     ghost Value = { run.Scene };

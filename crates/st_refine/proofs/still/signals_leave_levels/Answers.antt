@@ -1,5 +1,5 @@
 use Rattle.std.proofs.Common.{refl, None}
-use Rattle.st_exec.specs.Run.{read_in, printed_out}
+use Rattle.st_exec.specs.Transfer.{read_in, printed_out}
 use Rattle.st_exec.proofs.BesideEntries.{beside-printed, beside-no_card}
 use Rattle.st_refine.proofs.Kept.{kept}
 use Rattle.st_refine.proofs.StillLemmas.{still-done, still-signalled}

@@ -1,7 +1,7 @@
 use Rattle.std.proofs.Common.{sym, ◌∙◌, ap}
 use Rattle.st_state.specs.Machine.{Machine}
 use Rattle.st_state.specs.Orders.{is_due}
-use Rattle.st_exec.specs.Run.{with_printer}
+use Rattle.st_run.specs.Run.{with_printer}
 use Rattle.st_run.specs.Together.{Together, scene_of}
 use Rattle.st_run.proofs.CameLemmas.{came-is, due_is}
 use Rattle.st_run.proofs.leaving.serve_due_printer.Goals as goal

@@ -1,7 +1,7 @@
 use Rattle.std.proofs.Common.{[]}
 use Rattle.std.specs.List.{AllPass}
 use Rattle.st_card.specs.Limits.{is_signal}
-use Rattle.st_exec.specs.Run.{run}
+use Rattle.st_run.specs.Run.{run}
 use Rattle.st_run.specs.Together.{signals_of}
 use Rattle.st_sweep.specs.Calm.{is_calm_behind}
 use Rattle.st_sweep.specs.Sweep.{without_cards}

@@ -1,5 +1,5 @@
 use Rattle.std.proofs.Common.{◌∷◌, ◌∙◌, subst}
-use Rattle.st_exec.proofs.Runs.{step_made}
+use Rattle.st_exec.proofs.StepLemmas.{step_made}
 use Rattle.st_segment.specs.Entries.{words_to_write}
 use Rattle.st_sweep.specs.Marks.{AreMarks}
 use Rattle.st_sweep.proofs.PlainRun.{kept-step, entry-calm}

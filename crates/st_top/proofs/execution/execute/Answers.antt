@@ -1,6 +1,6 @@
 use Rattle.std.proofs.Common.{List, ℕ, ap}
 use Rattle.st_asm.specs.Assembly.{shown}
-use Rattle.st_exec.specs.Run.{Scene}
+use Rattle.st_run.specs.Run.{Scene}
 use Rattle.st_top.specs.Listing.{front}
 use Rattle.st_top.specs.Output.{scene_of, output_of_run}
 use Rattle.st_top.proofs.Outputs.{writes_output}

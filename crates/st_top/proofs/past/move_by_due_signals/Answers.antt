@@ -1,6 +1,6 @@
 use Rattle.std.proofs.Common.{ap, subst}
 use Rattle.st_state.specs.Machine.{IsMachine}
-use Rattle.st_exec.specs.Run.{Scene, with_due_signals}
+use Rattle.st_run.specs.Run.{Scene, with_due_signals}
 use Rattle.st_top.proofs.Besides.{moved_alike, due-alike, due-reader}
 use Rattle.st_top.proofs.past.move_by_due_signals.Goals as goal
 

@@ -1,6 +1,6 @@
 use Rattle.std.proofs.Common.{ap, subst}
 use Rattle.st_state.specs.Machine.{IsMachine}
-use Rattle.st_exec.specs.Run.{Scene, with_signals_at_rest}
+use Rattle.st_run.specs.Run.{Scene, with_signals_at_rest}
 use Rattle.st_top.proofs.Besides.{moved_alike, rest-alike, rest-reader}
 use Rattle.st_top.proofs.past.move_by_signals_at_rest.Goals as goal
 

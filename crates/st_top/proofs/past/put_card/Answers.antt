@@ -1,6 +1,6 @@
 use Rattle.std.proofs.Common.{◌+◌, drop, sym, ◌∙◌, ap, arith}
 use Rattle.st_state.specs.Machine.{Machine}
-use Rattle.st_exec.specs.Run.{all_stored}
+use Rattle.st_exec.specs.Transfer.{all_stored}
 use Rattle.st_exec.proofs.TransferLemmas.{all_stored-next, all_stored-all}
 use Rattle.st_back.specs.Steps.{newest}
 use Rattle.st_back.proofs.ManyLemmas.{put-states}

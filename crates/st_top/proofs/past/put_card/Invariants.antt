@@ -1,6 +1,6 @@
 use Rattle.std.proofs.Common.{◌≡◌, ◌+◌, drop}
 use Rattle.std.specs.Prelude.{MatchOption}
-use Rattle.st_exec.specs.Run.{all_stored}
+use Rattle.st_exec.specs.Transfer.{all_stored}
 use Rattle.st_back.specs.Steps.{newest, states_before}
 use Rattle.st_top.proofs.past.put_card.Given as goal
 

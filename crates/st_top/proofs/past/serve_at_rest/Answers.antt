@@ -3,7 +3,7 @@ use Rattle.std.specs.Prelude.{None, Some}
 use Rattle.st_state.specs.Orders.{next_device}
 use Rattle.st_state.specs.declared.devices.Device.TheVariants.{Reader, Printer}
 use Rattle.st_exec.specs.Step.{rests}
-use Rattle.st_exec.specs.Run.{Scene}
+use Rattle.st_run.specs.Run.{Scene}
 use Rattle.st_top.proofs.Besides.{moved_same, moved_is, no_order_at_rest, order_at_rest}
 use Rattle.st_top.proofs.past.serve_at_rest.Goals as goal
 

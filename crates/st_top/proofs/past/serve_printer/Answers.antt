@@ -1,7 +1,8 @@
 use Rattle.std.proofs.Common.{sym, ◌∙◌, ap, subst}
 use Rattle.std.specs.Prelude.{is_none}
 use Rattle.st_state.specs.Machine.{Machine, IsMachine}
-use Rattle.st_exec.specs.Run.{Scene, printed_out}
+use Rattle.st_exec.specs.Transfer.{printed_out}
+use Rattle.st_run.specs.Run.{Scene}
 use Rattle.st_top.specs.Signals.{signals_of}
 use Rattle.st_top.proofs.Besides.{printer_moved}
 use Rattle.st_top.proofs.past.serve_printer.Goals as goal

@@ -1,6 +1,7 @@
 use Rattle.std.proofs.Common.{◌≡◌, sym, ◌∙◌, ap, subst}
 use Rattle.std.specs.Prelude.{IfSome, is_none}
-use Rattle.st_exec.specs.Run.{Scene, read_in, first_card, cards_after}
+use Rattle.st_exec.specs.Transfer.{read_in}
+use Rattle.st_run.specs.Run.{Scene, first_card, cards_after}
 use Rattle.st_back.specs.Steps.{states_before}
 use Rattle.st_top.proofs.Stages.{next_first, next_after}
 use Rattle.st_top.proofs.Besides.{reader_moved}

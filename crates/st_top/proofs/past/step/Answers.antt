@@ -1,5 +1,5 @@
 use Rattle.std.proofs.Common.{sym, ap}
-use Rattle.st_exec.specs.Run.{Scene}
+use Rattle.st_run.specs.Run.{Scene}
 use Rattle.st_top.proofs.Besides.{stepped_by}
 use Rattle.st_top.proofs.past.step.Goals as goal
 

@@ -2,7 +2,7 @@ use Rattle.std.specs.Prelude.{IsSome, IfSome}
 use Rattle.std.proofs.Common.{◌≡◌, inr, ap, sym, subst}
 use Rattle.st_state.specs.Machine.{Machine}
 use Rattle.st_prep.specs.BesideOrders.{AreAlikeBesideOrders}
-use Rattle.st_exec.specs.Run.{words_from}
+use Rattle.st_exec.specs.Transfer.{words_from}
 use Rattle.st_rows.proofs.Within.{AreDelays-list}
 use Rattle.st_ahead.specs.Overlap.{Overlap}
 use Rattle.st_ahead.specs.Calls.{MayServe, printed_by}

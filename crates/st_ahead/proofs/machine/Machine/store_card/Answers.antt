@@ -1,7 +1,7 @@
 use Rattle.std.specs.Prelude.{IsSome, IfSome}
 use Rattle.std.proofs.Common.{◌≡◌, true, Some, sym, subst}
 use Rattle.st_state.specs.Machine.{Machine}
-use Rattle.st_exec.specs.Run.{read_in}
+use Rattle.st_exec.specs.Transfer.{read_in}
 use Rattle.st_ahead.specs.Overlap.{Overlap}
 use Rattle.st_ahead.specs.Inside.{standing}
 use Rattle.st_ahead.proofs.Cards.{card-inside, with-read}

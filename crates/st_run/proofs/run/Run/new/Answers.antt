@@ -1,5 +1,5 @@
 use Rattle.std.proofs.Common.{◌-◌, sym, ◌∙◌, ap, subst}
-use Rattle.st_exec.specs.Run.{Scene, with_due_signals}
+use Rattle.st_run.specs.Run.{Scene, with_due_signals}
 use Rattle.st_rows.proofs.Within.{AreDelays-list}
 use Rattle.st_ahead.specs.Overlap.{Overlap}
 use Rattle.st_run.specs.Scenes.{IsScene}

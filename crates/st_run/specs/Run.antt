@@ -1,12 +1,13 @@
 -- A whole run, one instruction after the other: signals and orders take effect between two of them.
-use Rattle.std.specs.Prelude.{ℕ, zero, suc, ◌+◌, Bool, nat_le, if◌then◌else◌, List, [], ◌∷◌, ◌++◌, Option, None, Some}
-use Rattle.st_state.specs.Machine.{Machine, word, stored}
+use Rattle.std.specs.Prelude.{ℕ, zero, suc, Bool, nat_le, if◌then◌else◌, List, [], ◌∷◌, ◌++◌, Option, None, Some}
+use Rattle.st_state.specs.Machine.{Machine}
 use Rattle.st_state.specs.Interrupts.{signalled}
 use Rattle.st_state.specs.Orders.{is_due, next_device}
 use Rattle.st_state.specs.declared.devices.Order.{Order}
 use Rattle.st_state.specs.declared.devices.Device.{Device}
 use Rattle.st_state.specs.declared.devices.Device.TheVariants.{Reader, Printer}
 use Rattle.st_exec.specs.Step.{rests, interrupt, step, address}
+use Rattle.st_exec.specs.Transfer.{words_from, read_in, printed_out}
 
 -- a signal turns its indicator on when so many instructions are done
 pub record Signal : Type 0 where
@@ -32,31 +33,12 @@ pub record Reached : Type 0 where
   pub scene : Scene
   pub happened : List Happening
 
--- the state after words are written from word w on
-unfoldable pub all_stored : Machine → ℕ → List ℕ → Machine
-all_stored s w [] = s
-all_stored s w (x ∷ xs) = all_stored (stored s w x) (w + 1) xs
-
--- n words from word w on
-unfoldable pub words_from : Machine → ℕ → ℕ → List ℕ
-words_from s w zero = []
-words_from s w (suc n) = word s w ∷ words_from s (w + 1) n
-
 -- the signals at the front that are due come, one after another
 abbrev pub with_due_signals : Machine → List Signal → List (List ℕ) → Scene
 with_due_signals s [] cards = record { machine = s; signals = []; cards = cards }
 with_due_signals s (x ∷ xs) cards =
     if nat_le x.count s.done then with_due_signals (signalled s x.indicator) xs cards
     else record { machine = s; signals = x ∷ xs; cards = cards }
-
--- the reader puts a card in its area and turns on EOP, or EE where it has none
-abbrev pub read_in : Machine → ℕ → Option (List ℕ) → Machine
-read_in s w None = signalled (record s { reader = None }) 11
-read_in s w (Some card) = signalled (all_stored (record s { reader = None }) w card) 12
-
--- the printer has taken its eight words and turns on EOP
-abbrev pub printed_out : Machine → Machine
-printed_out s = signalled (record s { printer = None }) 12
 
 -- the next card of the reader, and those behind it
 abbrev pub first_card : List (List ℕ) → Option (List ℕ)

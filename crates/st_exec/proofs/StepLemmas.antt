@@ -1,0 +1,19 @@
+-- A step: which one is made, and that it counts as one instruction.
+use Rattle.std.proofs.Common.{◌≡◌, ℕ, ◌+◌, false}
+use Rattle.st_state.specs.Machine.{Machine}
+use Rattle.st_prep.specs.Plan.{plan}
+use Rattle.st_exec.specs.Step.{interrupt, step, rests, IsStep}
+use Rattle.st_exec.proofs.Unchanged.{completed-done}
+use Rattle.st_exec.specs.declared.step.Step.{Step}
+use Rattle.st_exec.specs.declared.step.Step.TheVariants.{Plain, Interrupt, Waits}
+
+-- a step that is made is the next one
+pub step_made : (s t : Machine) (r : Step) → rests s ≡ false → IsStep s t r → t ≡ step s
+step_made s t Plain h made = made.2
+step_made s t (Interrupt i) h made = made.2
+step_made s t Waits h made = absurd (cc)
+
+-- it counts as one instruction
+pub step-done : (s : Machine) → (step s).done ≡ s.done + 1
+unfolding step
+step-done s = completed-done (plan s (interrupt s)) s
