@@ -62,7 +62,6 @@ impl Delays {
     pub fn at(&self, tick: u64) -> u8
         ensures value { result ≡ delay self.now tick }
         ensures least { 1 ≤ result }
-        ensures most { result ≤ 255 }
     {
         self.list[(tick % self.list.len() as u64) as usize]
     }

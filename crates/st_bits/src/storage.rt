@@ -1,5 +1,5 @@
 //! Storage as a whole, and the indicators as bits of a word. `docs/machine.md` has the rules.
-ghost use Rattle.std.specs.Prelude.{◌≡◌, ◌<◌, ◌^◌};
+ghost use Rattle.std.specs.Prelude.{◌≡◌, ◌<◌};
 ghost use Rattle.st_bits.specs.Indicators.{indicator as indicator_of};
 ghost use Rattle.st_bits.specs.Storage.{words_of_storage};
 
@@ -28,8 +28,7 @@ pub struct Ind {
 /// The word with indicator `n`, 0 to 63, on and no other.
 pub fn indicator(n: u8) -> u64
     requires { n < 64 }
-    ensures value { result ≡ indicator_of n }
-    ensures bound { result < 2 ^ 64 }
+    ensures { result ≡ indicator_of n }
 {
     1 << (63 - n)
 }

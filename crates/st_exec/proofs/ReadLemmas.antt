@@ -3,12 +3,14 @@ use Rattle.std.proofs.Common.{◌≡◌, ℕ, ◌+◌, ◌-◌, ◌<◌, ◌≤�
 use Rattle.st_state.specs.Machine.{Machine, word}
 use Rattle.st_prep.specs.declared.entries.Words.{Words}
 
--- what stands in place k, where it is an operand
+-- what stands in place k: an operand, or zero behind them
 pub record IsOperand (w : Words) (s : Machine) (k x : ℕ) : Type 0 where
   pub first : k < w.len → x ≡ word s (w.first + k)
   pub second : w.len ≤ k → k < w.len + w.len2 → x ≡ word s (w.first2 + (k - w.len))
+  pub behind : w.len + w.len2 ≤ k → x ≡ 0
 
--- the first j places hold their operands
+-- the first j places hold their operands, and the others are as at first
 pub record FilledTo (j : ℕ) (w : Words) (operands : List ℕ) (s : Machine) : Type 0 where
   pub size : length operands ≡ 32
   pub each : (k : ℕ) → k < j → IsOperand w s k (get_or operands k 0)
+  pub zero_from : (k : ℕ) → j ≤ k → k < 32 → get_or operands k 0 ≡ 0

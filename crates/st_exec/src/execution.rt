@@ -1,5 +1,5 @@
 //! One entry from its preparation to its completion.
-ghost use Rattle.std.specs.Prelude.{◌≡◌, ◌+◌, ◌-◌, ◌<◌, ◌≤◌, ◌^◌, IfSome};
+ghost use Rattle.std.specs.Prelude.{◌≡◌, ℕ, ◌+◌, ◌-◌, ◌<◌, ◌≤◌, ◌^◌, IfSome, slice_index};
 ghost use Rattle.st_state.specs.Machine.{word as word_of};
 ghost use Rattle.st_prep.specs.Ranges.{IsRuns, AreInside};
 ghost use Rattle.st_exec.specs.Operand.{AreOperands};
@@ -17,6 +17,7 @@ fn operand_at(words: Words, k: u8, state: &State) -> u64
     ensures first { k < words.len → result ≡ word_of state.now (words.first + k) }
     ensures second { words.len ≤ k → k < words.len + words.len2
         → result ≡ word_of state.now (words.first2 + (k - words.len)) }
+    ensures behind { words.len + words.len2 ≤ k → result ≡ 0 }
 {
     if k < words.len {
         return state.word(words.first + u32::from(k));
@@ -33,7 +34,8 @@ fn operand_at(words: Words, k: u8, state: &State) -> u64
 pub fn read_operands(words: Words, state: &State) -> [u64; 32]
     requires runs { IsRuns words }
     requires inside { AreInside words }
-    ensures { AreOperands words result state.now }
+    ensures words { AreOperands words result state.now }
+    ensures behind { (k : ℕ) → words.len + words.len2 ≤ k → k < 32 → slice_index result k ≡ 0 }
 {
     let mut operands = [0; 32];
     for k in 0..words.len + words.len2 {

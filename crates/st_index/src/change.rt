@@ -100,8 +100,7 @@ pub fn progress(form: u8, x: u64, increment: u32) -> Changed
     requires low { 2 ≤ form }
     requires high { form ≤ 7 }
     requires increment { increment < 2 ^ 24 }
-    ensures change { result ≡ progression form x increment }
-    ensures bound { result.word < 2 ^ 64 }
+    ensures { result ≡ progression form x increment }
 {
     let word = advance(form, x, increment);
     Changed {

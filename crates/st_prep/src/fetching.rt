@@ -76,8 +76,7 @@ fn address(state: &State, table: Option<u8>) -> u32
 
 /// The half at the half-word address `h` of a word with this content.
 fn half_of(content: u64, h: u32) -> u32
-    ensures value { result ≡ half_by content h }
-    ensures bound { result < 2 ^ 32 }
+    ensures { result ≡ half_by content h }
 {
     part(content, 32 * (h % 2), 32) as u32
 }

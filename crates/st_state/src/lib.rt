@@ -123,8 +123,7 @@ impl State {
     /// The word at the word address `w`, below WORDS.
     pub fn word(&self, w: u32) -> u64
         requires { w < words_of_storage }
-        ensures value { result ≡ word_of self.now w }
-        ensures bound { result < 2 ^ 64 }
+        ensures { result ≡ word_of self.now w }
     {
         self.words[w as usize]
     }

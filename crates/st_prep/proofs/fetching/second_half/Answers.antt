@@ -10,4 +10,4 @@ returns-in-Some c = λ first k.
     let s = c.args.state.now in
     second-next _ _ first _ _ _ k _ c.in-Some.ensures.allowed (differs _ _ c.if-h.false)
     ∙ ap (λ x. outcome (k (allowed_found first (half_of x (c.args.h + 1)))) (word s)) (sym c.in-Some.ensures.value)
-    ∙ ap (λ x. outcome (k (allowed_found first x)) (word s)) (sym c.half_of-in-Some.ensures.value)
+    ∙ ap (λ x. outcome (k (allowed_found first x)) (word s)) (sym c.half_of-in-Some.ensures)

@@ -6,4 +6,4 @@ use Rattle.st_prep.proofs.preparation.without.Goals as goal
 pub returns : goal.returns
 returns c =
     without-turned c.args.indicators c.indicator.result (omega arith) (omega arith)
-    ∙ ap (λ off. turned 64 0 off c.args.indicators) c.indicator.ensures.value
+    ∙ ap (λ off. turned 64 0 off c.args.indicators) c.indicator.ensures

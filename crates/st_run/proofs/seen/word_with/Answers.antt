@@ -6,7 +6,7 @@ use Rattle.st_run.proofs.seen.word_with.Goals as goal
 pub returns-then-w-lt16 : goal.returns-then-w-lt16
 returns-then-w-lt16 c =
     let long : 32 ≤ length c.args.state.now.words = omega (arith, c.shape.ensures.size, words_of_storage_is) in
-    c.word.ensures.value ∙ word-low c.args.index.now c.args.state.now c.told-index long c.args.w c.if-w-lt16.true
+    c.word.ensures ∙ word-low c.args.index.now c.args.state.now c.told-index long c.args.w c.if-w-lt16.true
 
 pub returns-then-w-lt32 : goal.returns-then-w-lt32
 returns-then-w-lt32 c =
@@ -16,4 +16,4 @@ returns-then-w-lt32 c =
 pub returns : goal.returns
 returns c =
     let long : 32 ≤ length c.args.state.now.words = omega (arith, c.shape.ensures.size, words_of_storage_is) in
-    c.word-2.ensures.value ∙ word-high c.args.index.now c.args.state.now c.told-index long c.args.w c.if-w-lt32.false
+    c.word-2.ensures ∙ word-high c.args.index.now c.args.state.now c.told-index long c.args.w c.if-w-lt32.false
