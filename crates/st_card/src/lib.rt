@@ -14,6 +14,7 @@ mod words;
 pub use cards::{Card, CardKind, columns, split};
 pub use control_cards::{CardError, Controls, Signal};
 pub use faults::Fault;
+pub use keywords::{Keyword, Outcome};
 pub use numbers::{Reading, read_number};
 pub use pieces::cut;
 pub use tables::row_of;
