@@ -5,3 +5,4 @@ pub mod CardLemmas
 pub mod TableLemmas
 pub mod TextLemmas
 pub mod LimitLemmas
+pub mod OrderLemmas
