@@ -6,3 +6,4 @@ pub mod TableLemmas
 pub mod TextLemmas
 pub mod LimitLemmas
 pub mod StandingLemmas
+pub mod OrderLemmas

@@ -15,6 +15,7 @@ mod words;
 pub use cards::{Card, CardKind, columns, split};
 pub use control_cards::{CardError, Controls, Signal};
 pub use faults::Fault;
+pub use keywords::{Keyword, Outcome};
 pub use laws::cards_stand_in_their_job;
 pub use numbers::{Reading, read_number};
 pub use pieces::cut;
