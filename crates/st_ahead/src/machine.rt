@@ -168,6 +168,13 @@ impl<const N: usize> Machine<N> {
         self.behind.is_some()
     }
 
+    /// Whether an interrupt is due or a branch was missed, so that the next decision ends the segment.
+    pub fn ends(&self) -> bool
+        ensures { result ≡ (is_some self.entry.now.behind || is_some (interrupt_due_of self.entry.now)) }
+    {
+        self.is_misled() || self.interrupt_due().is_some()
+    }
+
     /// The segment ends at this tick, at which an entry was done; where it has not ended already. The result is the number of levels dropped.
     fn end(&mut self) -> u8
         requires owed { self.old.owed ≡ true }

@@ -6,7 +6,8 @@ ghost use Rattle.st_state.specs.Machine.{Machine, word};
 ghost use Rattle.st_prep.specs.EarlyChange.{words_after};
 ghost use Rattle.st_prep.specs.Fetch.{place_of as place_by};
 ghost use Rattle.st_prep.specs.Plan.{seen, plan as plan_of};
-ghost use Rattle.st_prep.specs.Ranges.{IsPlace, IsFetched, IsChange, IsPrepared};
+ghost use Rattle.st_prep.specs.Ranges.{IsPlace, IsFetched, IsFetching, IsChange, IsPrepared};
+ghost use Rattle.st_prep.specs.Reading.{reading, left_after, given as given_of};
 ghost use Rattle.st_rows.specs.Asked.{word_asked, side_asked};
 ghost use Rattle.st_rows.specs.declared.front.Front.{Front as FrontAt};
 ghost use Rattle.st_rows.specs.Ranges.{IsEntry};
@@ -88,6 +89,23 @@ impl Next {
         }
     }
 
+    /// The entry at another place behind the front, of which no word is asked for.
+    pub fn restart(&mut self, place: Place, front: &Front)
+        ensures next { (ds : List ℕ) (n : ℕ) (t : Option ℕ) (u : Machine) → place ≡ place_by u t →
+            IsNext ds n t u front.now self.new }
+        ensures rests { (now : ℕ) (t : Option ℕ) (u : Machine) → now ≤ wanted_from front.now →
+            Rests now t u front.now self.new }
+        ensures reads { (ds : List ℕ) → reads_so_far ds front.now self.new ≡ [] }
+        ensures unplanned { self.new.planned ≡ false }
+        ensures none { known_count self.new ≡ 0 }
+    {
+        self.place = place;
+        self.own = Run::default();
+        self.target = Run::default();
+        self.words = Fetching::new(front.bus);
+        self.planned = false;
+    }
+
     /// The tick from which on its next word is wanted, as far as the words so far tell.
     fn wanted(&self, front: &Front) -> u64
         ensures { result ≡ wanted_next front.now self.now }
@@ -129,6 +147,39 @@ impl Next {
             state.word(self.word_at(2)),
             state.word(self.word_at(3)),
         ]
+    }
+
+    /// How far it is fetched by the words so far.
+    #[inline(always)]
+    fn given(&self, x: &[u64; 16], state: &State) -> Given
+        requires place { IsPlace self.now.place }
+        requires words { IsEntry (words_alone self.now.own self.now.target) }
+        ensures value { result ≡ given_of (left_after (reading x.now (word state.now 3) state.now.enabled self.now.place)
+            (map (word state.now) (words_of_run self.now.own ++ words_of_run self.now.target))) }
+        ensures shape { IsFetching result }
+    {
+        let so_far = self.own.len + self.target.len;
+        if so_far == 0 {
+            return fetch_on(&self.place, x, &[], state);
+        }
+        if so_far == 1 {
+            return fetch_on(&self.place, x, &[state.word(self.word_at(0))], state);
+        }
+        self.given_more(x, state)
+    }
+
+    /// The same of any number of words.
+    #[inline(never)]
+    fn given_more(&self, x: &[u64; 16], state: &State) -> Given
+        requires place { IsPlace self.now.place }
+        requires words { IsEntry (words_alone self.now.own self.now.target) }
+        ensures value { result ≡ given_of (left_after (reading x.now (word state.now 3) state.now.enabled self.now.place)
+            (map (word state.now) (words_of_run self.now.own ++ words_of_run self.now.target))) }
+        ensures shape { IsFetching result }
+    {
+        let contents = self.contents(state);
+        let so_far = usize::from(self.own.len + self.target.len);
+        fetch_on(&self.place, x, &contents[..so_far], state)
     }
 
     /// Asks for an instruction word that is wanted from `from` on, unless it is held.
@@ -190,6 +241,7 @@ impl Next {
 
     /// Reads it on as far as the tick allows: asks for the words that are known by now, and once they all are plans it. Whatever the state
     /// before it is, what is known of it stays so, and nothing more of it can be known before the next tick.
+    #[inline(always)]
     pub fn advance(&mut self, outlook: &Outlook, state: &State, delays: &Delays, port: &mut Port)
         requires known { IsKnown delays.now outlook.now.levels outlook.now.tick
             outlook.now.front.now outlook.now.x.now state.now self.old }
@@ -256,9 +308,7 @@ impl Next {
         ensures planned { self.new.planned ≡ true → outlook.now.tick < self.new.formed.a }
     {
         delays.shape();
-        let contents = self.contents(state);
-        let so_far = usize::from(self.own.len + self.target.len);
-        match fetch_on(&self.place, outlook.x, &contents[..so_far], state) {
+        match self.given(outlook.x, state) {
             Given::Next {
                 word,
                 target: false,
@@ -274,7 +324,7 @@ impl Next {
                 true
             }
             Given::Found(fetched) => {
-                self.plan(fetched, outlook, state, delays, port);
+                self.plan(&fetched, outlook, state, delays, port);
                 true
             }
         }
@@ -283,30 +333,30 @@ impl Next {
     /// Plans the entry, of which this is fetched.
     fn plan(
         &mut self,
-        fetched: Fetched,
+        fetched: &Fetched,
         outlook: &Outlook,
         state: &State,
         delays: &Delays,
         port: &mut Port,
     )
         requires place { IsPlace self.old.place }
-        requires fetched { IsFetched fetched }
+        requires fetched { IsFetched fetched.now }
         requires front { IsFront outlook.now.levels outlook.now.front.now }
         requires entry { IsEntry (entry_seen self.old.own self.old.target
-            (seen self.old.place fetched outlook.now.x.now state.now)) }
+            (seen self.old.place fetched.now outlook.now.x.now state.now)) }
         requires words { self.old.words
             ≡ words_so_far delays.now outlook.now.front.now self.old.own self.old.target }
         requires few { length port.old.reads < 40 }
         ensures next { IsPlannedAs delays.now outlook.now.levels outlook.now.front.now
-            (seen self.old.place fetched outlook.now.x.now state.now) self.old self.new }
+            (seen self.old.place fetched.now outlook.now.x.now state.now) self.old self.new }
         ensures reads { port.new.reads ≡ port.old.reads
             ++ side_asked outlook.now.front.now.past self.new.entry.side self.new.formed.a }
         ensures bus { port.new.bus ≡ port.old.bus }
     {
         self.prepared.place = self.place;
-        self.needs = prepare_without_side(&mut self.prepared, &fetched, outlook.x, state);
-        self.entry = entry_of(self.own, self.target, &self.needs, &self.prepared, &fetched);
-        self.fetched = fetched;
+        self.needs = prepare_without_side(&mut self.prepared, fetched, outlook.x, state);
+        self.entry = entry_of(self.own, self.target, &self.needs, &self.prepared, fetched);
+        self.fetched = *fetched;
         let front = outlook.front;
         self.formed = front.form(delays, outlook.levels, &self.entry, self.words);
         self.planned = true;

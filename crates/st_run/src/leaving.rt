@@ -334,3 +334,29 @@ pub(crate) fn leave<const N: usize>(driven: &mut Driven<N>, left: u64) -> Decide
     let (over, text) = come(driven);
     decide(driven, left, over, text)
 }
+
+// ---- nothing of it
+
+/// Whether a signal is due.
+fn signal_is_due<const N: usize>(driven: &Driven<N>) -> bool
+{
+    match driven.signals {
+        [first, ..] => first.count <= driven.machine.state().done,
+        [] => false,
+    }
+}
+
+/// Goes on at once where nothing comes between two entries, and no segment ends. The result says whether it did; else nothing changes.
+pub(crate) fn pass_on<const N: usize>(driven: &mut Driven<N>, left: u64) -> bool
+    requires { IsBehind driven.old }
+{
+    if left == 0 || signal_is_due(driven) || driven.machine.ends() {
+        return false;
+    }
+    let state = driven.machine.state();
+    if reader_is_due(state) || printer_is_due(state) || is_at_rest(state) {
+        return false;
+    }
+    driven.machine.settle();
+    true
+}

@@ -1,0 +1,10 @@
+use Rattle.std.proofs.Common.{take, sym, ◌∙◌, ap, arith}
+use Rattle.std.proofs.lemmas.List.{length-take}
+use Rattle.st_next.proofs.next.Next.given_more.Goals as goal
+
+pub overflow_add-self : goal.overflow_add-self
+overflow_add-self c = omega (arith, c.requires.words.own_few, c.requires.words.target_few)
+
+pub slice_bounds-contents-end : goal.slice_bounds-contents-end
+slice_bounds-contents-end c = omega (arith, c.requires.words.own_few, c.requires.words.target_few)
+
