@@ -7,3 +7,6 @@ pub mod PlacesRead
 pub mod ControlsRead
 pub mod Printable
 pub mod Cutting
+pub mod Said
+pub mod DeckCards
+pub mod FormPass

@@ -1,0 +1,197 @@
+-- The cards of a deck are its statements and its control cards, and each of its statements is read.
+use Rattle.std.proofs.Common.{◌≡◌, ◌<◌, ◌≤◌, ◌+◌, ◌*◌, ◌/◌, ◌%◌, ◌^◌, ◌==◌, ⊥, ℕ, zero, suc, Bool, true, false, not, List, [], ◌∷◌, ◌++◌, length, map, filter, take, Option, Some, None, Result, Ok, Err, is_none, if◌then◌else◌, refl, sym, ap, subst, ◌∙◌, append_assoc, length-append, arith}
+use Rattle.std.specs.List.{All, list_all}
+use Rattle.std.proofs.lemmas.List.{map-append}
+use Rattle.std.proofs.lemmas.List.Elements.{All-nil, All-cons, All-head, All-tail, All-append}
+use Rattle.std.proofs.lemmas.Bool.{and_parts}
+use Rattle.st_card.specs.declared.faults.Fault.{Fault}
+use Rattle.st_bits.specs.Storage.{words_of_storage_is}
+use Rattle.st_strap.specs.Reading.{number_expr}
+use Rattle.st_strap.specs.Saying.{statement_of}
+use Rattle.st_strap.specs.declared.statement.Statement.{Statement}
+use Rattle.st_strap.specs.declared.statement.Statement.TheVariants.{Half, Sum, Refill, Branch, Floating, Vfl, Connect, Move, BitBranch, IndBranch, StoreCounter, Transfer, Data, IndexWord, Synonym, SetLocation, Reserve, End}
+use Rattle.st_strap.proofs.NumberCards.{word_form, data-read}
+use Rattle.st_asm.specs.Symbols.{accepts_all, is_defined}
+use Rattle.st_asm.specs.Values.{values_of}
+use Rattle.st_asm.specs.Places.{role_of, length_in}
+use Rattle.st_asm.specs.Naming.{unnamed}
+use Rattle.st_asm.specs.Checks.{value_fault}
+use Rattle.st_asm.specs.Laying.{bits_of}
+use Rattle.st_asm.specs.Forming.{is_end}
+use Rattle.st_asm.specs.Alone.{laid_alone, laid_if_read, laid_by, laid_with}
+use Rattle.st_asm.specs.declared.alone.LaidBits.{LaidBits}
+use Rattle.st_object.specs.Object.{Program, IsProgram, AreWords}
+use Rattle.st_dis.specs.Spelling.{says, number_text, statements_of}
+use Rattle.st_dis.specs.Deck.{statement_card, location_text, location_cards, placed, word_cards, end_text, order_cards, show_cards, deck_cards}
+use Rattle.st_dis.proofs.Spelled.{statements-cases, whole_bits, half_bits}
+use Rattle.st_dis.proofs.WordRead.{says-lays}
+use Rattle.st_dis.proofs.PlacesRead.{location-read, start-read}
+use Rattle.st_dis.proofs.Said.{word_statements, statements_from, deck_statements, control_cards, AreRead}
+
+-- ---- the cards
+
+-- the texts of a word, and its cards
+placed-texts : (w before word : ℕ) → placed w before word ≡ map statement_card (word_statements w before word)
+unfolding placed
+placed-texts w before word =
+    let texts = statements_of word in
+    let card = statement_card (location_text w) in
+    let location : (b : Bool) → (if b then card ∷ [] else []) ++ map statement_card texts
+    ≡ map statement_card ((if b then location_text w ∷ [] else []) ++ texts) = λ b. elim b as (λ b. (if b then card ∷ [] else []) ++ map statement_card texts
+    ≡ map statement_card ((if b then location_text w ∷ [] else []) ++ texts)) [
+      | true ↦ refl
+      | false ↦ refl
+    ] in
+    elim (word == 0) as (λ b. (if b then [] else location_cards w before ++ map statement_card texts)
+    ≡ map statement_card (if b then [] else (if before == 0 then location_text w ∷ [] else []) ++ texts)) [
+      | true ↦ refl
+      | false ↦ location (before == 0)
+    ]
+
+word_cards-texts : (w before : ℕ) (xs : List ℕ) → word_cards w before xs ≡ map statement_card (statements_from w before xs)
+word_cards-texts w before [] = refl
+word_cards-texts w before (x ∷ xs) =
+    let rest = word_cards (w + 1) x xs in
+    let texts = word_statements w before x in
+    let more = statements_from (w + 1) x xs in
+    ap (λ (cards : List (List ℕ)). cards ++ rest) (placed-texts w before x)
+    ∙ (ap (λ (cards : List (List ℕ)). map statement_card texts ++ cards) (word_cards-texts (w + 1) x xs)
+    ∙ sym (map-append statement_card texts more))
+
+-- the cards of a deck are those of its statements, and its control cards
+pub deck-cards : (p : Program) → deck_cards p ≡ map statement_card (deck_statements p) ++ control_cards p
+deck-cards p =
+    let texts = statements_from 0 0 p.words in
+    let end = end_text p.start ∷ [] in
+    let orders = order_cards p.controls in
+    let shows = show_cards p.controls in
+    let card : List (List ℕ) = statement_card (end_text p.start) ∷ [] in
+    let words : word_cards 0 0 p.words ++ card ≡ map statement_card (texts ++ end) =
+    ap (λ (cards : List (List ℕ)). cards ++ card) (word_cards-texts 0 0 p.words) ∙ sym (map-append statement_card texts end) in
+    append_assoc (word_cards 0 0 p.words ++ card) orders shows
+    ∙ ap (λ (cards : List (List ℕ)). cards ++ (orders ++ shows)) words
+
+-- ---- the statements
+
+-- a statement that is not the end
+abbrev pub IsOpen : Statement → Type 0
+IsOpen s = is_end s ≡ false
+
+-- texts that are read, none of them as the end
+pub record AreOpen (texts : List (List ℕ)) : Type 0 where
+  pub statements : List Statement
+  pub read : AreRead texts statements
+  pub open_ones : All IsOpen statements
+
+pub read-append : (ts us : List (List ℕ)) (ss vs : List Statement) → AreRead ts ss → AreRead us vs → AreRead (ts ++ us) (ss ++ vs)
+read-append [] us ss vs first second = subst (λ (all : List Statement). AreRead us (all ++ vs)) (sym first) second
+read-append (t ∷ ts) us [] vs first second = absurd first
+read-append (t ∷ ts) us (s ∷ ss) vs first second = (first.0, read-append ts us ss vs first.1 second)
+
+no_texts : AreOpen []
+no_texts = record { statements = []; read = refl; open_ones = All-nil IsOpen }
+
+one_text : (t : List ℕ) (s : Statement) → statement_of [] t ≡ Ok s → IsOpen s → AreOpen (t ∷ [])
+one_text t s read not_end = record { statements = s ∷ []; read = (read, refl); open_ones = All-cons IsOpen s [] not_end (All-nil IsOpen) }
+
+both_texts : (ts us : List (List ℕ)) → AreOpen ts → AreOpen us → AreOpen (ts ++ us)
+both_texts ts us first second = record {
+  statements = first.statements ++ second.statements;
+  read = read-append ts us first.statements second.statements first.read second.read;
+  open_ones = All-append IsOpen first.statements second.statements first.open_ones second.open_ones;
+}
+
+-- what lays bits is not the end
+lays_by : (known faultless : Bool) (length bits : ℕ) (wanted : LaidBits) →
+    (if known then (if faultless then Some (record { length = length; bits = bits }) else None) else None) ≡ Some wanted → length ≡ wanted.length
+lays_by true true length bits wanted lays = cc
+lays_by true false length bits wanted lays = let no : ⊥ = cc in absurd no
+lays_by false faultless length bits wanted lays = let no : ⊥ = cc in absurd no
+
+lays-length : (s : Statement) (wanted : LaidBits) → laid_by [] s ≡ Some wanted → length_in (role_of s) ≡ wanted.length
+unfolding laid_by
+lays-length s wanted lays =
+    lays_by (accepts_all (is_defined []) s) (is_none (value_fault s (values_of [] s) unnamed.location))
+    (length_in (role_of s)) (bits_of s (values_of [] s)) wanted lays
+
+open-length : (s : Statement) → 0 < length_in (role_of s) → IsOpen s
+open-length (Half op j at) lays = refl
+open-length (Sum j listed) lays = refl
+open-length (Refill j) lays = refl
+open-length (Branch op at) lays = refl
+open-length (Floating number at) lays = refl
+open-length (Vfl op negated form at offset) lays = refl
+open-length (Connect kind truth form at offset) lays = refl
+open-length (Move swap at second count) lays = refl
+open-length (BitBranch sense change at second) lays = refl
+open-length (IndBranch sense off at second) lays = refl
+open-length (StoreCounter at second) lays = refl
+open-length (Transfer write at count) lays = refl
+open-length (Data form minus number) lays = refl
+open-length (IndexWord value count refill flags) lays = refl
+open-length (Synonym at) lays = refl
+open-length (SetLocation at) lays = refl
+open-length (Reserve at) lays = refl
+open-length (End at) lays = let no : ⊥ = omega arith in absurd no
+
+-- a text that lays bits is read, and not as the end
+read_by : (t : List ℕ) (answer : Result Statement Fault) (wanted : LaidBits) → 0 < wanted.length → statement_of [] t ≡ answer →
+    laid_if_read [] answer ≡ Some wanted → AreOpen (t ∷ [])
+read_by t (Ok s) wanted some is lays =
+    let same = lays-length s wanted lays in one_text t s is (open-length s (omega (arith, some, same)))
+read_by t (Err fault) wanted some is lays = let no : ⊥ = cc in absurd no
+
+laid-read : (t : List ℕ) (wanted : LaidBits) → 0 < wanted.length → laid_alone [] t ≡ Some wanted → AreOpen (t ∷ [])
+unfolding laid_alone
+laid-read t wanted some lays = read_by t (statement_of [] t) wanted some refl lays
+
+statements-read : (word : ℕ) → word < 2 ^ 64 → AreOpen (statements_of word)
+statements-read word small =
+    statements-cases AreOpen word
+    (λ t said. laid-read t (whole_bits word) (omega arith) (says-lays t (whole_bits word) said))
+    (λ l r said_l said_r. both_texts (l ∷ []) (r ∷ [])
+    (laid-read l (half_bits (word / 2 ^ 32)) (omega arith) (says-lays l (half_bits (word / 2 ^ 32)) said_l))
+    (laid-read r (half_bits (word % 2 ^ 32)) (omega arith) (says-lays r (half_bits (word % 2 ^ 32)) said_r)))
+    (one_text (number_text word) (Data word_form false word) (data-read word small) refl)
+
+word-read : (w before word : ℕ) → w < 98304 → word < 2 ^ 64 → AreOpen (word_statements w before word)
+word-read w before word within small =
+    let texts = statements_of word in
+    let place : AreOpen (location_text w ∷ []) =
+    one_text (location_text w) (SetLocation (number_expr (64 * w))) (location-read w within) refl in
+    let here : (b : Bool) → AreOpen ((if b then location_text w ∷ [] else []) ++ texts) = λ b.
+    elim b as (λ b. AreOpen ((if b then location_text w ∷ [] else []) ++ texts)) [
+      | true ↦ both_texts (location_text w ∷ []) texts place (statements-read word small)
+      | false ↦ statements-read word small
+    ] in
+    elim (word == 0) as (λ b. AreOpen (if b then [] else (if before == 0 then location_text w ∷ [] else []) ++ texts)) [
+      | true ↦ no_texts
+      | false ↦ here (before == 0)
+    ]
+
+words-read : (w before : ℕ) (xs : List ℕ) → w + length xs ≤ 98304 → AreWords xs → AreOpen (statements_from w before xs)
+words-read w before [] few words = no_texts
+words-read w before (x ∷ xs) few words =
+    both_texts (word_statements w before x) (statements_from (w + 1) x xs)
+    (word-read w before x (omega (arith, few)) (All-head (λ y. y < 2 ^ 64) x xs words))
+    (words-read (w + 1) x xs (omega (arith, few)) (All-tail (λ y. y < 2 ^ 64) x xs words))
+
+-- all statements up to the end are read, and none is the end
+pub deck-open : (p : Program) → IsProgram p → AreWords p.words → AreOpen (statements_from 0 0 p.words)
+deck-open p is words =
+    let whole = is.whole in words-read 0 0 p.words (omega (arith, whole, words_of_storage_is)) words
+
+-- the end of a deck
+abbrev pub end_of : Program → Statement
+end_of p = End (number_expr (32 * p.start))
+
+-- all statements are read, the last as the end
+pub deck-read : (p : Program) → IsProgram p → AreWords p.words →
+    (before : List Statement) × AreRead (deck_statements p) (before ++ end_of p ∷ []) × All IsOpen before
+deck-read p is words =
+    let found = deck-open p is words in (
+      found.statements,
+      read-append (statements_from 0 0 p.words) (end_text p.start ∷ []) found.statements (end_of p ∷ []) found.read
+          (start-read p.start is.start, refl),
+      found.open_ones,
+    )
