@@ -15,7 +15,7 @@ use Rattle.st_card.specs.declared.faults.Fault.{Fault}
 use Rattle.st_card.specs.declared.faults.Fault.TheVariants.{NotAscii, CardTooLong, BadName, TooManyCards}
 use Rattle.st_object.specs.Object.{Program, IsProgram, AreWords}
 use Rattle.st_dis.specs.Deck.{deck_cards, deck_of, deck_text, card_count}
-use Rattle.st_dis.proofs.Printable.{IsPlain, is_plain, IsWritten, deck_written, deck_pieces}
+use Rattle.st_dis.proofs.Printable.{IsPlain, is_plain, IsWritten, pieces, deck_written}
 use Rattle.st_dis.proofs.Lengths.{IsCard, deck_cards-short}
 
 -- no byte of a printable text is a carriage return
@@ -51,9 +51,9 @@ text_there front line rest short =
     ap (take (min (length line) 80)) (drop-append_seam front (line ++ rest)) ∙ take_at line rest (min (length line) 80) size
 
 -- cards that are cut from a job as lines
-record IsCutAs (job : List ℕ) (cards : List Card) (lines : List (List ℕ)) : Type 0 where
-  texts : map (text_in job) cards ≡ lines
-  good : All (λ card. card.fault ≡ None) cards
+pub record IsCutAs (job : List ℕ) (cards : List Card) (lines : List (List ℕ)) : Type 0 where
+  pub texts : map (text_in job) cards ≡ lines
+  pub good : All (λ card. card.fault ≡ None) cards
 
 first_cut : (n place : ℕ) (line : List ℕ) (lines : List (List ℕ)) → cards_from n place (line ∷ (lines ++ [] ∷ [])) ≡ card_at n place (strip_carriage_return line) ∷ cards_from (n + 1) (place + length line + 1) (lines ++ [] ∷ [])
 first_cut n place line [] = refl
@@ -85,19 +85,22 @@ cut job front n (line ∷ lines) e w s few =
       good = All-cons (λ (c : Card). c.fault ≡ None) card tail (good_card n line (omega arith) here short) more.good;
     })
 
--- all of the deck
-deck_cut : (p : Program) → IsProgram p → AreWords p.words → card_count p ≤ 20000 → IsCutAs (deck_text p) (cards_of (deck_text p)) (deck_cards p)
-unfolding deck_text card_count
-deck_cut p is words few =
-    let job = deck_text p in
-    let lines = deck_cards p in
-    let all = cut job [] 1 lines refl (deck_written p) (deck_cards-short p is words) (omega (arith, few)) in
+-- all of a text of lines
+pub lines_cut : (lines : List (List ℕ)) → All IsWritten lines → All IsCard lines → length lines ≤ 20000 → IsCutAs (deck_of lines) (cards_of (deck_of lines)) lines
+lines_cut lines written short few =
+    let job = deck_of lines in
+    let all = cut job [] 1 lines refl written short (omega (arith, few)) in
     let cards = cards_from 1 0 (lines ++ [] ∷ []) in
     let size : length cards ≤ 20001 =
     let same : length cards ≡ length lines = sym (length-map cards (text_in job)) ∙ ap length all.texts in omega (arith, same, few) in
     let found : cards ≡ cards_of job =
-    sym (take_all 20001 cards size) ∙ ap (λ (ls : List (List ℕ)). take 20001 (cards_from 1 0 ls)) (sym (deck_pieces p)) in
+    sym (take_all 20001 cards size) ∙ ap (λ (ls : List (List ℕ)). take 20001 (cards_from 1 0 ls)) (sym (pieces lines written)) in
     subst (λ (cs : List Card). IsCutAs job cs lines) found all
+
+-- all of the deck
+deck_cut : (p : Program) → IsProgram p → AreWords p.words → card_count p ≤ 20000 → IsCutAs (deck_text p) (cards_of (deck_text p)) (deck_cards p)
+unfolding deck_text card_count
+deck_cut p is words few = lines_cut (deck_cards p) (deck_written p) (deck_cards-short p is words) few
 
 pub deck_texts : (p : Program) → IsProgram p → AreWords p.words → card_count p ≤ 20000 → map (text_in (deck_text p)) (cards_of (deck_text p)) ≡ deck_cards p
 deck_texts p is words few = (deck_cut p is words few).texts
