@@ -1,9 +1,13 @@
--- The cards of a deck are its statements and its control cards, and each of its statements is read.
-use Rattle.std.proofs.Common.{◌≡◌, ◌<◌, ◌≤◌, ◌+◌, ◌*◌, ◌/◌, ◌%◌, ◌^◌, ◌==◌, ⊥, ℕ, zero, suc, Bool, true, false, not, List, [], ◌∷◌, ◌++◌, length, map, filter, take, Option, Some, None, Result, Ok, Err, is_none, if◌then◌else◌, refl, sym, ap, subst, ◌∙◌, append_assoc, length-append, arith}
+-- The cards of a deck are its statements and its control cards, and the form pass reads them all.
+use Rattle.std.proofs.Common.{◌≡◌, ◌<◌, ◌≤◌, ◌+◌, ◌*◌, ◌/◌, ◌%◌, ◌^◌, ◌==◌, ℕ, zero, suc, Bool, true, false, not, List, [], ◌∷◌, ◌++◌, length, map, filter, take, Option, Some, None, Result, Ok, Err, is_none, codes, decimal, if◌then◌else◌, refl, sym, ap, subst, ◌∙◌, append_assoc, length-append, arith}
 use Rattle.std.specs.List.{All, list_all}
 use Rattle.std.proofs.lemmas.List.{map-append}
 use Rattle.std.proofs.lemmas.List.Elements.{All-nil, All-cons, All-head, All-tail, All-append}
 use Rattle.std.proofs.lemmas.Bool.{and_parts}
+use Rattle.st_card.specs.Cards.{kind_of, cards_of}
+use Rattle.st_card.specs.Controls.{Asked}
+use Rattle.st_card.specs.declared.cards.CardKind.TheVariants.{Control}
+use Rattle.st_card.specs.declared.control_cards.Signal.{Signal}
 use Rattle.st_card.specs.declared.faults.Fault.{Fault}
 use Rattle.st_bits.specs.Storage.{words_of_storage_is}
 use Rattle.st_strap.specs.Reading.{number_expr}
@@ -17,14 +21,18 @@ use Rattle.st_asm.specs.Places.{role_of, length_in}
 use Rattle.st_asm.specs.Naming.{unnamed}
 use Rattle.st_asm.specs.Checks.{value_fault}
 use Rattle.st_asm.specs.Laying.{bits_of}
-use Rattle.st_asm.specs.Forming.{is_end}
+use Rattle.st_asm.specs.Forming.{is_end, form_pass}
 use Rattle.st_asm.specs.Alone.{laid_alone, laid_if_read, laid_by, laid_with}
 use Rattle.st_asm.specs.declared.alone.LaidBits.{LaidBits}
 use Rattle.st_object.specs.Object.{Program, IsProgram, AreWords}
 use Rattle.st_dis.specs.Spelling.{says, number_text, statements_of}
-use Rattle.st_dis.specs.Deck.{statement_card, location_text, location_cards, placed, word_cards, end_text, order_cards, show_cards, deck_cards}
+use Rattle.st_dis.specs.Deck.{statement_card, location_text, location_cards, placed, word_cards, end_text, marked, order_cards, back_cards, show_cards, deck_cards, deck_of, deck_text, card_count}
 use Rattle.st_dis.proofs.Spelled.{statements-cases, whole_bits, half_bits}
 use Rattle.st_dis.proofs.WordRead.{says-lays}
+use Rattle.st_dis.proofs.Printable.{IsWritten, deck_written}
+use Rattle.st_dis.proofs.Lengths.{IsCard, deck_cards-short}
+use Rattle.st_dis.proofs.ControlsRead.{controls-read}
+use Rattle.st_dis.proofs.FormPass.{IsOpen, IsControl, IsJob, job_cards, found_in_job, job-formed, read-append}
 use Rattle.st_dis.proofs.PlacesRead.{location-read, start-read}
 use Rattle.st_dis.proofs.Said.{word_statements, statements_from, deck_statements, control_cards, AreRead}
 
@@ -73,20 +81,11 @@ deck-cards p =
 
 -- ---- the statements
 
--- a statement that is not the end
-abbrev pub IsOpen : Statement → Type 0
-IsOpen s = is_end s ≡ false
-
 -- texts that are read, none of them as the end
 pub record AreOpen (texts : List (List ℕ)) : Type 0 where
   pub statements : List Statement
   pub read : AreRead texts statements
   pub open_ones : All IsOpen statements
-
-pub read-append : (ts us : List (List ℕ)) (ss vs : List Statement) → AreRead ts ss → AreRead us vs → AreRead (ts ++ us) (ss ++ vs)
-read-append [] us ss vs first second = subst (λ (all : List Statement). AreRead us (all ++ vs)) (sym first) second
-read-append (t ∷ ts) us [] vs first second = absurd first
-read-append (t ∷ ts) us (s ∷ ss) vs first second = (first.0, read-append ts us ss vs first.1 second)
 
 no_texts : AreOpen []
 no_texts = record { statements = []; read = refl; open_ones = All-nil IsOpen }
@@ -185,13 +184,96 @@ deck-open p is words =
 abbrev pub end_of : Program → Statement
 end_of p = End (number_expr (32 * p.start))
 
--- all statements are read, the last as the end
-pub deck-read : (p : Program) → IsProgram p → AreWords p.words →
-    (before : List Statement) × AreRead (deck_statements p) (before ++ end_of p ∷ []) × All IsOpen before
-deck-read p is words =
-    let found = deck-open p is words in (
-      found.statements,
-      read-append (statements_from 0 0 p.words) (end_text p.start ∷ []) found.statements (end_of p ∷ []) found.read
-          (start-read p.start is.start, refl),
-      found.open_ones,
-    )
+-- ---- the control cards
+
+only : (card : List ℕ) → IsControl card → All IsControl (card ∷ [])
+only card is = All-cons IsControl card [] is (All-nil IsControl)
+
+where_asked : (b : Bool) (card : List ℕ) → IsControl card → All IsControl (marked b card)
+where_asked true card is = only card is
+where_asked false card is = All-nil IsControl
+
+module _ {X : Type 0} where
+  mapped_ones : (f : X → List ℕ) → ((x : X) → IsControl (f x)) → (xs : List X) → All IsControl (map f xs)
+  mapped_ones f each [] = All-nil IsControl
+  mapped_ones f each (x ∷ xs) = All-cons IsControl (f x) (map f xs) (each x) (mapped_ones f each xs)
+
+order_cards-kind : (a : Asked) → All IsControl (order_cards a)
+order_cards-kind a =
+    let c1 : List (List ℕ) = (codes "/BUDGET " ++ decimal a.budget) ∷ [] in
+    let c2 : List (List ℕ) = map (λ d. codes "/DELAYS " ++ decimal d) a.delays in
+    let c3 : List (List ℕ) = map (λ s. codes "/SIGNAL " ++ decimal s.count ++ codes " " ++ decimal s.indicator) a.signals in
+    let c4 : List (List ℕ) = map (λ p. codes "/DUMP " ++ decimal p.0 ++ codes " " ++ decimal p.1) a.dumps in
+    All-append IsControl (c1 ++ c2 ++ c3) c4
+    (All-append IsControl (c1 ++ c2) c3
+    (All-append IsControl c1 c2 (only (codes "/BUDGET " ++ decimal a.budget) refl)
+    (mapped_ones (λ d. codes "/DELAYS " ++ decimal d) (λ d. refl) a.delays))
+    (mapped_ones (λ s. codes "/SIGNAL " ++ decimal s.count ++ codes " " ++ decimal s.indicator) (λ s. refl) a.signals))
+    (mapped_ones (λ p. codes "/DUMP " ++ decimal p.0 ++ codes " " ++ decimal p.1) (λ p. refl) a.dumps)
+
+back_cards-kind : (k : ℕ) → All IsControl (back_cards k)
+back_cards-kind k =
+    let card = codes "/BACK " ++ decimal k in
+    elim (k == 0) as (λ b. All IsControl (if b then [] else card ∷ [])) [
+      | true ↦ All-nil IsControl
+      | false ↦ only card refl
+    ]
+
+show_cards-kind : (a : Asked) → All IsControl (show_cards a)
+show_cards-kind a =
+    let c5 = marked a.trace (codes "/TRACE") in
+    let c6 = marked a.time (codes "/TIME") in
+    let c7 = marked a.chart (codes "/CHART") in
+    let c8 : List (List ℕ) = map (λ t. codes "/SNAP " ++ decimal t) a.snaps in
+    All-append IsControl (c5 ++ c6 ++ c7 ++ c8) (back_cards a.back)
+    (All-append IsControl (c5 ++ c6 ++ c7) c8
+    (All-append IsControl (c5 ++ c6) c7
+    (All-append IsControl c5 c6 (where_asked a.trace (codes "/TRACE") refl) (where_asked a.time (codes "/TIME") refl))
+    (where_asked a.chart (codes "/CHART") refl))
+    (mapped_ones (λ t. codes "/SNAP " ++ decimal t) (λ t. refl) a.snaps))
+    (back_cards-kind a.back)
+
+control_cards-kind : (p : Program) → All IsControl (control_cards p)
+control_cards-kind p =
+    All-append IsControl (order_cards p.controls) (show_cards p.controls) (order_cards-kind p.controls) (show_cards-kind p.controls)
+
+-- ---- the form pass
+
+-- the job that a deck is: the texts and the end, and what is read
+deck-job : (p : Program) → IsProgram p → (before : List Statement) → AreRead (statements_from 0 0 p.words) before → All IsOpen before →
+    IsJob (statements_from 0 0 p.words) (end_text p.start) (control_cards p) before (end_of p) p.controls
+deck-job p is before read going = record {
+  read = read;
+  going = going;
+  final_read = start-read p.start is.start;
+  ends = refl;
+  marks = control_cards-kind p;
+  leads = controls-read p.controls is.limits is.budget is.unlisted;
+}
+
+-- all statements of a deck are read, and the form pass finds them and what the program asks for
+pub record IsFormed (p : Program) : Type 0 where
+  pub statements : List Statement
+  pub read : AreRead (deck_statements p) statements
+  pub formed : form_pass (deck_text p) (cards_of (deck_text p)) ≡ Ok (found_in_job statements (length (control_cards p)) p.controls)
+
+pub form-passes : (p : Program) → IsProgram p → AreWords p.words → card_count p ≤ 20000 → IsFormed p
+unfolding deck_text card_count
+form-passes p is words few =
+    let texts = statements_from 0 0 p.words in
+    let found = deck-open p is words in
+    let before = found.statements in
+    let all = before ++ end_of p ∷ [] in
+    let controls = control_cards p in
+    let cards = job_cards texts (end_text p.start) controls in
+    let same : deck_cards p ≡ cards = deck-cards p in
+    let written = subst (λ (cs : List (List ℕ)). All IsWritten cs) same (deck_written p) in
+    let short = subst (λ (cs : List (List ℕ)). All IsCard cs) same (deck_cards-short p is words) in
+    let fits = subst (λ (cs : List (List ℕ)). length cs ≤ 20000) same few in
+    let passes = job-formed texts (end_text p.start) controls before (end_of p) p.controls
+    (deck-job p is before found.read found.open_ones) written short fits in record {
+      statements = all;
+      read = read-append texts (end_text p.start ∷ []) before (end_of p ∷ []) found.read (start-read p.start is.start, refl);
+      formed = subst (λ (cs : List (List ℕ)). form_pass (deck_of cs) (cards_of (deck_of cs))
+          ≡ Ok (found_in_job all (length controls) p.controls)) (sym same) passes;
+    }

@@ -1,5 +1,5 @@
--- The form pass over a deck that was disassembled.
-use Rattle.std.proofs.Common.{◌≡◌, ◌<◌, ◌≤◌, ◌+◌, ◌*◌, ◌-◌, ◌==◌, ◌||◌, ⊥, ℕ, zero, suc, Bool, true, false, not, List, [], ◌∷◌, ◌++◌, length, map, filter, take, drop, Option, Some, None, Result, Ok, Err, if◌then◌else◌, refl, sym, ap, subst, ◌∙◌, append_assoc, append-nil, length-append, codes, decimal, arith}
+-- The form pass over statement cards without names, with control cards behind them.
+use Rattle.std.proofs.Common.{◌≡◌, ◌<◌, ◌≤◌, ◌+◌, ◌*◌, ◌-◌, ◌==◌, ◌||◌, ℕ, zero, suc, Bool, true, false, not, List, [], ◌∷◌, ◌++◌, length, map, filter, take, drop, Option, Some, None, Result, Ok, Err, if◌then◌else◌, refl, sym, ap, subst, ◌∙◌, append_assoc, append-nil, length-append, codes, decimal, arith}
 use Rattle.std.specs.List.{All, list_all}
 use Rattle.std.proofs.lemmas.List.{take_all, length-map, map-append}
 use Rattle.std.proofs.lemmas.List.Elements.{All-nil, All-cons, All-head, All-tail, All-append}
@@ -9,28 +9,22 @@ use Rattle.st_card.specs.Controls.{Asked, nothing, added}
 use Rattle.st_card.specs.declared.cards.Card.{Card}
 use Rattle.st_card.specs.declared.cards.CardKind.{CardKind}
 use Rattle.st_card.specs.declared.cards.CardKind.TheVariants.{Comment, Control, Statement as StatementCard}
-use Rattle.st_card.specs.declared.control_cards.Signal.{Signal}
 use Rattle.st_card.specs.declared.faults.Fault.{Fault}
-use Rattle.st_card.specs.declared.faults.Fault.TheVariants.{BadControlCard}
-use Rattle.st_bits.specs.Storage.{words_of_storage_is}
+use Rattle.st_card.specs.declared.faults.Fault.TheVariants.{BadName, UnknownOperation, BadControlCard}
 use Rattle.st_strap.specs.Order.{judged, mapped}
-use Rattle.st_strap.specs.Table.{operation_of}
+use Rattle.st_strap.specs.Table.{operation_of, other_operations, index_operations, field_operations, negated_operation, connective, kinds, truth_tables}
 use Rattle.st_strap.specs.Text.{clean, stop}
-use Rattle.st_strap.specs.Saying.{is_misnamed, clean_statement_of, statement_of}
+use Rattle.st_strap.specs.Saying.{said, is_misnamed, clean_statement_of, statement_of}
 use Rattle.st_strap.specs.declared.statement.Statement.{Statement}
 use Rattle.st_asm.specs.Pass.{Refusal, onward, pass, then_for, unless_faulty}
 use Rattle.st_asm.specs.Lines.{name_field, statement_field, name_in, silent, saying}
 use Rattle.st_asm.specs.Forming.{Found, unread, first_fault_of, is_end, with_statement, with_asked, form_control, form_statement, form_kind, form_card, with_end, form_pass}
-use Rattle.st_asm.specs.declared.line.Line.{Line}
-use Rattle.st_object.specs.Object.{Program, IsProgram, AreWords}
-use Rattle.st_dis.specs.Deck.{statement_card, marked, end_text, order_cards, back_cards, show_cards, deck_cards, deck_text, card_count}
+use Rattle.st_dis.specs.Deck.{statement_card, deck_of}
 use Rattle.st_dis.specs.Read.{CardsLead}
-use Rattle.st_dis.proofs.Cutting.{IsCardAs, AreCardsAs, deck_each}
-use Rattle.st_dis.proofs.ControlsRead.{controls-read}
-use Rattle.st_dis.proofs.Lengths.{IsCard, deck_cards-short, end_text-short}
-use Rattle.st_dis.proofs.PlacesRead.{start-read}
-use Rattle.st_dis.proofs.DeckCards.{IsOpen, end_of, deck-cards, read-append, deck-open}
-use Rattle.st_dis.proofs.Said.{statements_from, deck_statements, control_cards, AreRead, spoken_lines, silent_lines}
+use Rattle.st_dis.proofs.Printable.{IsWritten}
+use Rattle.st_dis.proofs.Cutting.{IsCardAs, AreCardsAs, lines_cut}
+use Rattle.st_dis.proofs.Lengths.{IsCard, IsShort}
+use Rattle.st_dis.proofs.Said.{Line, AreRead, spoken_lines, silent_lines}
 
 -- ---- the cards as texts
 
@@ -39,7 +33,7 @@ abbrev form_text : Found → ℕ → List ℕ → Result Found Fault
 form_text found n text = form_kind (kind_of text) found n None text
 
 -- cards, by their texts from the n-th on, lead from what was found so far to what is found behind them
-TextsLead : Found → ℕ → List (List ℕ) → Found → Type 0
+abbrev TextsLead : Found → ℕ → List (List ℕ) → Found → Type 0
 TextsLead found n [] to = found ≡ to
 TextsLead found n (text ∷ texts) to = (next : Found) × (form_text found n text ≡ Ok next) × TextsLead next (n + 1) texts to
 
@@ -87,9 +81,16 @@ without_blanks (suc k) (c ∷ cs) blanks =
     ap (λ (b : Bool). if not b then c ∷ filter (λ d. not (d == 32)) (take k cs) else filter (λ d. not (d == 32)) (take k cs)) parts.0
     ∙ without_blanks k cs parts.1
 
+no_operation : operation_of [] ≡ None
+unfolding operation_of other_operations index_operations field_operations negated_operation connective kinds truth_tables
+no_operation = refl
+
+no_statement : clean_statement_of [] [] ≡ Err UnknownOperation
+unfolding clean_statement_of is_misnamed
+no_statement = ap (λ op. if is_misnamed [] op then Err BadName else judged UnknownOperation op (λ found. said found [])) no_operation
+
 nothing_said : (s : Statement) → clean_statement_of [] [] ≡ Ok s → ⊥
-unfolding clean_statement_of is_misnamed operation_of
-nothing_said s read = cc
+nothing_said s read = let same : Err UnknownOperation ≡ Ok s = sym no_statement ∙ read in let no : ⊥ = cc in no
 
 blank-unread : (text : List ℕ) (s : Statement) → is_blank text ≡ true → statement_of [] text ≡ Ok s → ⊥
 unfolding clean
@@ -128,15 +129,16 @@ unfolding form_statement name_in
 statement-formed asked lines n text s short read =
     let found = found_as false asked lines in
     let card = statement_card text in
-    let said : List ℕ → List ℕ → Result Found Fault =
+    let reads : List ℕ → List ℕ → Result Found Fault =
     λ name t. mapped (λ x. with_statement found n name x) (statement_of name t) in
     ap (λ (k : CardKind). form_kind k found n None card) (statement-kind text s short read)
-    ∙ (ap (λ (name : List ℕ). said name (statement_field card)) (card-name text)
-    ∙ (ap (λ (t : List ℕ). said [] t) (card-statement text short)
+    ∙ (ap (λ (name : List ℕ). reads name (statement_field card)) (card-name text)
+    ∙ (ap (λ (t : List ℕ). reads [] t) (card-statement text short)
     ∙ ap (λ (r : Result Statement Fault). mapped (λ x. with_statement found n [] x) r) read))
 
-abbrev IsShort : List ℕ → Type 0
-IsShort text = length text ≤ 63
+-- a statement that is not the end
+abbrev pub IsOpen : Statement → Type 0
+IsOpen s = is_end s ≡ false
 
 -- statement cards without the end
 statements-lead : (asked : Asked) (lines : List Line) (n : ℕ) (texts : List (List ℕ)) (ss : List Statement) → All IsShort texts →
@@ -172,51 +174,8 @@ end-lead asked lines n text s short read last =
 -- ---- control cards
 
 -- a card that begins with the mark of a control card
-abbrev IsControl : List ℕ → Type 0
+abbrev pub IsControl : List ℕ → Type 0
 IsControl card = kind_of card ≡ Control
-
-only : (card : List ℕ) → IsControl card → All IsControl (card ∷ [])
-only card is = All-cons IsControl card [] is (All-nil IsControl)
-
-where_asked : (b : Bool) (card : List ℕ) → IsControl card → All IsControl (marked b card)
-where_asked true card is = only card is
-where_asked false card is = All-nil IsControl
-
-module _ {X : Type 0} where
-  mapped_ones : (f : X → List ℕ) → ((x : X) → IsControl (f x)) → (xs : List X) → All IsControl (map f xs)
-  mapped_ones f each [] = All-nil IsControl
-  mapped_ones f each (x ∷ xs) = All-cons IsControl (f x) (map f xs) (each x) (mapped_ones f each xs)
-
-order_cards-kind : (a : Asked) → All IsControl (order_cards a)
-order_cards-kind a =
-    All-append IsControl _ _
-    (All-append IsControl _ _
-    (All-append IsControl _ _ (only (codes "/BUDGET " ++ decimal a.budget) refl)
-    (mapped_ones (λ d. codes "/DELAYS " ++ decimal d) (λ d. refl) a.delays))
-    (mapped_ones (λ (s : Signal). codes "/SIGNAL " ++ decimal s.count ++ codes " " ++ decimal s.indicator) (λ s. refl) a.signals))
-    (mapped_ones (λ (p : ℕ × ℕ). codes "/DUMP " ++ decimal p.0 ++ codes " " ++ decimal p.1) (λ p. refl) a.dumps)
-
-back_cards-kind : (k : ℕ) → All IsControl (back_cards k)
-back_cards-kind k =
-    let card = codes "/BACK " ++ decimal k in
-    elim (k == 0) as (λ b. All IsControl (if b then [] else card ∷ [])) [
-      | true ↦ All-nil IsControl
-      | false ↦ only card refl
-    ]
-
-show_cards-kind : (a : Asked) → All IsControl (show_cards a)
-show_cards-kind a =
-    All-append IsControl _ _
-    (All-append IsControl _ _
-    (All-append IsControl _ _
-    (All-append IsControl _ _ (where_asked a.trace (codes "/TRACE") refl) (where_asked a.time (codes "/TIME") refl))
-    (where_asked a.chart (codes "/CHART") refl))
-    (mapped_ones (λ t. codes "/SNAP " ++ decimal t) (λ t. refl) a.snaps))
-    (back_cards-kind a.back)
-
-control_cards-kind : (p : Program) → All IsControl (control_cards p)
-control_cards-kind p =
-    All-append IsControl (order_cards p.controls) (show_cards p.controls) (order_cards-kind p.controls) (show_cards-kind p.controls)
 
 -- what a control card does behind the end
 control-formed : (asked next : Asked) (lines : List Line) (n : ℕ) (card : List ℕ) → IsControl card → added asked card ≡ Some next →
@@ -229,19 +188,24 @@ control-formed asked next lines n card is adds =
 
 controls-lead : (asked to : Asked) (lines : List Line) (n : ℕ) (cards : List (List ℕ)) → All IsControl cards → CardsLead asked cards to →
     TextsLead (found_as true asked lines) n cards (found_as true to (lines ++ silent_lines n (length cards)))
-controls-lead asked to lines n [] kinds leads =
+controls-lead asked to lines n [] marks leads =
     ap (λ (ls : List Line). found_as true asked ls) (sym (append-nil lines))
     ∙ ap (λ (a : Asked). found_as true a (lines ++ [])) leads
-controls-lead asked to lines n (card ∷ cards) kinds leads =
+controls-lead asked to lines n (card ∷ cards) marks leads =
     let more : List Line = lines ++ silent n ∷ [] in
-    let rest = controls-lead leads.0 to more (n + 1) cards (All-tail IsControl card cards kinds) leads.2 in (
+    let rest = controls-lead leads.0 to more (n + 1) cards (All-tail IsControl card cards marks) leads.2 in (
       found_as true leads.0 more,
-      control-formed asked leads.0 lines n card (All-head IsControl card cards kinds) leads.1,
+      control-formed asked leads.0 lines n card (All-head IsControl card cards marks) leads.1,
       subst (λ (ls : List Line). TextsLead (found_as true leads.0 more) (n + 1) cards (found_as true to ls))
           (append_assoc lines (silent n ∷ []) (silent_lines (n + 1) (length cards))) rest,
     )
 
--- ---- the whole deck
+-- ---- the whole job
+
+pub read-append : (ts us : List (List ℕ)) (ss vs : List Statement) → AreRead ts ss → AreRead us vs → AreRead (ts ++ us) (ss ++ vs)
+read-append [] us ss vs first second = subst (λ (all : List Statement). AreRead us (all ++ vs)) (sym first) second
+read-append (t ∷ ts) us [] vs first second = absurd first
+read-append (t ∷ ts) us (s ∷ ss) vs first second = (first.0, read-append ts us ss vs first.1 second)
 
 -- texts that are read are as many as their statements
 read-count : (ts : List (List ℕ)) (ss : List Statement) → AreRead ts ss → length ts ≡ length ss
@@ -266,72 +230,75 @@ shorts (t ∷ ts) rest cards =
     let parts = length-append (32 ∷ 32 ∷ 32 ∷ 32 ∷ 32 ∷ 32 ∷ 32 ∷ 32 ∷ 32 ∷ []) t in
     All-cons IsShort t ts (omega (arith, here, parts)) (shorts ts rest (All-tail IsCard (statement_card t) more cards))
 
-deck-shorts : (p : Program) → IsProgram p → AreWords p.words → All IsShort (statements_from 0 0 p.words)
-deck-shorts p is words =
-    let texts = statements_from 0 0 p.words in
-    let end = end_text p.start ∷ [] in
-    let cards = subst (λ (cs : List (List ℕ)). All IsCard cs) (deck-cards p) (deck_cards-short p is words) in
-    let whole : map statement_card (texts ++ end) ++ control_cards p ≡ map statement_card texts ++ (map statement_card end ++ control_cards p) =
-    ap (λ (cs : List (List ℕ)). cs ++ control_cards p) (map-append statement_card texts end)
-    ∙ append_assoc (map statement_card texts) (map statement_card end) (control_cards p) in
-    shorts texts (map statement_card end ++ control_cards p) (subst (λ (cs : List (List ℕ)). All IsCard cs) whole cards)
+-- what holds of all holds of those behind others
+behind_all : (xs ys : List (List ℕ)) → All IsCard (xs ++ ys) → All IsCard ys
+behind_all [] ys all = all
+behind_all (x ∷ xs) ys all = behind_all xs ys (All-tail IsCard x (xs ++ ys) all)
 
--- what a deck's cards are found to say: the lines of its statements and of its control cards, and what it asks for
-abbrev pub found_of : Program → List Statement → Found
-found_of p ss = record {
-  ended = true;
-  asked = p.controls;
-  lines = spoken_lines 1 ss ++ silent_lines (length ss + 1) (length (control_cards p));
-}
+-- a job of statement cards without names, the last of which is the end, and of control cards behind it
+pub record IsJob (texts : List (List ℕ)) (final : List ℕ) (controls : List (List ℕ)) (before : List Statement) (last : Statement) (asked : Asked) : Type 0 where
+  pub read : AreRead texts before
+  pub going : All IsOpen before
+  pub final_read : statement_of [] final ≡ Ok last
+  pub ends : is_end last ≡ true
+  pub marks : All IsControl controls
+  pub leads : CardsLead nothing controls asked
 
-deck-leads : (p : Program) → IsProgram p → AreWords p.words → (before : List Statement) → AreRead (statements_from 0 0 p.words) before →
-    All IsOpen before → TextsLead unread 1 (deck_cards p) (found_of p (before ++ end_of p ∷ []))
-deck-leads p is words before read not_end =
-    let texts = statements_from 0 0 p.words in
-    let end = end_text p.start ∷ [] in
+-- its cards
+abbrev pub job_cards : List (List ℕ) → List ℕ → List (List ℕ) → List (List ℕ)
+job_cards texts final controls = map statement_card (texts ++ final ∷ []) ++ controls
+
+-- what is found in it: the lines of its statements and of its control cards, and what it asks for
+abbrev pub found_in_job : List Statement → ℕ → Asked → Found
+found_in_job ss controls asked =
+    record { ended = true; asked = asked; lines = spoken_lines 1 ss ++ silent_lines (length ss + 1) controls }
+
+job-leads : (texts : List (List ℕ)) (final : List ℕ) (controls : List (List ℕ)) (before : List Statement) (last : Statement) (asked : Asked) →
+    IsJob texts final controls before last asked → All IsCard (job_cards texts final controls) →
+    TextsLead unread 1 (job_cards texts final controls) (found_in_job (before ++ last ∷ []) (length controls) asked)
+job-leads texts final controls before last asked is short =
     let cards = map statement_card texts in
-    let last = statement_card (end_text p.start) ∷ [] in
-    let controls = control_cards p in
-    let all = before ++ end_of p ∷ [] in
-    let count = read-count texts before read in
+    let end = statement_card final ∷ [] in
+    let all = before ++ last ∷ [] in
+    let whole_cards : job_cards texts final controls ≡ (cards ++ end) ++ controls =
+    ap (λ (cs : List (List ℕ)). cs ++ controls) (map-append statement_card texts (final ∷ [])) in
+    let regrouped : job_cards texts final controls ≡ cards ++ (end ++ controls) = whole_cards ∙ append_assoc cards end controls in
+    let cards_short = subst (λ (cs : List (List ℕ)). All IsCard cs) regrouped short in
+    let texts_short = shorts texts (end ++ controls) cards_short in
+    let final_short = All-head IsShort final [] (shorts (final ∷ []) controls (behind_all cards (end ++ controls) cards_short)) in
+    let count = read-count texts before is.read in
     let cards_count : length cards ≡ length texts = length-map texts statement_card in
-    let all_count = length-append before (end_of p ∷ []) in
+    let all_count = length-append before (last ∷ []) in
+    let size = length-append cards end in
     let k : ℕ = length before + 1 in
     let j : ℕ = length all + 1 in
-    let lines : List Line = spoken_lines 1 before ++ saying k None (end_of p) ∷ [] in
-    let spoken : spoken_lines 1 all ≡ lines = spoken-more 1 k before (end_of p) (omega arith) in
+    let lines : List Line = spoken_lines 1 before ++ saying k None last ∷ [] in
+    let spoken : spoken_lines 1 all ≡ lines = spoken-more 1 k before last (omega arith) in
     let until = found_as false nothing (spoken_lines 1 before) in
     let ended = found_as true nothing lines in
-    let to = found_as true p.controls (lines ++ silent_lines j (length controls)) in
-    let one = statements-lead nothing [] 1 texts before (deck-shorts p is words) read not_end in
-    let two = end-lead nothing (spoken_lines 1 before) k (end_text p.start) (end_of p) (end_text-short p.start is.start) (start-read p.start is.start) refl in
-    let three = controls-lead nothing p.controls lines j controls (control_cards-kind p) (controls-read p.controls is.limits is.budget is.unlisted) in
-    let size = length-append cards last in
-    let spoken_cards = leads-on unread until ended 1 k cards last (omega (arith, count, cards_count)) one two in
-    let whole = leads-on unread ended to 1 j (cards ++ last) controls (omega (arith, count, cards_count, all_count, size)) spoken_cards three in
-    let same : (cards ++ last) ++ controls ≡ deck_cards p =
-    ap (λ (cs : List (List ℕ)). cs ++ controls) (sym (map-append statement_card texts end)) ∙ sym (deck-cards p) in
-    let found : to ≡ found_of p all =
-    ap (λ (ls : List Line). found_as true p.controls (ls ++ silent_lines j (length controls))) (sym spoken) in
-    subst (λ (f : Found). TextsLead unread 1 (deck_cards p) f) found (subst (λ (cs : List (List ℕ)). TextsLead unread 1 cs to) same whole)
+    let to = found_as true asked (lines ++ silent_lines j (length controls)) in
+    let one = statements-lead nothing [] 1 texts before texts_short is.read is.going in
+    let two = end-lead nothing (spoken_lines 1 before) k final last final_short is.final_read is.ends in
+    let three = controls-lead nothing asked lines j controls is.marks is.leads in
+    let spoken_cards = leads-on unread until ended 1 k cards end (omega (arith, count, cards_count)) one two in
+    let whole = leads-on unread ended to 1 j (cards ++ end) controls (omega (arith, count, cards_count, all_count, size)) spoken_cards three in
+    let found : to ≡ found_in_job all (length controls) asked =
+    ap (λ (ls : List Line). found_as true asked (ls ++ silent_lines j (length controls))) (sym spoken) in
+    subst (λ (f : Found). TextsLead unread 1 (job_cards texts final controls) f) found
+    (subst (λ (cs : List (List ℕ)). TextsLead unread 1 cs to) (sym whole_cards) whole)
 
--- the form pass finds the statements that are read, the last of them the end, and all that the program asks for
-pub record IsFormed (p : Program) : Type 0 where
-  pub statements : List Statement
-  pub read : AreRead (deck_statements p) statements
-  pub formed : form_pass (deck_text p) (cards_of (deck_text p)) ≡ Ok (found_of p statements)
-
-pub form-passes : (p : Program) → IsProgram p → AreWords p.words → card_count p ≤ 20000 → IsFormed p
+-- the form pass over it
+pub job-formed : (texts : List (List ℕ)) (final : List ℕ) (controls : List (List ℕ)) (before : List Statement) (last : Statement) (asked : Asked) →
+    IsJob texts final controls before last asked → All IsWritten (job_cards texts final controls) → All IsCard (job_cards texts final controls) →
+    length (job_cards texts final controls) ≤ 20000 →
+    form_pass (deck_of (job_cards texts final controls)) (cards_of (deck_of (job_cards texts final controls)))
+    ≡ Ok (found_in_job (before ++ last ∷ []) (length controls) asked)
 unfolding form_pass
-form-passes p is words few =
-    let job = deck_text p in
+job-formed texts final controls before last asked is written short few =
+    let lines = job_cards texts final controls in
+    let job = deck_of lines in
     let cards = cards_of job in
-    let found = deck-open p is words in
-    let all = found.statements ++ end_of p ∷ [] in
-    let passes = cards-pass job unread (found_of p all) 1 (deck_cards p) cards (deck_each p is words few)
-    (deck-leads p is words found.statements found.read found.open_ones) in record {
-      statements = all;
-      read = read-append (statements_from 0 0 p.words) (end_text p.start ∷ []) found.statements (end_of p ∷ []) found.read
-          (start-read p.start is.start, refl);
-      formed = ap (λ (r : Result Found Refusal). then_for (with_end (length cards)) r) passes;
-    }
+    let found = found_in_job (before ++ last ∷ []) (length controls) asked in
+    let passes = cards-pass job unread found 1 lines cards (lines_cut lines written short few).each
+    (job-leads texts final controls before last asked is short) in
+    ap (λ (r : Result Found Refusal). then_for (with_end (length cards)) r) passes

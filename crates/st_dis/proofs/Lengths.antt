@@ -65,7 +65,7 @@ statements-short word small =
     (All-cons IsShort r [] (says-short r (half_bits (word % 2 ^ 32)) said_r) (All-nil IsShort)))
     (All-cons IsShort (number_text word) [] (labelled (codes "DD(BU,64),") word (omega arith) small) (All-nil IsShort))
 
-all_statement_cards : (texts : List (List ℕ)) → All IsShort texts → All IsCard (map statement_card texts)
+pub all_statement_cards : (texts : List (List ℕ)) → All IsShort texts → All IsCard (map statement_card texts)
 all_statement_cards [] short = All-nil IsCard
 all_statement_cards (t ∷ ts) short =
     All-cons IsCard (statement_card t) (map statement_card ts) (statement_card-short t (All-head IsShort t ts short))

@@ -8,5 +8,5 @@ pub mod ControlsRead
 pub mod Printable
 pub mod Cutting
 pub mod Said
-pub mod DeckCards
 pub mod FormPass
+pub mod DeckCards
