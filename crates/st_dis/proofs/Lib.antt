@@ -10,3 +10,5 @@ pub mod Cutting
 pub mod Said
 pub mod FormPass
 pub mod DeckCards
+pub mod ThreePasses
+pub mod AssembledBack
