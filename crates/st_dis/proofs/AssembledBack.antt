@@ -10,6 +10,7 @@ use Rattle.st_dis.specs.Deck.{deck_text, card_count}
 use Rattle.st_dis.proofs.Said.{Line, AreRead, deck_statements, control_cards, spoken_lines, silent_lines}
 use Rattle.st_dis.proofs.FormPass.{found_in_job}
 use Rattle.st_dis.proofs.DeckCards.{form-passes}
+use Rattle.st_dis.proofs.PassesLead.{statements-give}
 use Rattle.st_dis.proofs.ThreePasses.{assembled, defaults-kept}
 
 -- what the name pass and the value pass leave of lines: the words and the start of a program
@@ -23,7 +24,14 @@ record AreLaid (p : Program) (lines : List Line) : Type 0 where
 
 laid-back : (p : Program) → IsProgram p → AreWords p.words → (ss : List Statement) → AreRead (deck_statements p) ss → (k : ℕ) →
     AreLaid p (spoken_lines 1 ss ++ silent_lines (length ss + 1) k)
-laid-back p is words ss read k = ?
+laid-back p is words ss read k = let gives = statements-give p ss k is words read in record {
+  named = gives.named;
+  laid = gives.laid;
+  names = gives.names;
+  values = gives.values;
+  image = gives.image;
+  start = gives.begins;
+}
 
 pub deck-assembled : (p : Program) → IsProgram p → AreWords p.words → card_count p ≤ 20000 →
     (a : Assembly) × (assembly (deck_text p) ≡ Ok a) × (a.image ≡ p.words) × (a.start ≡ p.start) × (a.asked ≡ p.controls)

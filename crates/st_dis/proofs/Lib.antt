@@ -10,5 +10,9 @@ pub mod Cutting
 pub mod Said
 pub mod FormPass
 pub mod DeckCards
+pub mod PlacedWords
+pub mod StatementSteps
+pub mod WordsLead
+pub mod PassesLead
 pub mod ThreePasses
 pub mod AssembledBack

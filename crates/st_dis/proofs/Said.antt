@@ -9,7 +9,7 @@ use Rattle.st_dis.specs.Deck.{location_text, end_text, order_cards, show_cards}
 use Rattle.st_dis.specs.Spelling.{statements_of}
 
 -- the type of a thing
-abbrev type_of : {X : Type 0} → X → Type 0
+abbrev pub type_of : {X : Type 0} → X → Type 0
 type_of {X} x = X
 
 -- what a card is to the passes behind the first one
