@@ -1,5 +1,5 @@
 -- The statements of a deck, one after another, lead from an empty image to the words of the program.
-use Rattle.std.proofs.Common.{◌≡◌, ℕ, suc, ◌≤◌, ◌<◌, ◌+◌, ◌-◌, ◌*◌, ◌/◌, ◌%◌, ◌^◌, ◌==◌, Bool, true, false, List, [], ◌∷◌, ◌++◌, length, replicate, get_or, Option, Some, None, Result, Ok, if◌then◌else◌, refl, ap, sym, subst, ◌∙◌, append_assoc, append-nil, length-append, arith, zero, ◌⊎◌, inl, inr, nat_lt}
+use Rattle.std.proofs.Common.{◌≡◌, ℕ, suc, ◌≤◌, ◌<◌, ◌+◌, ◌*◌, ◌/◌, ◌%◌, ◌^◌, ◌==◌, Bool, true, false, List, [], ◌∷◌, ◌++◌, length, replicate, get_or, Some, Result, Ok, if◌then◌else◌, refl, ap, sym, subst, ◌∙◌, append_assoc, length-append, arith, zero, ◌⊎◌, inl, inr, nat_lt}
 use Rattle.std.proofs.Math.Seq.{get_or-append_seam}
 use Rattle.std.proofs.lemmas.Bool.Decides.{nat_tests}
 use Rattle.std.proofs.lemmas.List.Elements.{All-append, All-cons, All-nil, All-head, All-tail, All-replicate}
@@ -19,7 +19,7 @@ use Rattle.st_dis.proofs.Spelled.{whole_bits, half_bits, statements-cases}
 use Rattle.st_dis.proofs.WordRead.{says-lays, data-lays}
 use Rattle.st_dis.proofs.PlacesRead.{location-read, start-read}
 use Rattle.st_dis.proofs.PlacedWords.{word-placed, first-placed, second-placed}
-use Rattle.st_dis.proofs.StatementSteps.{Stand, stand, Steps, IsPlace, word-place, first-place, second-place, lays-steps, set-steps, end-steps}
+use Rattle.st_dis.proofs.StatementSteps.{Stand, stand, Steps, word-place, first-place, second-place, lays-steps, set-steps, end-steps}
 
 -- whatever a text is read as leads from one stand to the other
 abbrev TextLeads : List ℕ → Stand → Stand → Type 0
