@@ -113,12 +113,12 @@ more-passed : (line : Line) (lines : List Line) (here next there : Stand) (place
 more-passed line lines here next there place row named laid rest = record {
   places = place ∷ rest.places;
   names = λ before.
-    ap (λ r. onward (λ s. pass (name_card (is_among [])) (λ l. l.card) s lines) line.card r) (named before)
-    ∙ (rest.names (before ++ place ∷ []) ∙ ap (λ k. Ok (named_at there k)) (append_assoc before (place ∷ []) rest.places));
+      ap (λ r. onward (λ s. pass (name_card (is_among [])) (λ l. l.card) s lines) line.card r) (named before)
+      ∙ (rest.names (before ++ place ∷ []) ∙ ap (λ k. Ok (named_at there k)) (append_assoc before (place ∷ []) rest.places));
   rows = row ∷ rest.rows;
   values = λ before.
-    ap (λ r. onward (λ s. pass (value_card []) (λ p. p.0.card) s (zip lines rest.places)) line.card r) (laid before)
-    ∙ (rest.values (before ++ row ∷ []) ∙ ap (λ k. Ok (laid_at there k)) (append_assoc before (row ∷ []) rest.rows));
+      ap (λ r. onward (λ s. pass (value_card []) (λ p. p.0.card) s (zip lines rest.places)) line.card r) (laid before)
+      ∙ (rest.values (before ++ row ∷ []) ∙ ap (λ k. Ok (laid_at there k)) (append_assoc before (row ∷ []) rest.rows));
 }
 
 silent-passed : (n k : ℕ) (here : Stand) → Passed (silent_lines n k) here here
@@ -171,19 +171,19 @@ passed-gives lines words start behind none passed =
       begins = refl;
     }
 
--- statements that lead from an empty image to these words and this start give them, with k cards that say nothing behind them
-pub led-give : (ss : List Statement) (k behind start : ℕ) (words : List ℕ) →
+-- statements that lead from an empty image to words and a start, and cards that say nothing behind them, give these
+pub leads-give : (ss : List Statement) (k : ℕ) (words : List ℕ) (start behind : ℕ) →
     Leads ss (stand 2048 (replicate words_of_storage 0) 0) (stand behind words start) →
     GivesProgram (spoken_lines 1 ss ++ silent_lines (length ss + 1) k) words start
-led-give ss k behind start words lead =
+leads-give ss k words start behind lead =
     let there = stand behind words start in
     let silents = silent_lines (length ss + 1) k in
     passed-gives (spoken_lines 1 ss ++ silents) words start behind
     (nameless 1 ss silents (silent-nameless (length ss + 1) k))
     (spoken-passed 1 ss silents (stand 2048 (replicate words_of_storage 0) 0) there there lead (silent-passed (length ss + 1) k there))
 
--- a deck's statements, and cards that say nothing behind them, give the program
+-- a deck's statements give the program
 pub statements-give : (p : Program) (ss : List Statement) (k : ℕ) → IsProgram p → AreWords p.words → AreRead (deck_statements p) ss →
     GivesProgram (spoken_lines 1 ss ++ silent_lines (length ss + 1) k) p.words p.start
 statements-give p ss k is words read =
-    let lead = deck-leads p ss 2048 is words read in led-give ss k lead.0 p.start p.words lead.1
+    let lead = deck-leads p ss 2048 is words read in leads-give ss k p.words p.start lead.0 lead.1

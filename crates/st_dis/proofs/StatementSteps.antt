@@ -199,7 +199,7 @@ lays-steps t s n bits a start old new read lays is image =
       faultless = faultless-elsewhere s (values_of [] s) unnamed.location (unwrap_or (place_in (role_of s) a v) 0) alone.faultless inside;
       location = on.behind;
       image = ap (λ k. image_with old k (length_in (role_of s)) (bits_of s (values_of [] s))) place
-      ∙ (ap (λ k. image_with old a k (bits_of s (values_of [] s))) long ∙ (ap (λ k. image_with old a n k) number ∙ image));
+          ∙ (ap (λ k. image_with old a k (bits_of s (values_of [] s))) long ∙ (ap (λ k. image_with old a n k) number ∙ image));
       start = ap (λ b. if b then half_word v else start) on.no_end;
     }
 
