@@ -65,7 +65,7 @@ statements-short word small =
     (All-cons IsShort r [] (says-short r (half_bits (word % 2 ^ 32)) said_r) (All-nil IsShort)))
     (All-cons IsShort (number_text word) [] (labelled (codes "DD(BU,64),") word (omega arith) small) (All-nil IsShort))
 
-all_statement_cards : (texts : List (List ℕ)) → All IsShort texts → All IsCard (map statement_card texts)
+pub all_statement_cards : (texts : List (List ℕ)) → All IsShort texts → All IsCard (map statement_card texts)
 all_statement_cards [] short = All-nil IsCard
 all_statement_cards (t ∷ ts) short =
     All-cons IsCard (statement_card t) (map statement_card ts) (statement_card-short t (All-head IsShort t ts short))
@@ -104,7 +104,7 @@ word_cards-short w before (x ∷ xs) few words =
     (placed-short w before x (omega arith) (All-head (λ y. y < 2 ^ 64) x xs words))
     (word_cards-short (w + 1) x xs (omega arith) (All-tail (λ y. y < 2 ^ 64) x xs words))
 
-end_text-short : (start : ℕ) → start < 2 ^ 19 → IsShort (end_text start)
+pub end_text-short : (start : ℕ) → start < 2 ^ 19 → IsShort (end_text start)
 end_text-short start small =
     let whole = length-append (codes "END,") (half_address start) in
     let front = length-append (decimal (start / 2)) (codes ".") in
