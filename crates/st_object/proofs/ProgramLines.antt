@@ -292,6 +292,7 @@ pub made_again : (p : Program) → IsProgram p → AreWords p.words → Makes p
 unfolding is_whole has_place with_value
 made_again p is each =
     let h : ℕ = p.start in
+    let short : IsShort (h / 2) = omega (arith, is.start) in
     let n : ℕ = p.controls.budget in
     let ds : List ℕ = p.controls.delays in
     let ss : List GivenSignal = p.controls.signals in
@@ -342,7 +343,6 @@ made_again p is each =
     let t3 = leads_on d3 d4 e (budget_lines n) _ budget t4 in
     let t2 = leads_on d2 d3 e (word_lines 0 p.words) _ words.steps t3 in
     let started : with_item d1 (Start h) ≡ Some d2 = ap (λ (b : Bool). if b then Some d2 else None) (below h (2 ^ 19) is.start) in
-    let short : IsShort (h / 2) = omega (arith, is.start) in
     let controls : asked_for n ds ss us trace time chart ts k ≡ p.controls =
     ap (λ (b : Bool). record p.controls { list = b }) (sym is.unlisted) in
     record {
