@@ -1,5 +1,5 @@
 -- The lines of a program, added one by one, make that program.
-use Rattle.std.proofs.Common.{◌≡◌, ◌≤◌, ◌<◌, ◌+◌, ◌-◌, ◌/◌, ◌^◌, ◌==◌, ◌&&◌, ℕ, Bool, true, false, not, nat_le, nat_lt, List, [], ◌∷◌, ◌++◌, length, get_or, map, replicate, Option, Some, None, if◌then◌else◌, refl, ap, sym, subst, ◌∙◌, append_assoc, append-nil, length-append, arith}
+use Rattle.std.proofs.Common.{◌≡◌, ◌≤◌, ◌<◌, ◌+◌, ◌-◌, ◌/◌, ◌^◌, ◌==◌, ◌&&◌, ℕ, Bool, true, false, not, nat_lt, List, [], ◌∷◌, ◌++◌, length, get_or, map, replicate, Option, Some, None, if◌then◌else◌, refl, ap, sym, subst, ◌∙◌, append_assoc, append-nil, length-append, arith}
 use Rattle.std.proofs.lemmas.Bool.{and_from as both_true, le-leb as at_most, lt-ltb as below, ltb-false as is_not_below, ltb-true as is_below, not-true as not_false}
 use Rattle.std.specs.List.{All}
 use Rattle.std.specs.Option.{option_map}
@@ -17,8 +17,7 @@ use Rattle.st_object.specs.Draft.{Draft, blank, is_empty, is_whole, has_place, m
 use Rattle.st_object.specs.Meaning.{IsShort, IsItem}
 use Rattle.st_object.specs.Object.{Program, IsProgram, AreWords, object_lines, filled_up, program_of}
 use Rattle.st_object.specs.declared.items.Item.{Item}
-use Rattle.st_object.specs.declared.items.Item.TheVariants.{Object, Start, Word, Budget, Delay, Signal, Dump, Trace, Time, Chart, Snap, Back, Fin}
-use Rattle.st_object.specs.declared.items.Kind.TheVariants as kinds
+use Rattle.st_object.specs.declared.items.Item.TheVariants.{Start, Word, Budget, Delay, Signal, Dump, Trace, Time, Chart, Snap, Back, Fin}
 use Rattle.st_object.proofs.WrittenLines.{whole_lines}
 
 -- a line that can be read and may follow
