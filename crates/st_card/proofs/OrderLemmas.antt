@@ -1,5 +1,5 @@
 -- What is within its limits can be asked for, one after another.
-use Rattle.std.proofs.Common.{◌≡◌, ◌≤◌, ◌<◌, ◌+◌, ◌-◌, ◌==◌, ◌&&◌, ℕ, Bool, true, false, nat_le, nat_lt, List, [], ◌∷◌, ◌++◌, length, get_or, Option, Some, None, if◌then◌else◌, refl, ap, sym, ◌∙◌, length-append, arith}
+use Rattle.std.proofs.Common.{◌≡◌, ◌≤◌, ◌<◌, ◌+◌, ◌-◌, ◌==◌, ℕ, Bool, true, false, nat_le, nat_lt, List, [], ◌∷◌, ◌++◌, length, get_or, Option, Some, None, if◌then◌else◌, refl, ap, sym, ◌∙◌, length-append, arith}
 use Rattle.std.specs.List.{AllPass}
 use Rattle.std.specs.List.Sorted.{IsNonDecreasingBy, IsStrictlyIncreasing}
 use Rattle.std.specs.Option.{option_map_or}
@@ -103,7 +103,8 @@ IsShort n = n ≤ 999999999999
 
 pub delay-short : (done rest : List ℕ) (d : ℕ) → AreDelays (done ++ d ∷ rest) → IsShort d
 delay-short done rest d are =
-    let few : d ≤ 255 = is_at_most d 255 (holds_both _ _ (one_passes (is_among 1 255) done rest d are.each)).1 in omega (arith, few)
+    let range = holds_both (nat_le 1 d) (nat_le d 255) (one_passes (is_among 1 255) done rest d are.each) in
+    let few : d ≤ 255 = is_at_most d 255 range.1 in omega (arith, few)
 
 pub signal-short : (done rest : List Signal) (s : Signal) → AreSignals (done ++ s ∷ rest) → IsShort s.count × IsShort s.indicator
 signal-short done rest s are =

@@ -1,5 +1,5 @@
 -- What holds of a draft holds of it with a further line.
-use Rattle.std.proofs.Common.{◌≡◌, ◌≤◌, ◌<◌, ◌-◌, ◌^◌, ◌==◌, ◌&&◌, ℕ, Bool, true, false, not, nat_le, nat_lt, List, [], ◌∷◌, ◌++◌, length, get_or, replicate, Option, Some, None, if◌then◌else◌, refl, ap, sym, subst, ◌∙◌, length-append, arith, lit<}
+use Rattle.std.proofs.Common.{◌≡◌, ◌≤◌, ◌<◌, ◌-◌, ◌^◌, ◌==◌, ◌&&◌, ℕ, Bool, true, false, not, nat_le, nat_lt, List, [], ◌∷◌, ◌++◌, length, get_or, replicate, Some, None, if◌then◌else◌, refl, ap, sym, subst, ◌∙◌, length-append, arith, lit<}
 use Rattle.std.proofs.lemmas.Bool.{and_parts as holds_both, leb-true as at_most, ltb-false as not_below, ltb-true as below}
 use Rattle.std.specs.List.{All, AllPass}
 use Rattle.std.proofs.lemmas.List.{length-replicate, get_or_append_left, get_or-append_right, get_or-replicate}

@@ -8,8 +8,8 @@ use Rattle.std.specs.List.{flat_map}
 use Rattle.std.specs.Option.{option_map}
 use Rattle.st_card.specs.Controls.{Asked, is_among}
 use Rattle.st_card.specs.declared.control_cards.Signal.{Signal as GivenSignal}
-use Rattle.st_object.specs.Lines.{marked, word_lines, budget_lines, back_lines}
-use Rattle.st_object.specs.Order.{order, row, before, behind, kind_of, is_met, are_met, none_stands}
+use Rattle.st_object.specs.Lines.{marked, word_lines}
+use Rattle.st_object.specs.Order.{order, row, before, behind, kind_of, are_met, none_stands}
 use Rattle.st_object.specs.Draft.{Draft, is_empty, start_lines, kind_lines, lines_of, stands, has_place, may_hold, with_start, with_word, with_value, with_item}
 use Rattle.st_object.specs.declared.items.Item.{Item}
 use Rattle.st_object.specs.declared.items.Item.TheVariants.{Object, Start, Word, Budget, Delay, Signal, Dump, Trace, Time, Chart, Snap, Back, Fin}

@@ -1,5 +1,5 @@
 -- The lines of a program, added one by one, make that program.
-use Rattle.std.proofs.Common.{◌≡◌, ◌≤◌, ◌<◌, ◌+◌, ◌-◌, ◌/◌, ◌^◌, ◌==◌, ◌&&◌, ℕ, Bool, true, false, not, nat_le, nat_lt, List, [], ◌∷◌, ◌++◌, length, get_or, map, replicate, Option, Some, None, if◌then◌else◌, refl, ap, sym, subst, ◌∙◌, append_assoc, append-nil, length-append, arith}
+use Rattle.std.proofs.Common.{◌≡◌, ◌≤◌, ◌<◌, ◌+◌, ◌-◌, ◌/◌, ◌^◌, ◌==◌, ◌&&◌, ℕ, Bool, true, false, not, nat_lt, List, [], ◌∷◌, ◌++◌, length, get_or, map, replicate, Option, Some, None, if◌then◌else◌, refl, ap, sym, subst, ◌∙◌, append_assoc, append-nil, length-append, arith}
 use Rattle.std.proofs.lemmas.Bool.{and_from as both_true, le-leb as at_most, lt-ltb as below, ltb-false as is_not_below, ltb-true as is_below, not-true as not_false}
 use Rattle.std.specs.List.{All}
 use Rattle.std.specs.Option.{option_map}
@@ -17,8 +17,7 @@ use Rattle.st_object.specs.Draft.{Draft, blank, is_empty, is_whole, has_place, m
 use Rattle.st_object.specs.Meaning.{IsShort, IsItem}
 use Rattle.st_object.specs.Object.{Program, IsProgram, AreWords, object_lines, filled_up, program_of}
 use Rattle.st_object.specs.declared.items.Item.{Item}
-use Rattle.st_object.specs.declared.items.Item.TheVariants.{Object, Start, Word, Budget, Delay, Signal, Dump, Trace, Time, Chart, Snap, Back, Fin}
-use Rattle.st_object.specs.declared.items.Kind.TheVariants as kinds
+use Rattle.st_object.specs.declared.items.Item.TheVariants.{Start, Word, Budget, Delay, Signal, Dump, Trace, Time, Chart, Snap, Back, Fin}
 use Rattle.st_object.proofs.WrittenLines.{whole_lines}
 
 -- a line that can be read and may follow
@@ -292,6 +291,7 @@ pub made_again : (p : Program) → IsProgram p → AreWords p.words → Makes p
 unfolding is_whole has_place with_value
 made_again p is each =
     let h : ℕ = p.start in
+    let short : IsShort (h / 2) = omega (arith, is.start) in
     let n : ℕ = p.controls.budget in
     let ds : List ℕ = p.controls.delays in
     let ss : List GivenSignal = p.controls.signals in
@@ -342,7 +342,6 @@ made_again p is each =
     let t3 = leads_on d3 d4 e (budget_lines n) _ budget t4 in
     let t2 = leads_on d2 d3 e (word_lines 0 p.words) _ words.steps t3 in
     let started : with_item d1 (Start h) ≡ Some d2 = ap (λ (b : Bool). if b then Some d2 else None) (below h (2 ^ 19) is.start) in
-    let short : IsShort (h / 2) = omega (arith, is.start) in
     let controls : asked_for n ds ss us trace time chart ts k ≡ p.controls =
     ap (λ (b : Bool). record p.controls { list = b }) (sym is.unlisted) in
     record {
