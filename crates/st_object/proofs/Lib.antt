@@ -6,6 +6,7 @@ pub mod FurtherLines
 pub mod DraftLemmas
 pub mod WrittenLines
 pub mod LineByLine
+pub mod LineCounts
 pub mod WholeDrafts
 pub mod AcceptedTexts
 pub mod ProgramLines

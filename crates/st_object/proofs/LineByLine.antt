@@ -1,5 +1,5 @@
 -- A text line by line.
-use Rattle.std.proofs.Common.{◌≡◌, ◌≤◌, ◌+◌, ℕ, List, [], ◌∷◌, Option, Some, None, Result, Err, length, ap, sym, ◌∙◌, arith}
+use Rattle.std.proofs.Common.{◌≡◌, ◌+◌, ℕ, List, ◌∷◌, Option, Some, None, Result, Err, ap, sym, ◌∙◌}
 use Rattle.std.specs.Option.{option_map_or}
 use Rattle.st_card.specs.Pieces.{parted}
 use Rattle.st_card.proofs.PieceLemmas.{first_piece}
@@ -40,8 +40,3 @@ pub line_kept : (d e : Draft) (line : List ℕ) → with_line d line ≡ Some e 
 line_kept d e line good draft =
     let parts = chained (λ i. with_item d i) (item_in line) e good in
     kept d e parts.0 parts.1.1 (told line parts.0 parts.1.0).1 draft
-
--- a good line is not empty
-pub line_filled : (d e : Draft) (line : List ℕ) → with_line d line ≡ Some e → 1 ≤ length line
-line_filled d e [] good = cc
-line_filled d e (c ∷ cs) good = omega arith

@@ -1,6 +1,6 @@
 //! Reading an object text.
 
-ghost use Rattle.std.specs.Prelude.{◌≡◌, ◌+◌, ◌<◌, ◌^◌, length, IfOk, IfErr, Ok};
+ghost use Rattle.std.specs.Prelude.{◌≡◌, ◌+◌, ◌<◌, ◌^◌, IfOk, IfErr, Ok};
 ghost use Rattle.st_card.specs.declared.faults.Fault.TheVariants.{BadObjectCard};
 ghost use Rattle.st_object.specs.Draft.{IsDraft};
 ghost use Rattle.st_object.specs.Object as spec;
@@ -103,7 +103,6 @@ fn end_of(mut draft: Draft, card: u32, rest: &[u8]) -> Result<Image, ObjectError
 // The program that a text holds.
 #[tactic(auto, unfolding(crate::specs::Object::read_text))]
 fn read(alloc: Global, text: &[u8]) -> Result<Image, ObjectError>
-    requires { length text.now < 2 ^ 32 }
     ensures { Gives (spec.read_text text.now) result }
 {
     let mut draft = Draft::new(alloc);
@@ -127,7 +126,6 @@ fn read(alloc: Global, text: &[u8]) -> Result<Image, ObjectError>
 /// far begin no object text, or where the text ends too early the line behind its last. The other
 /// error is that memory ran out. `docs/object-text.md` has the format.
 pub fn read_object(alloc: Global, text: &[u8]) -> Result<Image, ObjectError>
-    requires { length text.now < 2 ^ 32 }
     ensures ok { IfOk result (λ image. spec.read_text text.now ≡ Ok image) }
     ensures err { IfErr result (Explains (spec.read_text text.now)) }
 
