@@ -96,6 +96,9 @@ impl Next {
         ensures rests { (now : ℕ) (t : Option ℕ) (u : Machine) → now ≤ wanted_from front.now →
             Rests now t u front.now self.new }
         ensures reads { (ds : List ℕ) → reads_so_far ds front.now self.new ≡ [] }
+        ensures own { self.new.own ≡ record { first = 0; len = 0 } }
+        ensures target { self.new.target ≡ record { first = 0; len = 0 } }
+        ensures words { self.new.words ≡ record { bus = front.now.bus; answered = 0; awaited = 0 } }
         ensures unplanned { self.new.planned ≡ false }
         ensures none { known_count self.new ≡ 0 }
     {
