@@ -96,6 +96,9 @@ impl Next {
         ensures rests { (now : ℕ) (t : Option ℕ) (u : Machine) → now ≤ wanted_from front.now →
             Rests now t u front.now self.new }
         ensures reads { (ds : List ℕ) → reads_so_far ds front.now self.new ≡ [] }
+        ensures own { self.new.own ≡ record { first = 0; len = 0 } }
+        ensures target { self.new.target ≡ record { first = 0; len = 0 } }
+        ensures words { self.new.words ≡ record { bus = front.now.bus; answered = 0; awaited = 0 } }
         ensures unplanned { self.new.planned ≡ false }
         ensures none { known_count self.new ≡ 0 }
     {
@@ -183,6 +186,7 @@ impl Next {
     }
 
     /// Asks for an instruction word that is wanted from `from` on, unless it is held.
+    #[inline(always)]
     fn ask(&mut self, w: u32, from: u64, front: &Front, delays: &Delays, port: &mut Port)
         requires room { IsEarly front.now self.old.words }
         requires early { from ≤ 2 ^ 64 - 512 }
@@ -220,6 +224,7 @@ impl Next {
     }
 
     /// Asks for a word of the target of EX, which waits for the entry before.
+    #[inline(never)]
     fn ask_target(&mut self, w: u32, front: &Front, delays: &Delays, port: &mut Port)
         requires words { self.old.target.len ≤ 16 }
         requires room { IsEarly front.now self.old.words }
@@ -266,6 +271,7 @@ impl Next {
     }
 
     /// Prepares it for good, at its tick, where it is planned; the index word that it changes is changed in `x`.
+    #[inline(always)]
     pub fn prepare(&self, x: &mut [u64; 16], state: &State) -> Prepared
         requires planned { self.now.planned ≡ true }
         requires ready { IsReady x.old state.now self.now }
@@ -276,11 +282,26 @@ impl Next {
         ensures words { x.new ≡ words_after x.old result.index }
         ensures ranges { IsPrepared result }
     {
-        let mut prepared = self.prepared;
         if self.needs.index_read.is_none() {
-            change_index(prepared.index, x);
-            return prepared;
+            change_index(self.prepared.index, x);
+            return self.prepared;
         }
+        self.prepare_with_side(x, state)
+    }
+
+    /// The same, by what stands in its index-side word now.
+    #[inline(never)]
+    fn prepare_with_side(&self, x: &mut [u64; 16], state: &State) -> Prepared
+        requires planned { self.now.planned ≡ true }
+        requires ready { IsReady x.old state.now self.now }
+        ensures value { (ds : List ℕ) (n now : ℕ) (f : FrontAt) (t : Option ℕ) (u : Machine) →
+            IfSome t (λ i. i < 64) → IsBefore now f.past x.old state.now u →
+            IsNext ds n t u f self.now → now ≡ self.now.formed.p →
+            ((entry_at t u).serial ≡ true → u ≡ state.now) → result ≡ plan_of u t }
+        ensures words { x.new ≡ words_after x.old result.index }
+        ensures ranges { IsPrepared result }
+    {
+        let mut prepared = self.prepared;
         let read = side_word(state, self.place.table, self.needs.index_read);
         prepared.place = self.place;
         prepare_in(&mut prepared, &self.fetched, x, read, state);

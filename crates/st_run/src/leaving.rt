@@ -11,8 +11,8 @@ ghost use Rattle.st_ahead.specs.Calls.{ended, MayServe, MaySignal};
 ghost use Rattle.st_run.specs.Events.{address_of};
 ghost use Rattle.st_run.specs.Moments.{has_card, has_waited};
 ghost use Rattle.st_run.specs.Together.{IsBehind, moment_of, signals_of, scene_of, with_scene};
-ghost use Rattle.st_run.specs.Leaving.{IsDecided};
-ghost use Rattle.st_run.specs.Between.{Came, IsChoice, choice_of, first_text as first_text_of};
+ghost use Rattle.st_run.specs.Leaving.{IsDecided, nothing_decided};
+ghost use Rattle.st_run.specs.Between.{Came, IsChoice, IsQuiet, choice_of, signal_due, first_text as first_text_of};
 
 use crate::driven::{Driven, take_due_signals};
 use crate::turn::Turn;
@@ -337,24 +337,48 @@ pub(crate) fn leave<const N: usize>(driven: &mut Driven<N>, left: u64) -> Decide
 
 // ---- nothing of it
 
-/// Whether a signal is due.
-fn signal_is_due<const N: usize>(driven: &Driven<N>) -> bool
+/// Whether the first of the signals comes where so many instructions are done.
+fn signal_is_due(state: &State, signals: &[Signal]) -> bool
+    ensures { result ≡ signal_due state.now.done (signals_of signals.now) }
 {
-    match driven.signals {
-        [first, ..] => first.count <= driven.machine.state().done,
+    match signals {
+        [first, ..] => first.count <= state.done,
         [] => false,
     }
 }
 
-/// Goes on at once where nothing comes between two entries, and no segment ends. The result says whether it did; else nothing changes.
-pub(crate) fn pass_on<const N: usize>(driven: &mut Driven<N>, left: u64) -> bool
-    requires { IsBehind driven.old }
+/// Whether no order is due, the machine does not wait, and the next decision ends no segment.
+fn is_quiet<const N: usize>(machine: &Machine<N>) -> bool
+    ensures { result ≡ true → IsQuiet machine.entry.now }
 {
-    if left == 0 || signal_is_due(driven) || driven.machine.ends() {
+    if machine.ends() {
         return false;
     }
-    let state = driven.machine.state();
-    if reader_is_due(state) || printer_is_due(state) || is_at_rest(state) {
+    if reader_is_due(machine.state()) {
+        return false;
+    }
+    if printer_is_due(machine.state()) {
+        return false;
+    }
+    !is_at_rest(machine.state())
+}
+
+/// The run goes on at once where nothing comes between two entries and the segment does not end. The result says whether it did; else
+/// nothing changes. So many entries may still be done.
+pub(crate) fn pass_on<const N: usize>(driven: &mut Driven<N>, left: u64) -> bool
+    requires { IsBehind driven.old }
+    ensures decided { result ≡ true → IsDecided left (moment_of driven.old) nothing_decided driven.new }
+    ensures delays { driven.new.machine.delays ≡ driven.old.machine.delays }
+    ensures levels { driven.new.machine.levels ≡ driven.old.machine.levels }
+    ensures stays { result ≡ false → driven.new ≡ driven.old }
+{
+    if left == 0 {
+        return false;
+    }
+    if signal_is_due(driven.machine.state(), driven.signals) {
+        return false;
+    }
+    if !is_quiet(&driven.machine) {
         return false;
     }
     driven.machine.settle();
