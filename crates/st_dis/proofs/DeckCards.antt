@@ -42,7 +42,8 @@ placed-texts w before word =
     let texts = statements_of word in
     let card = statement_card (location_text w) in
     let location : (b : Bool) → (if b then card ∷ [] else []) ++ map statement_card texts
-    ≡ map statement_card ((if b then location_text w ∷ [] else []) ++ texts) = λ b. elim b as (λ b. (if b then card ∷ [] else []) ++ map statement_card texts
+    ≡ map statement_card ((if b then location_text w ∷ [] else []) ++ texts) = λ b.
+    elim b as (λ b. (if b then card ∷ [] else []) ++ map statement_card texts
     ≡ map statement_card ((if b then location_text w ∷ [] else []) ++ texts)) [
       | true ↦ refl
       | false ↦ refl
@@ -99,7 +100,8 @@ both_texts ts us first second = record {
 
 -- what lays bits is not the end
 lays_by : (known faultless : Bool) (length bits : ℕ) (wanted : LaidBits) →
-    (if known then (if faultless then Some (record { length = length; bits = bits }) else None) else None) ≡ Some wanted → length ≡ wanted.length
+    (if known then (if faultless then Some (record { length = length; bits = bits }) else None) else None) ≡ Some wanted →
+    length ≡ wanted.length
 lays_by true true length bits wanted lays = cc
 lays_by true false length bits wanted lays = let no : ⊥ = cc in absurd no
 lays_by false faultless length bits wanted lays = let no : ⊥ = cc in absurd no

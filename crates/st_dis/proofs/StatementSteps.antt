@@ -52,7 +52,8 @@ record LaysAlone (s : Statement) (wanted : LaidBits) : Type 0 where
   faultless : value_fault s (values_of [] s) unnamed.location ≡ None
   laid : record { length = length_in (role_of s); bits = bits_of s (values_of [] s) } ≡ wanted
 
-both_hold : (b c : Bool) (x y : LaidBits) → (if b then (if c then Some x else None) else None) ≡ Some y → (b ≡ true) × (c ≡ true) × (x ≡ y)
+both_hold : (b c : Bool) (x y : LaidBits) → (if b then (if c then Some x else None) else None) ≡ Some y →
+    (b ≡ true) × (c ≡ true) × (x ≡ y)
 both_hold true true x y same = (refl, refl, cc)
 both_hold true false x y same = let no : ⊥ = cc in absurd no
 both_hold false c x y same = let no : ⊥ = cc in absurd no
@@ -61,7 +62,8 @@ is-none : (o : Option Fault) → is_none o ≡ true → o ≡ None
 is-none None h = refl
 is-none (Some f) h = let no : ⊥ = cc in absurd no
 
-lays-alone : (t : List ℕ) (s : Statement) (wanted : LaidBits) → statement_of [] t ≡ Ok s → laid_alone [] t ≡ Some wanted → LaysAlone s wanted
+lays-alone : (t : List ℕ) (s : Statement) (wanted : LaidBits) → statement_of [] t ≡ Ok s → laid_alone [] t ≡ Some wanted →
+    LaysAlone s wanted
 unfolding laid_alone laid_by
 lays-alone t s wanted read lays =
     let here : laid_by [] s ≡ Some wanted = sym (ap (λ r. laid_if_read [] r) read) ∙ lays in

@@ -159,7 +159,8 @@ words-lead ws done (x ∷ xs) w before location start parts size whole words res
     let after = All-tail IsWord x xs rest in
     let zeros : AreWords zs = All-replicate IsWord (length xs) 0 (omega arith) in
     let now = done ++ x ∷ [] in
-    let here : get_or ws w 0 ≡ x = ap (λ k. get_or k w 0) parts ∙ (ap (λ k. get_or (done ++ x ∷ xs) k 0) (sym size) ∙ get_or-append_seam done x xs 0) in
+    let here : get_or ws w 0 ≡ x = ap (λ k. get_or k w 0) parts
+    ∙ (ap (λ k. get_or (done ++ x ∷ xs) k 0) (sym size) ∙ get_or-append_seam done x xs 0) in
     let above : (x ≡ 0 → ⊥) → 32 ≤ w = λ some. elim (is-below w) as (λ h. 32 ≤ w) [
       | inl low ↦ absurd (some (sym here ∙ registers w low))
       | inr high ↦ high
