@@ -5,7 +5,9 @@ ghost use Rattle.st_card.specs.Cards.{first_fault};
 ghost use Rattle.st_strap.specs.Describing.{plain_form};
 ghost use Rattle.st_strap.specs.Faults.{fault_in, faults_on};
 ghost use Rattle.st_strap.specs.Saying.{statement_of};
-ghost use Rattle.st_strap.specs.declared.statement.Statement.TheVariants.{Data, SetLocation, End};
+ghost use Rattle.st_strap.specs.declared.statement.Statement.TheVariants.{Half, Data, SetLocation, End};
+ghost use Rattle.st_strap.specs.Spots.{number_spot};
+ghost use Rattle.st_bits.specs.declared.operations.HalfOp.TheVariants.{Lvi, VPlusI};
 ghost use Rattle.st_strap.specs.Reading.{number_expr};
 
 /// A statement card has a fault exactly where it has one of the list, each told by itself, and it is refused for the
@@ -29,4 +31,14 @@ pub fn places_are_read()
     ensures end { (w b : ℕ) → w ≤ 262143 → b ≤ 63 →
         statement_of [] (codes "END," ++ decimal w ++ codes "." ++ decimal b)
         ≡ Ok (End (number_expr (64 * w + b))) }
+{}
+
+/// An operation on index word j and bit 0 of word w is read as that operation.
+pub fn index_operations_are_read()
+    ensures load { (j w : ℕ) → 1 ≤ j → j ≤ 7 → w ≤ 262143 →
+        statement_of [] (codes "LVI,$X" ++ decimal j ++ codes "," ++ decimal w ++ codes ".0")
+        ≡ Ok (Half Lvi j (number_spot (64 * w) 0)) }
+    ensures add { (j w : ℕ) → 1 ≤ j → j ≤ 7 → w ≤ 262143 →
+        statement_of [] (codes "V+I,$X" ++ decimal j ++ codes "," ++ decimal w ++ codes ".0")
+        ≡ Ok (Half VPlusI j (number_spot (64 * w) 0)) }
 {}
