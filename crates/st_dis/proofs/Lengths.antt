@@ -104,7 +104,7 @@ word_cards-short w before (x ∷ xs) few words =
     (placed-short w before x (omega arith) (All-head (λ y. y < 2 ^ 64) x xs words))
     (word_cards-short (w + 1) x xs (omega arith) (All-tail (λ y. y < 2 ^ 64) x xs words))
 
-end_text-short : (start : ℕ) → start < 2 ^ 19 → IsShort (end_text start)
+pub end_text-short : (start : ℕ) → start < 2 ^ 19 → IsShort (end_text start)
 end_text-short start small =
     let whole = length-append (codes "END,") (half_address start) in
     let front = length-append (decimal (start / 2)) (codes ".") in
