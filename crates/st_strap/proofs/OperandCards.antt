@@ -12,6 +12,7 @@ use Rattle.std.specs.Option.{option_map, option_map_or, option_and_then}
 use Rattle.std.specs.Prelude.{slice_get}
 use Rattle.st_bits.specs.declared.operations.HalfOp.{HalfOp}
 use Rattle.st_bits.specs.declared.operations.HalfOp.TheVariants.{Lvi, VPlusI}
+use Rattle.st_bits.specs.declared.operations.BranchOp.TheVariants.{Bew}
 use Rattle.st_bits.specs.declared.operations.VflOp.{VflOp}
 use Rattle.st_bits.specs.declared.operations.VflOp.TheVariants.{L, Add, St, MAdd1, Mul}
 use Rattle.st_bits.specs.declared.operations.ConnKind.TheVariants.{C}
@@ -27,14 +28,14 @@ use Rattle.st_strap.specs.Describing.{modes, plain_form, default_form, some_numb
 use Rattle.st_strap.specs.Forming.{forms, unclosed, is_form, description_in, behind_description, form_number, may_have_form, progressed}
 use Rattle.st_strap.specs.Reading.{front, index_part, index_fields, index_parts, index_field, index_of, spot, unindexed, number_in, number_of, plain_number, number_expr, index_start}
 use Rattle.st_strap.specs.Spots.{number_spot, operands_text, AreOperands, progressive_form}
-use Rattle.st_strap.specs.Saying.{index_and_spot, operand, with_fields, is_misnamed, formed, said, clean_statement_of, statement_of}
+use Rattle.st_strap.specs.Saying.{index_and_spot, operand, without_fields, with_fields, is_misnamed, formed, said, clean_statement_of, statement_of}
 use Rattle.st_strap.specs.declared.statement.Form.{Form}
 use Rattle.st_strap.specs.declared.statement.Spot.{Spot}
-use Rattle.st_strap.specs.declared.statement.Statement.TheVariants.{Half, Vfl, Connect}
+use Rattle.st_strap.specs.declared.statement.Statement.TheVariants.{Half, Branch, Vfl, Connect}
 use Rattle.st_strap.specs.declared.descriptions.Description.{Description}
 use Rattle.st_strap.specs.declared.descriptions.Description.TheVariants.{InForm}
 use Rattle.st_strap.specs.declared.operations.Operation.{Operation}
-use Rattle.st_strap.specs.declared.operations.Operation.TheVariants.{Half as HalfOperation, Vfl as VflOperation, Connect as ConnectOperation}
+use Rattle.st_strap.specs.declared.operations.Operation.TheVariants.{Half as HalfOperation, Bare as BareOperation, Vfl as VflOperation, Connect as ConnectOperation}
 use Rattle.st_strap.proofs.Digits.{IsOther, decimal-digits, reading-decimal, digits-lack, unequal, low_other, high_other, lacks-parted, clean-is}
 use Rattle.st_strap.proofs.NumberCards.{no_index_part, is_end-comma}
 use Rattle.st_strap.proofs.PlaceCards.{place_text, place-lacks, place-expr, parted-once, plain-said}
@@ -660,3 +661,21 @@ multiply-read n j some_n few_n some few =
     ∙ (ap (λ (t : List ℕ). clean_statement_of [] t) plain
     ∙ (multiply-clean (drop 1 behind)
     ∙ (unsigned-formed (VflOperation Mul false) n (progressive_text j) (field-may Mul n) some_n few_n ∙ progressive-formed n j some few)))
+
+-- ---- a branch without an address
+
+wait-operation : operation_of (codes "BEW") ≡ Some (BareOperation Bew)
+unfolding operation_of other_operations
+wait-operation = refl
+
+wait-said : said (BareOperation Bew) [] ≡ Ok (Branch Bew None)
+unfolding said description_in behind_description group_length unclosed forms description_of described formed progressed form_number may_have_form fields_of with_fields without_fields
+wait-said = refl
+
+wait-clean : clean_statement_of [] (codes "BEW") ≡ said (BareOperation Bew) []
+unfolding clean_statement_of is_misnamed
+wait-clean = ap (λ op. if is_misnamed [] op then Err BadName else judged UnknownOperation op (λ found. said found [])) wait-operation
+
+pub wait-read : statement_of [] (codes "BEW") ≡ Ok (Branch Bew None)
+unfolding clean
+wait-read = wait-clean ∙ wait-said

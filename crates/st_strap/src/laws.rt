@@ -1,12 +1,13 @@
 //! What holds of statement cards, whatever they say.
 
-ghost use Rattle.std.specs.Prelude.{◌≡◌, ◌≤◌, ◌<◌, ◌+◌, ◌*◌, ◌^◌, ◌++◌, ℕ, List, [], false, true, codes, decimal, Ok};
+ghost use Rattle.std.specs.Prelude.{◌≡◌, ◌≤◌, ◌<◌, ◌+◌, ◌*◌, ◌^◌, ◌++◌, ℕ, List, [], false, true, codes, decimal, None, Ok};
 ghost use Rattle.st_card.specs.Cards.{first_fault};
 ghost use Rattle.st_strap.specs.Describing.{plain_form};
 ghost use Rattle.st_strap.specs.Faults.{fault_in, faults_on};
 ghost use Rattle.st_strap.specs.Saying.{statement_of};
-ghost use Rattle.st_strap.specs.declared.statement.Statement.TheVariants.{Half, Vfl, Connect, Data, SetLocation, End};
+ghost use Rattle.st_strap.specs.declared.statement.Statement.TheVariants.{Half, Branch, Vfl, Connect, Data, SetLocation, End};
 ghost use Rattle.st_strap.specs.Spots.{number_spot, operands_text, AreOperands, progressive_form};
+ghost use Rattle.st_bits.specs.declared.operations.BranchOp.TheVariants.{Bew};
 ghost use Rattle.st_bits.specs.declared.operations.VflOp.TheVariants.{L, Add, St, MAdd1, Mul};
 ghost use Rattle.st_bits.specs.declared.operations.ConnKind.TheVariants.{C};
 ghost use Rattle.st_bits.specs.declared.operations.HalfOp.TheVariants.{Lvi, VPlusI};
@@ -65,4 +66,9 @@ pub fn field_operations_are_read()
     ensures multiply { (n j : ℕ) → 1 ≤ n → n ≤ 64 → 1 ≤ j → j ≤ 7 →
         statement_of [] (codes "*(BU," ++ decimal n ++ codes ")(V+I),0.32($X" ++ decimal j ++ codes ")")
         ≡ Ok (Vfl Mul false (progressive_form n) (number_spot 32 j) 0) }
+{}
+
+/// The branch that waits is read as that branch.
+pub fn waits_are_read()
+    ensures { statement_of [] (codes "BEW") ≡ Ok (Branch Bew None) }
 {}
