@@ -174,13 +174,19 @@ passed-gives lines words start behind none passed =
       begins = refl;
     }
 
--- a deck's statements, and cards that say nothing behind them, give the program
+-- statements that lead from an empty image to words and a start, and cards that say nothing behind them, give these
+pub leads-give : (ss : List Statement) (k : ℕ) (words : List ℕ) (start behind : ℕ) →
+    Leads ss (stand 2048 (replicate words_of_storage 0) 0) (stand behind words start) →
+    GivesProgram (spoken_lines 1 ss ++ silent_lines (length ss + 1) k) words start
+leads-give ss k words start behind lead =
+    let there = stand behind words start in
+    let silents = silent_lines (length ss + 1) k in
+    passed-gives (spoken_lines 1 ss ++ silents) words start behind
+    (nameless 1 ss silents (silent-nameless (length ss + 1) k))
+    (spoken-passed 1 ss silents (stand 2048 (replicate words_of_storage 0) 0) there there lead (silent-passed (length ss + 1) k there))
+
+-- a deck's statements give the program
 pub statements-give : (p : Program) (ss : List Statement) (k : ℕ) → IsProgram p → AreWords p.words → AreRead (deck_statements p) ss →
     GivesProgram (spoken_lines 1 ss ++ silent_lines (length ss + 1) k) p.words p.start
 statements-give p ss k is words read =
-    let lead = deck-leads p ss 2048 is words read in
-    let there = stand lead.0 p.words p.start in
-    let silents = silent_lines (length ss + 1) k in
-    passed-gives (spoken_lines 1 ss ++ silents) p.words p.start lead.0
-    (nameless 1 ss silents (silent-nameless (length ss + 1) k))
-    (spoken-passed 1 ss silents (stand 2048 (replicate words_of_storage 0) 0) there there lead.1 (silent-passed (length ss + 1) k there))
+    let lead = deck-leads p ss 2048 is words read in leads-give ss k p.words p.start lead.0 lead.1
