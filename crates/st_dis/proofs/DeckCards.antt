@@ -197,7 +197,7 @@ module _ {X : Type 0} where
   mapped_ones f each [] = All-nil IsControl
   mapped_ones f each (x ∷ xs) = All-cons IsControl (f x) (map f xs) (each x) (mapped_ones f each xs)
 
-order_cards-kind : (a : Asked) → All IsControl (order_cards a)
+pub order_cards-kind : (a : Asked) → All IsControl (order_cards a)
 order_cards-kind a =
     let c1 : List (List ℕ) = (codes "/BUDGET " ++ decimal a.budget) ∷ [] in
     let c2 : List (List ℕ) = map (λ d. codes "/DELAYS " ++ decimal d) a.delays in
@@ -218,7 +218,7 @@ back_cards-kind k =
       | false ↦ only card refl
     ]
 
-show_cards-kind : (a : Asked) → All IsControl (show_cards a)
+pub show_cards-kind : (a : Asked) → All IsControl (show_cards a)
 show_cards-kind a =
     let c5 = marked a.trace (codes "/TRACE") in
     let c6 = marked a.time (codes "/TIME") in

@@ -153,7 +153,7 @@ paired_card : (word : List ℕ) (a b : ℕ) → length word ≤ 20 → a < 2 ^ 6
     IsCard (word ++ decimal a ++ codes " " ++ decimal b)
 paired_card word a b few small_a small_b = let short = paired word a b few small_a small_b in omega (arith, short)
 
-order_cards-short : (a : Asked) → IsWithinLimits a → All IsCard (order_cards a)
+pub order_cards-short : (a : Asked) → IsWithinLimits a → All IsCard (order_cards a)
 order_cards-short a limits =
     let delays : All IsCard (map (λ d. codes "/DELAYS " ++ decimal d) a.delays) =
     mapped_short (λ d. codes "/DELAYS " ++ decimal d) (λ n. is_among 1 255 n ≡ true)
@@ -180,7 +180,7 @@ back_cards-short k few =
       | false ↦ one_card card (labelled (codes "/BACK ") k (omega arith) (omega arith))
     ]
 
-show_cards-short : (a : Asked) → IsWithinLimits a → All IsCard (show_cards a)
+pub show_cards-short : (a : Asked) → IsWithinLimits a → All IsCard (show_cards a)
 show_cards-short a limits =
     let snaps : All IsCard (map (λ t. codes "/SNAP " ++ decimal t) a.snaps) =
     mapped_short (λ t. codes "/SNAP " ++ decimal t) (λ t. is_tick t ≡ true)

@@ -406,7 +406,7 @@ two_numbers : (word : List ℕ) (a b : ℕ) → IsPlain word → IsPlain (word +
 two_numbers word a b p =
     join (word ++ decimal a ++ codes " ") (decimal b) (joined word (decimal a) (codes " ") p (number a) refl) (number b)
 
-orders_plain : (a : Asked) → All IsWritten (order_cards a)
+pub orders_plain : (a : Asked) → All IsWritten (order_cards a)
 orders_plain a =
     let c1 : List (List ℕ) = (codes "/BUDGET " ++ decimal a.budget) ∷ [] in
     let c2 : List (List ℕ) = map (λ d. codes "/DELAYS " ++ decimal d) a.delays in
@@ -423,7 +423,7 @@ back_plain : (k : ℕ) → All IsWritten (back_cards k)
 back_plain k =
     where_not (k == 0) ((codes "/BACK " ++ decimal k) ∷ []) (only (codes "/BACK " ++ decimal k) (control_plain (codes "BACK " ++ decimal k) (join (codes "BACK ") (decimal k) refl (number k))))
 
-shows_plain : (a : Asked) → All IsWritten (show_cards a)
+pub shows_plain : (a : Asked) → All IsWritten (show_cards a)
 shows_plain a =
     let c5 = marked a.trace (codes "/TRACE") in
     let c6 = marked a.time (codes "/TIME") in

@@ -176,7 +176,7 @@ or_true : (a b : Bool) → b ≡ true → (a || b) ≡ true
 or_true true b h = refl
 or_true false b h = h
 
-in-storage : (a n : ℕ) → 2048 ≤ a → a + n ≤ 6291456 → in_storage a n ≡ true
+pub in-storage : (a n : ℕ) → 2048 ≤ a → a + n ≤ 6291456 → in_storage a n ≡ true
 unfolding in_storage
 in-storage a n behind room =
     let first : nat_le 2048 a ≡ true = grind (arith, nat_tests) in
@@ -220,7 +220,7 @@ set-location : (n : ℕ) → n < 2 ^ 24 → wrapped (values_of [] (SetLocation (
 unfolding values_of wrapped
 set-location n small = omega arith
 
-no-bits : (image : List ℕ) (place number : ℕ) → image_with image place 0 number ≡ image
+pub no-bits : (image : List ℕ) (place number : ℕ) → image_with image place 0 number ≡ image
 unfolding image_with
 no-bits image place number = refl
 
