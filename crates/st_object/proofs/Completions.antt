@@ -5,7 +5,7 @@ use Rattle.std.proofs.lemmas.Bool.Decides.{nat_tests}
 use Rattle.std.proofs.lemmas.List.Sums.{AllPass-from_list_all}
 use Rattle.std.specs.List.{flat_map}
 use Rattle.st_card.specs.Controls.{is_among}
-use Rattle.st_card.specs.Limits.{AreDelays}
+use Rattle.st_card.specs.Limits.{AreDelays, IsWithinLimits}
 use Rattle.st_object.specs.Lines.{marked, budget_lines}
 use Rattle.st_object.specs.Order.{order, row, before, behind, kind_of, is_met, are_met, none_stands}
 use Rattle.st_object.specs.Draft.{Draft, blank, IsDraft, is_empty, start_lines, kind_lines, lines_of, stands, is_whole, with_item}
@@ -15,6 +15,7 @@ use Rattle.st_object.specs.declared.items.Kind.{Kind}
 use Rattle.st_object.specs.declared.items.Kind.TheVariants as kinds
 use Rattle.st_object.proofs.EmptyParts.{no_lines_of}
 use Rattle.st_object.proofs.FurtherLines.{cut, IsPut, added}
+use Rattle.st_object.proofs.DraftLemmas.{kept_with, kept_ends}
 
 -- behind the first kind that must stand and does not, none does
 abbrev orderly : Draft → List Kind → Bool
@@ -129,21 +130,17 @@ some_delays : (ds : List ℕ) → AreDelays ds → AreDelays (if is_empty ds the
 some_delays ds are = elim (is_empty ds) as (λ b. AreDelays (if b then 1 ∷ [] else ds)) [ true ↦ one_delay | false ↦ are ]
 
 completion_draft : (d : Draft) → IsDraft d → IsDraft (completion d)
-completion_draft d draft = record {
-  few = draft.few;
-  each = draft.each;
-  registers = draft.registers;
-  start = start_small d.start draft.start;
-  limits = record {
-    budget = some_budget d.asked.budget draft.limits.budget;
-    delays = some_delays d.asked.delays draft.limits.delays;
-    signals = draft.limits.signals;
-    dumps = draft.limits.dumps;
-    snaps = draft.limits.snaps;
-    back = draft.limits.back;
-  };
-  unlisted = draft.unlisted;
-}
+completion_draft d draft =
+    let limits : IsWithinLimits (completion d).asked = record {
+      budget = some_budget d.asked.budget draft.limits.budget;
+      delays = some_delays d.asked.delays draft.limits.delays;
+      signals = draft.limits.signals;
+      dumps = draft.limits.dumps;
+      snaps = draft.limits.snaps;
+      back = draft.limits.back;
+    } in
+    kept_ends (record d { asked = (completion d).asked }) true true (Some (unwrap_or d.start 0))
+    (kept_with d (completion d).asked draft limits draft.unlisted) (start_small d.start draft.start)
 
 given_budget : (n : ℕ) → not ((if n == 0 then 1 else n) == 0) ≡ true
 given_budget n =

@@ -1,5 +1,5 @@
 -- What holds of a draft holds of it with a further line.
-use Rattle.std.proofs.Common.{◌≡◌, ◌≤◌, ◌<◌, ◌-◌, ◌^◌, ◌==◌, ◌&&◌, ℕ, Bool, true, false, not, nat_le, nat_lt, List, [], ◌∷◌, ◌++◌, length, get_or, replicate, Some, None, if◌then◌else◌, refl, ap, sym, subst, ◌∙◌, length-append, arith, lit<}
+use Rattle.std.proofs.Common.{Option, IfSome, ◌≡◌, ◌≤◌, ◌<◌, ◌-◌, ◌^◌, ◌==◌, ◌&&◌, ℕ, Bool, true, false, not, nat_le, nat_lt, List, [], ◌∷◌, ◌++◌, length, get_or, replicate, Some, None, if◌then◌else◌, refl, ap, sym, subst, ◌∙◌, length-append, arith, lit<}
 use Rattle.std.proofs.lemmas.Bool.{and_parts as holds_both, leb-true as at_most, ltb-false as not_below, ltb-true as below}
 use Rattle.std.specs.List.{All, AllPass}
 use Rattle.std.proofs.lemmas.List.{length-replicate, get_or_append_left, get_or-append_right, get_or-replicate}
@@ -43,7 +43,7 @@ words_kept xs w x each small =
     (All-append (λ y. y < 2 ^ 64) xs (replicate (w - length xs) 0) each (All-replicate (λ y. y < 2 ^ 64) (w - length xs) 0 (lit< tt)))
     (All-replicate (λ y. y < 2 ^ 64) 1 x small)
 
-kept_with : (d : Draft) (new : Asked) → IsDraft d → IsWithinLimits new → new.list ≡ false → IsDraft (record d { asked = new })
+pub kept_with : (d : Draft) (new : Asked) → IsDraft d → IsWithinLimits new → new.list ≡ false → IsDraft (record d { asked = new })
 kept_with d new draft limits unlisted = record {
   few = draft.few;
   each = draft.each;
@@ -51,6 +51,17 @@ kept_with d new draft limits unlisted = record {
   start = draft.start;
   limits = limits;
   unlisted = unlisted;
+}
+
+pub kept_ends : (d : Draft) (begun ended : Bool) (start : Option ℕ) → IsDraft d → IfSome start (λ h. h < 2 ^ 19) →
+    IsDraft (record d { begun = begun; start = start; ended = ended })
+kept_ends d begun ended start draft small = record {
+  few = draft.few;
+  each = draft.each;
+  registers = draft.registers;
+  start = small;
+  limits = draft.limits;
+  unlisted = draft.unlisted;
 }
 
 kept_word : (d : Draft) (w x : ℕ) → IsDraft d → may_hold (length d.words) w x ≡ true → x < 2 ^ 64 →
@@ -96,25 +107,11 @@ pub kept : (d e : Draft) (item : Item) → with_item d item ≡ Some e → IsNar
 unfolding with_value
 kept d e Object same narrow draft =
     let step = given (has_place d kinds.Object) (Some (record d { begun = true })) e same in
-    subst (λ (x : Draft). IsDraft x) (the_one _ e step.1) (record {
-      few = draft.few;
-      each = draft.each;
-      registers = draft.registers;
-      start = draft.start;
-      limits = draft.limits;
-      unlisted = draft.unlisted;
-    })
+    subst (λ (x : Draft). IsDraft x) (the_one _ e step.1) (kept_ends d true d.ended d.start draft draft.start)
 kept d e (Start h) same narrow draft =
     let step = given (has_place d kinds.Start) (with_start d h) e same in
     let fits = given (nat_lt h (2 ^ 19)) (Some (record d { start = Some h })) e step.1 in
-    subst (λ (x : Draft). IsDraft x) (the_one _ e fits.1) (record {
-      few = draft.few;
-      each = draft.each;
-      registers = draft.registers;
-      start = below h (2 ^ 19) fits.0;
-      limits = draft.limits;
-      unlisted = draft.unlisted;
-    })
+    subst (λ (x : Draft). IsDraft x) (the_one _ e fits.1) (kept_ends d d.begun d.ended (Some h) draft (below h (2 ^ 19) fits.0))
 kept d e (Word w x) same narrow draft =
     let step = given (has_place d kinds.Word) (with_word d w x) e same in
     let fits = given (may_hold (length d.words) w x)
@@ -143,11 +140,4 @@ kept d e (Back k) same narrow draft = kept_asked d e _ keywords.Back (k ∷ []) 
     (λ new fits. back-kept d.asked new (k ∷ []) fits draft.limits) (λ new fits. unlisted_test _ new _ fits) draft
 kept d e Fin same narrow draft =
     let step = given (has_place d kinds.Fin) (Some (record d { ended = true })) e same in
-    subst (λ (x : Draft). IsDraft x) (the_one _ e step.1) (record {
-      few = draft.few;
-      each = draft.each;
-      registers = draft.registers;
-      start = draft.start;
-      limits = draft.limits;
-      unlisted = draft.unlisted;
-    })
+    subst (λ (x : Draft). IsDraft x) (the_one _ e step.1) (kept_ends d d.begun true d.start draft draft.start)

@@ -57,22 +57,19 @@ short_good false b v n test same = cc
 number_short : (text : List ℕ) (n : ℕ) → number_in text ≡ Some n → IsShort n
 number_short text n same = short_good (is_number text) (nat_le (value text) 999999999999) (value text) n refl same
 
+mapped_narrow : {X : Type 0} (f : X → Item) (o : Option X) (item : Item) → ((x : X) → IsNarrow (f x)) → option_map f o ≡ Some item → IsNarrow item
+mapped_narrow f o item each same = let parts = mapped f o item same in subst (λ (i : Item). IsNarrow i) parts.1.1 (each parts.0)
+
 behind_narrow : (kind : Kind) (text : List ℕ) (item : Item) → item_behind kind text ≡ Some item → IsNarrow item
 behind_narrow kinds.Object text item same = subst (λ (i : Item). IsNarrow i) (the_one Object item same) tt
-behind_narrow kinds.Start text item same =
-    let parts = mapped _ _ item same in subst (λ (i : Item). IsNarrow i) parts.1.1 tt
+behind_narrow kinds.Start text item same = mapped_narrow _ _ item (λ p. tt) same
 behind_narrow kinds.Word text item same =
     let outer = chained _ (parts_at 32 text) item same in
-    let inner = mapped (λ w. Word w (hex_after 0 outer.0.1)) (number_in outer.0.0) item outer.1.1 in
-    subst (λ (i : Item). IsNarrow i) inner.1.1 (hex_after-lt 0 outer.0.1 (omega arith))
-behind_narrow kinds.Budget text item same =
-    let parts = mapped _ _ item same in subst (λ (i : Item). IsNarrow i) parts.1.1 tt
-behind_narrow kinds.Delay text item same =
-    let parts = mapped _ _ item same in subst (λ (i : Item). IsNarrow i) parts.1.1 tt
-behind_narrow kinds.Signal text item same =
-    let parts = mapped _ _ item same in subst (λ (i : Item). IsNarrow i) parts.1.1 tt
-behind_narrow kinds.Dump text item same =
-    let parts = mapped _ _ item same in subst (λ (i : Item). IsNarrow i) parts.1.1 tt
+    mapped_narrow (λ w. Word w (hex_after 0 outer.0.1)) (number_in outer.0.0) item (λ w. hex_after-lt 0 outer.0.1 (omega arith)) outer.1.1
+behind_narrow kinds.Budget text item same = mapped_narrow _ _ item (λ n. tt) same
+behind_narrow kinds.Delay text item same = mapped_narrow _ _ item (λ n. tt) same
+behind_narrow kinds.Signal text item same = mapped_narrow _ _ item (λ p. tt) same
+behind_narrow kinds.Dump text item same = mapped_narrow _ _ item (λ p. tt) same
 behind_narrow kinds.Trace text item same = subst (λ (i : Item). IsNarrow i) (the_one Trace item same) tt
 behind_narrow kinds.Time text item same = subst (λ (i : Item). IsNarrow i) (the_one Time item same) tt
 behind_narrow kinds.Chart text item same = subst (λ (i : Item). IsNarrow i) (the_one Chart item same) tt
@@ -80,8 +77,7 @@ behind_narrow kinds.Fin text item same = subst (λ (i : Item). IsNarrow i) (the_
 behind_narrow kinds.Snap text item same =
     let parts = mapped (λ n. Snap n) (number_in text) item same in
     subst (λ (i : Item). IsNarrow i) parts.1.1 (number_short text parts.0 parts.1.0)
-behind_narrow kinds.Back text item same =
-    let parts = mapped _ _ item same in subst (λ (i : Item). IsNarrow i) parts.1.1 tt
+behind_narrow kinds.Back text item same = mapped_narrow _ _ item (λ n. tt) same
 
 item_narrow : (word rest : List ℕ) (item : Item) → item_of word rest ≡ Some item → IsNarrow item
 item_narrow word rest item same =

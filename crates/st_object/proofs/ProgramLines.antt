@@ -1,7 +1,7 @@
 -- The lines of a program, added one by one, make that program.
-use Rattle.std.proofs.Common.{◌≡◌, ◌≤◌, ◌<◌, ◌+◌, ◌-◌, ◌/◌, ◌^◌, ◌==◌, ◌&&◌, ℕ, Bool, true, false, not, nat_lt, List, [], ◌∷◌, ◌++◌, length, get_or, map, replicate, Option, Some, None, if◌then◌else◌, refl, ap, sym, subst, ◌∙◌, append_assoc, append-nil, length-append, arith}
+use Rattle.std.proofs.Common.{◌≡◌, ◌≤◌, ◌<◌, ◌+◌, ◌-◌, ◌^◌, ◌==◌, ◌&&◌, ℕ, Bool, true, false, not, nat_lt, List, [], ◌∷◌, ◌++◌, length, get_or, map, replicate, Option, Some, None, if◌then◌else◌, refl, ap, sym, subst, ◌∙◌, append_assoc, append-nil, length-append, arith}
 use Rattle.std.proofs.lemmas.Bool.{and_from as both_true, le-leb as at_most, lt-ltb as below, ltb-false as is_not_below, ltb-true as is_below, not-true as not_false}
-use Rattle.std.specs.List.{All}
+use Rattle.std.specs.List.{All, flat_map}
 use Rattle.std.specs.Option.{option_map}
 use Rattle.std.proofs.lemmas.Bool.Decides.{nat_tests}
 use Rattle.std.proofs.lemmas.List.{length-replicate, replicate_more, get_or_at}
@@ -12,13 +12,16 @@ use Rattle.st_card.specs.declared.control_cards.Signal.{Signal as GivenSignal}
 use Rattle.st_card.specs.declared.keywords.Keyword.{Keyword}
 use Rattle.st_card.specs.declared.keywords.Keyword.TheVariants as keywords
 use Rattle.st_card.proofs.OrderLemmas.{budget-asked, delay-asked, signal-asked, dump-asked, snap-asked, back-asked, delay-short, signal-short, dump-short, snap-short}
-use Rattle.st_object.specs.Lines.{marked, word_lines, budget_lines, back_lines}
-use Rattle.st_object.specs.Draft.{Draft, blank, is_empty, is_whole, has_place, may_hold, with_order, with_value, with_item}
+use Rattle.st_object.specs.Lines.{marked, word_lines}
+use Rattle.st_object.specs.Order.{order, row}
+use Rattle.st_object.specs.Draft.{Draft, blank, is_empty, kind_lines, is_whole, has_place, may_hold, with_order, with_value, with_item}
 use Rattle.st_object.specs.Meaning.{IsShort, IsItem}
 use Rattle.st_object.specs.Object.{Program, IsProgram, AreWords, object_lines, filled_up, program_of}
 use Rattle.st_object.specs.declared.items.Item.{Item}
-use Rattle.st_object.specs.declared.items.Item.TheVariants.{Start, Word, Budget, Delay, Signal, Dump, Trace, Time, Chart, Snap, Back, Fin}
-use Rattle.st_object.proofs.WrittenLines.{whole_lines}
+use Rattle.st_object.specs.declared.items.Item.TheVariants.{Object, Start, Word, Budget, Delay, Signal, Dump, Trace, Time, Chart, Snap, Back, Fin}
+use Rattle.st_object.specs.declared.items.Kind.{Kind}
+use Rattle.st_object.specs.declared.items.Kind.TheVariants as kinds
+use Rattle.st_object.proofs.WrittenLines.{draft_of, whole_lines}
 
 -- a line that can be read and may follow
 abbrev IsStep : Draft → Item → Draft → Type 0
@@ -61,20 +64,6 @@ leads_marked at item step true = one (at false) (at true) item step
 abbrev open_draft : ℕ → List ℕ → Asked → Draft
 open_draft h ws a = record { begun = true; start = Some h; words = ws; asked = a; ended = false }
 
-abbrev asked_for : ℕ → List ℕ → List GivenSignal → List (ℕ × ℕ) → Bool → Bool → Bool → List ℕ → ℕ → Asked
-asked_for n ds ss us trace time chart ts k = record {
-  budget = n;
-  delays = ds;
-  signals = ss;
-  dumps = us;
-  snaps = ts;
-  list = false;
-  trace = trace;
-  time = time;
-  chart = chart;
-  back = k;
-}
-
 not_zero : (n : ℕ) → 1 ≤ n → not (n == 0) ≡ true
 not_zero n some = grind (arith, nat_tests)
 
@@ -93,97 +82,12 @@ behind_budget b some = ap (λ v. (v && true) && true && true) some
 behind_delays : (a b : Bool) → a ≡ true → b ≡ true → ((a && (b && true)) && true && true) ≡ true
 behind_delays a b some delays = ap (λ v. (v && (b && true)) && true && true) some ∙ ap (λ v. (v && true) && true && true) delays
 
-module _ (h : ℕ) (ws : List ℕ) where
-  add_budget : (n : ℕ) → 1 ≤ n → n ≤ 10000000 →
-      IsStep (open_draft h ws nothing) (Budget n) (open_draft h ws (asked_for n [] [] [] false false false [] 0))
-  unfolding has_place with_value
-  add_budget n some few =
-      (step_asked (open_draft h ws nothing) _ keywords.Budget (n ∷ []) _ refl (budget-asked nothing n refl some few), omega (arith, few))
-
-  add_delays : (n : ℕ) (ds : List ℕ) → not (n == 0) ≡ true → AreDelays ds →
-      Leads (open_draft h ws (asked_for n [] [] [] false false false [] 0)) (map (λ d. Delay d) ds)
-      (open_draft h ws (asked_for n ds [] [] false false false [] 0))
-  unfolding has_place with_value
-  add_delays n ds some are =
-      let asked = λ (done : List ℕ). asked_for n done [] [] false false false [] 0 in
-      leads_each (λ done. open_draft h ws (asked done)) (λ d. Delay d) (λ xs. AreDelays xs)
-      (λ done rest d fits.
-      (step_asked (open_draft h ws (asked done)) _ keywords.Delays (d ∷ []) _ (behind_budget _ some) (delay-asked (asked done) d rest fits), delay-short done rest d fits))
-      [] ds are
-
-  module _ (n : ℕ) (ds : List ℕ) (some : not (n == 0) ≡ true) (delays : not (is_empty ds) ≡ true) where
-    add_signals : (ss : List GivenSignal) → AreSignals ss →
-        Leads (open_draft h ws (asked_for n ds [] [] false false false [] 0)) (map (λ s. Signal s.count s.indicator) ss)
-        (open_draft h ws (asked_for n ds ss [] false false false [] 0))
-    unfolding has_place with_value
-    add_signals ss are =
-        let asked = λ (done : List GivenSignal). asked_for n ds done [] false false false [] 0 in
-        leads_each (λ done. open_draft h ws (asked done)) (λ s. Signal s.count s.indicator) (λ xs. AreSignals xs)
-        (λ done rest s fits.
-        (step_asked (open_draft h ws (asked done)) _ keywords.Signals (s.count ∷ s.indicator ∷ []) _ (behind_delays _ _ some delays) (signal-asked (asked done) s rest fits), signal-short done rest s fits))
-        [] ss are
-
-    add_dumps : (ss : List GivenSignal) (us : List (ℕ × ℕ)) → AreDumps us →
-        Leads (open_draft h ws (asked_for n ds ss [] false false false [] 0)) (map (λ p. Dump p.0 p.1) us)
-        (open_draft h ws (asked_for n ds ss us false false false [] 0))
-    unfolding has_place with_value
-    add_dumps ss us are =
-        let asked = λ (done : List (ℕ × ℕ)). asked_for n ds ss done false false false [] 0 in
-        leads_each (λ done. open_draft h ws (asked done)) (λ p. Dump p.0 p.1) (λ xs. AreDumps xs)
-        (λ done rest p fits.
-        (step_asked (open_draft h ws (asked done)) _ keywords.Dump (p.0 ∷ p.1 ∷ []) _ (behind_delays _ _ some delays) (dump-asked (asked done) p rest fits), dump-short done rest p fits))
-        [] us are
-
-    module _ (ss : List GivenSignal) (us : List (ℕ × ℕ)) where
-      -- the marks
-      add_trace : (trace : Bool) → Leads (open_draft h ws (asked_for n ds ss us false false false [] 0)) (marked trace Trace)
-          (open_draft h ws (asked_for n ds ss us trace false false [] 0))
-      unfolding has_place with_value
-      add_trace trace = leads_marked (λ b. open_draft h ws (asked_for n ds ss us b false false [] 0)) Trace
-          (ap (λ b. if b then Some (open_draft h ws (asked_for n ds ss us true false false [] 0)) else None) (behind_delays _ _ some delays), tt) trace
-
-      add_time : (trace time : Bool) → Leads (open_draft h ws (asked_for n ds ss us trace false false [] 0)) (marked time Time)
-          (open_draft h ws (asked_for n ds ss us trace time false [] 0))
-      unfolding has_place with_value
-      add_time trace time = leads_marked (λ b. open_draft h ws (asked_for n ds ss us trace b false [] 0)) Time
-          (ap (λ b. if b then Some (open_draft h ws (asked_for n ds ss us trace true false [] 0)) else None) (behind_delays _ _ some delays), tt) time
-
-      add_chart : (trace time chart : Bool) → Leads (open_draft h ws (asked_for n ds ss us trace time false [] 0)) (marked chart Chart)
-          (open_draft h ws (asked_for n ds ss us trace time chart [] 0))
-      unfolding has_place with_value
-      add_chart trace time chart = leads_marked (λ b. open_draft h ws (asked_for n ds ss us trace time b [] 0)) Chart
-          (ap (λ b. if b then Some (open_draft h ws (asked_for n ds ss us trace time true [] 0)) else None) (behind_delays _ _ some delays), tt) chart
-
-      add_snaps : (trace time chart : Bool) (ts : List ℕ) → AreSnaps ts →
-          Leads (open_draft h ws (asked_for n ds ss us trace time chart [] 0)) (map (λ t. Snap t) ts)
-          (open_draft h ws (asked_for n ds ss us trace time chart ts 0))
-      unfolding has_place with_value
-      add_snaps trace time chart ts are =
-          let asked = λ (done : List ℕ). asked_for n ds ss us trace time chart done 0 in
-          leads_each (λ done. open_draft h ws (asked done)) (λ t. Snap t) (λ xs. AreSnaps xs)
-          (λ done rest t fits.
-          (step_asked (open_draft h ws (asked done)) _ keywords.Snap (t ∷ []) _ (behind_delays _ _ some delays) (snap-asked (asked done) t rest fits), snap-short done rest t fits))
-          [] ts are
-
-      add_back : (trace time chart : Bool) (ts : List ℕ) (k : ℕ) → k ≤ 64 → (b : Bool) → (k == 0) ≡ b →
-          Leads (open_draft h ws (asked_for n ds ss us trace time chart ts 0)) (if b then [] else Back k ∷ [])
-          (open_draft h ws (asked_for n ds ss us trace time chart ts k))
-      unfolding has_place with_value
-      add_back trace time chart ts k few true none =
-          let same : 0 ≡ k = grind (arith, nat_tests) in
-          ap (λ j. open_draft h ws (asked_for n ds ss us trace time chart ts j)) same
-      add_back trace time chart ts k few false any =
-          let asked : Asked = asked_for n ds ss us trace time chart ts 0 in
-          let one_up : 1 ≤ k = grind (arith, nat_tests) in
-          one (open_draft h ws asked) _ (Back k)
-          (step_asked (open_draft h ws asked) _ keywords.Back (k ∷ []) _ (behind_delays _ _ some delays) (back-asked asked k refl one_up few), omega (arith, few))
-
--- the words, with those that stand behind the last that is not zero
-record AddsWords (h : ℕ) (ws front rest : List ℕ) : Type 0 where
+-- words that lines add, with zeros behind them
+record Adds (h : ℕ) (ws whole : List ℕ) (items : List Item) : Type 0 where
   last : List ℕ
   zeros : ℕ
-  whole : last ++ replicate zeros 0 ≡ front ++ rest
-  steps : Leads (open_draft h ws nothing) (word_lines (length front) rest) (open_draft h last nothing)
+  filled : last ++ replicate zeros 0 ≡ whole
+  steps : Leads (open_draft h ws nothing) items (open_draft h last nothing)
 
 zero_is : (x : ℕ) → (x == 0) ≡ true → x ≡ 0
 zero_is x test = grind (arith, nat_tests)
@@ -202,41 +106,31 @@ above front rest x registers some =
     step (nat_lt (length front) 32) refl
 
 add_words : (h k : ℕ) (ws front rest : List ℕ) → front ≡ ws ++ replicate k 0 → ((w : ℕ) → w < 32 → get_or (front ++ rest) w 0 ≡ 0) →
-    length (front ++ rest) ≤ words_of_storage → All (λ x. x < 2 ^ 64) (front ++ rest) → AddsWords h ws front rest
+    length (front ++ rest) ≤ words_of_storage → All (λ x. x < 2 ^ 64) (front ++ rest) → Adds h ws (front ++ rest) (word_lines (length front) rest)
 unfolding has_place with_value
-add_words h k ws front [] filled registers room each = record {
-  last = ws;
-  zeros = k;
-  whole = sym (append-nil front ∙ filled);
-  steps = refl;
-}
+add_words h k ws front [] filled registers room each =
+    record { last = ws; zeros = k; filled = sym (append-nil front ∙ filled); steps = refl }
 add_words h k ws front (x ∷ rest) filled registers room each =
     let regrouped = append_assoc front (x ∷ []) rest in
     let size : length (front ++ x ∷ []) ≡ length front + 1 = length-append front (x ∷ []) in
     let move_registers = subst (λ (s : List ℕ). (w : ℕ) → w < 32 → get_or s w 0 ≡ 0) (sym regrouped) registers in
     let move_room = subst (λ (s : List ℕ). length s ≤ words_of_storage) (sym regrouped) room in
     let move_each = subst (λ (s : List ℕ). All (λ y. y < 2 ^ 64) s) (sym regrouped) each in
-    let step : (b : Bool) → (x == 0) ≡ b → (last : List ℕ) × ((zeros : ℕ) × ((last ++ replicate zeros 0 ≡ front ++ x ∷ rest)
-    × Leads (open_draft h ws nothing) (if b then word_lines (length front + 1) rest else Word (length front) x ∷ word_lines (length front + 1) rest)
-    (open_draft h last nothing))) =
-    λ b. elim b as (λ v. (x == 0) ≡ v → (last : List ℕ) × ((zeros : ℕ) × ((last ++ replicate zeros 0 ≡ front ++ x ∷ rest)
-    × Leads (open_draft h ws nothing) (if v then word_lines (length front + 1) rest else Word (length front) x ∷ word_lines (length front + 1) rest)
-    (open_draft h last nothing)))) [
+    let items : List Item = word_lines (length front + 1) rest in
+    let step : (b : Bool) → (x == 0) ≡ b → Adds h ws (front ++ x ∷ rest) (if b then items else Word (length front) x ∷ items) =
+    λ b. elim b as (λ v. (x == 0) ≡ v → Adds h ws (front ++ x ∷ rest) (if v then items else Word (length front) x ∷ items)) [
       | true ↦ λ test.
           let longer : front ++ x ∷ [] ≡ ws ++ replicate (k + 1) 0 =
           ap (λ (y : ℕ). front ++ y ∷ []) (zero_is x test)
           ∙ (ap (λ (s : List ℕ). s ++ 0 ∷ []) filled
           ∙ (append_assoc ws (replicate k 0) (0 ∷ []) ∙ ap (λ (s : List ℕ). ws ++ s) (replicate_more k 0))) in
-          let later = add_words h (k + 1) ws (front ++ x ∷ []) rest longer move_registers move_room move_each in (
-            later.last,
-            (
-              later.zeros,
-              (
-                later.whole ∙ regrouped,
-                subst (λ (n : ℕ). Leads (open_draft h ws nothing) (word_lines n rest) (open_draft h later.last nothing)) size later.steps,
-              ),
-            ),
-          )
+          let later = add_words h (k + 1) ws (front ++ x ∷ []) rest longer move_registers move_room move_each in
+          record {
+            last = later.last;
+            zeros = later.zeros;
+            filled = later.filled ∙ regrouped;
+            steps = subst (λ (n : ℕ). Leads (open_draft h ws nothing) (word_lines n rest) (open_draft h later.last nothing)) size later.steps;
+          }
       | false ↦ λ test.
           let gap : length front - length ws ≡ k = omega (arith, ap (λ (s : List ℕ). length s) filled, length-append ws (replicate k 0), length-replicate {A = ℕ} k 0) in
           let new : List ℕ = ws ++ replicate (length front - length ws) 0 ++ x ∷ [] in
@@ -253,24 +147,20 @@ add_words h k ws front (x ∷ rest) filled registers room each =
           (below (length front) words_of_storage inside)) (ap (λ (v : Bool). not v) test) in
           let short : IsShort (length front) = omega (arith, inside, storage) in
           let within : length front < length (front ++ x ∷ rest) = omega (arith, length-append front (x ∷ rest)) in
-          let bits : x < 2 ^ 64 = subst (λ (y : ℕ). y < 2 ^ 64) (get_or_at front x rest 0 (length front) refl) (each (length front) 0 within) in (
-            later.last,
-            (
-              later.zeros,
-              (
-                later.whole ∙ regrouped,
-                (
-                  open_draft h new nothing,
-                  ap (λ (v : Bool). if v then Some (open_draft h new nothing) else None) fits,
-                  (short, bits),
-                  subst (λ (n : ℕ). Leads (open_draft h new nothing) (word_lines n rest) (open_draft h later.last nothing)) size later.steps,
-                ),
-              ),
-            ),
-          )
+          let bits : x < 2 ^ 64 = subst (λ (y : ℕ). y < 2 ^ 64) (get_or_at front x rest 0 (length front) refl) (each (length front) 0 within) in
+          record {
+            last = later.last;
+            zeros = later.zeros;
+            filled = later.filled ∙ regrouped;
+            steps = (
+              open_draft h new nothing,
+              ap (λ (v : Bool). if v then Some (open_draft h new nothing) else None) fits,
+              (short, bits),
+              subst (λ (n : ℕ). Leads (open_draft h new nothing) (word_lines n rest) (open_draft h later.last nothing)) size later.steps,
+            );
+          }
     ] in
-    let parts = step (x == 0) refl in
-    record { last = parts.0; zeros = parts.1.0; whole = parts.1.1.0; steps = parts.1.1.1 }
+    step (x == 0) refl
 
 -- words up to the last that is not zero, filled up again
 filled_again : (last words : List ℕ) (zeros : ℕ) → last ++ replicate zeros 0 ≡ words → length words ≡ words_of_storage →
@@ -280,6 +170,120 @@ filled_again last words zeros whole size =
     omega (arith, size, ap (λ (s : List ℕ). length s) whole, length-append last (replicate zeros 0), length-replicate {A = ℕ} zeros 0) in
     ap (λ n. last ++ replicate n 0) count ∙ whole
 
+-- kinds that stand one behind the other from a place on
+abbrev AreNext : ℕ → List Kind → Type 0
+AreNext i [] = Unit {0}
+AreNext i (kind ∷ more) = ((row kind).0 ≡ i) × AreNext (i + 1) more
+
+-- the lines of a program, kind by kind
+module _ (p : Program) (ws : List ℕ) where
+  -- what the kinds before a place say
+  abbrev asked_before : ℕ → Asked
+  asked_before i = record {
+    budget = if nat_lt 3 i then p.controls.budget else 0;
+    delays = if nat_lt 4 i then p.controls.delays else [];
+    signals = if nat_lt 5 i then p.controls.signals else [];
+    dumps = if nat_lt 6 i then p.controls.dumps else [];
+    snaps = if nat_lt 10 i then p.controls.snaps else [];
+    list = false;
+    trace = nat_lt 7 i && p.controls.trace;
+    time = nat_lt 8 i && p.controls.time;
+    chart = nat_lt 9 i && p.controls.chart;
+    back = if nat_lt 11 i then p.controls.back else 0;
+  }
+
+  abbrev draft_before : ℕ → Draft
+  draft_before i = record {
+    begun = nat_lt 0 i;
+    start = if nat_lt 1 i then Some p.start else None;
+    words = if nat_lt 2 i then ws else [];
+    asked = asked_before i;
+    ended = nat_lt 12 i;
+  }
+
+  abbrev lines_at : Kind → List Item
+  lines_at kind = kind_lines (draft_of p) kind
+
+  module _ (is : IsProgram p) (words : Leads (draft_before 2) (word_lines 0 p.words) (draft_before 3)) where
+    some : not (p.controls.budget == 0) ≡ true
+    some = not_zero p.controls.budget is.budget
+
+    delays : not (is_empty p.controls.delays) ≡ true
+    delays = not_zero (length p.controls.delays) is.delays
+
+    -- a mark, and the steps back, which stand there where they are asked for
+    back_step : (b : Bool) → (p.controls.back == 0) ≡ b →
+        Leads (draft_before 11) (if b then [] else Back p.controls.back ∷ []) (draft_before 12)
+    unfolding has_place with_value
+    back_step true none =
+        let same : 0 ≡ p.controls.back = grind (arith, nat_tests) in
+        ap (λ k. record (draft_before 11) { asked = record (asked_before 11) { back = k } }) same
+    back_step false any =
+        let filled : 1 ≤ p.controls.back = grind (arith, nat_tests) in
+        one (draft_before 11) (draft_before 12) (Back p.controls.back)
+        (step_asked (draft_before 11) _ keywords.Back (p.controls.back ∷ []) _ (behind_delays _ _ some delays)
+        (back-asked (asked_before 11) p.controls.back refl filled is.limits.back), omega (arith, is.limits.back))
+
+    -- the lines of a kind lead from what the kinds before say to what they say with it
+    add_kind : (kind : Kind) → Leads (draft_before (row kind).0) (lines_at kind) (draft_before ((row kind).0 + 1))
+    unfolding has_place with_value
+    add_kind kinds.Object = one (draft_before 0) (draft_before 1) Object (refl, tt)
+    add_kind kinds.Start = one (draft_before 1) (draft_before 2) (Start p.start)
+        (ap (λ (b : Bool). if b then Some (draft_before 2) else None) (below p.start (2 ^ 19) is.start), omega (arith, is.start))
+    add_kind kinds.Word = words
+    add_kind kinds.Budget =
+        let n : ℕ = p.controls.budget in
+        subst (λ (b : Bool). Leads (draft_before 3) (if b then [] else Budget n ∷ []) (draft_before 4)) (sym (not_false (n == 0) some))
+        (one (draft_before 3) (draft_before 4) (Budget n)
+        (step_asked (draft_before 3) _ keywords.Budget (n ∷ []) _ refl (budget-asked (asked_before 3) n refl is.budget is.limits.budget), omega (arith, is.limits.budget)))
+    add_kind kinds.Delay =
+        let asked = λ (done : List ℕ). record (asked_before 4) { delays = done } in
+        leads_each (λ done. record (draft_before 4) { asked = asked done }) (λ n. Delay n) (λ xs. AreDelays xs)
+        (λ done rest n fits.
+        (step_asked (record (draft_before 4) { asked = asked done }) _ keywords.Delays (n ∷ []) _ (behind_budget _ some)
+        (delay-asked (asked done) n rest fits), delay-short done rest n fits)) [] p.controls.delays is.limits.delays
+    add_kind kinds.Signal =
+        let asked = λ (done : List GivenSignal). record (asked_before 5) { signals = done } in
+        leads_each (λ done. record (draft_before 5) { asked = asked done }) (λ s. Signal s.count s.indicator) (λ xs. AreSignals xs)
+        (λ done rest s fits.
+        (step_asked (record (draft_before 5) { asked = asked done }) _ keywords.Signals (s.count ∷ s.indicator ∷ []) _ (behind_delays _ _ some delays)
+        (signal-asked (asked done) s rest fits), signal-short done rest s fits)) [] p.controls.signals is.limits.signals
+    add_kind kinds.Dump =
+        let asked = λ (done : List (ℕ × ℕ)). record (asked_before 6) { dumps = done } in
+        leads_each (λ done. record (draft_before 6) { asked = asked done }) (λ d. Dump d.0 d.1) (λ xs. AreDumps xs)
+        (λ done rest d fits.
+        (step_asked (record (draft_before 6) { asked = asked done }) _ keywords.Dump (d.0 ∷ d.1 ∷ []) _ (behind_delays _ _ some delays)
+        (dump-asked (asked done) d rest fits), dump-short done rest d fits)) [] p.controls.dumps is.limits.dumps
+    add_kind kinds.Trace =
+        let at = λ (b : Bool). record (draft_before 7) { asked = record (asked_before 7) { trace = b } } in
+        leads_marked at Trace (ap (λ b. if b then Some (at true) else None) (behind_delays _ _ some delays), tt) p.controls.trace
+    add_kind kinds.Time =
+        let at = λ (b : Bool). record (draft_before 8) { asked = record (asked_before 8) { time = b } } in
+        leads_marked at Time (ap (λ b. if b then Some (at true) else None) (behind_delays _ _ some delays), tt) p.controls.time
+    add_kind kinds.Chart =
+        let at = λ (b : Bool). record (draft_before 9) { asked = record (asked_before 9) { chart = b } } in
+        leads_marked at Chart (ap (λ b. if b then Some (at true) else None) (behind_delays _ _ some delays), tt) p.controls.chart
+    add_kind kinds.Snap =
+        let asked = λ (done : List ℕ). record (asked_before 10) { snaps = done } in
+        leads_each (λ done. record (draft_before 10) { asked = asked done }) (λ t. Snap t) (λ xs. AreSnaps xs)
+        (λ done rest t fits.
+        (step_asked (record (draft_before 10) { asked = asked done }) _ keywords.Snap (t ∷ []) _ (behind_delays _ _ some delays)
+        (snap-asked (asked done) t rest fits), snap-short done rest t fits)) [] p.controls.snaps is.limits.snaps
+    add_kind kinds.Back = back_step (p.controls.back == 0) refl
+    add_kind kinds.Fin = one (draft_before 12) (draft_before 13) Fin
+        (ap (λ (b : Bool). if b then Some (draft_before 13) else None) (behind_delays _ _ some delays), tt)
+
+    -- so do those of kinds that stand one behind the other
+    add_kinds : (more : List Kind) (i : ℕ) → AreNext i more →
+        Leads (draft_before i) (flat_map (λ k. lines_at k) more) (draft_before (i + length more))
+    add_kinds [] i next = let same : i ≡ i + 0 = omega arith in ap (λ j. draft_before j) same
+    add_kinds (kind ∷ more) i next =
+        let same : i + 1 + length more ≡ i + length (kind ∷ more) = omega arith in
+        let all : List Item = flat_map (λ k. lines_at k) more in
+        leads_on (draft_before i) (draft_before (i + 1)) (draft_before (i + length (kind ∷ more))) (lines_at kind) all
+        (subst (λ j. Leads (draft_before j) (lines_at kind) (draft_before (j + 1))) next.0 (add_kind kind))
+        (subst (λ j. Leads (draft_before (i + 1)) all (draft_before j)) same (add_kinds more (i + 1) next.1))
+
 -- the whole draft of a program, and the lines that lead to it
 pub record Makes (p : Program) : Type 0 where
   pub last : Draft
@@ -288,66 +292,16 @@ pub record Makes (p : Program) : Type 0 where
   pub program : program_of last ≡ p
 
 pub made_again : (p : Program) → IsProgram p → AreWords p.words → Makes p
-unfolding is_whole has_place with_value
+unfolding is_whole
 made_again p is each =
-    let h : ℕ = p.start in
-    let short : IsShort (h / 2) = omega (arith, is.start) in
-    let n : ℕ = p.controls.budget in
-    let ds : List ℕ = p.controls.delays in
-    let ss : List GivenSignal = p.controls.signals in
-    let us : List (ℕ × ℕ) = p.controls.dumps in
-    let trace : Bool = p.controls.trace in
-    let time : Bool = p.controls.time in
-    let chart : Bool = p.controls.chart in
-    let ts : List ℕ = p.controls.snaps in
-    let k : ℕ = p.controls.back in
-    let limits = is.limits in
-    let some : not (n == 0) ≡ true = not_zero n is.budget in
-    let delays : not (is_empty ds) ≡ true = not_zero (length ds) is.delays in
     let room : length ([] ++ p.words) ≤ words_of_storage = omega (arith, is.whole) in
-    let words = add_words h 0 [] [] p.words refl is.registers room each in
+    let words = add_words p.start 0 [] [] p.words refl is.registers room each in
     let ws : List ℕ = words.last in
-    let d1 : Draft = record { begun = true; start = None; words = []; asked = nothing; ended = false } in
-    let d2 : Draft = open_draft h [] nothing in
-    let d3 : Draft = open_draft h ws nothing in
-    let d4 : Draft = open_draft h ws (asked_for n [] [] [] false false false [] 0) in
-    let d5 : Draft = open_draft h ws (asked_for n ds [] [] false false false [] 0) in
-    let d6 : Draft = open_draft h ws (asked_for n ds ss [] false false false [] 0) in
-    let d7 : Draft = open_draft h ws (asked_for n ds ss us false false false [] 0) in
-    let d8 : Draft = open_draft h ws (asked_for n ds ss us trace false false [] 0) in
-    let d9 : Draft = open_draft h ws (asked_for n ds ss us trace time false [] 0) in
-    let d10 : Draft = open_draft h ws (asked_for n ds ss us trace time chart [] 0) in
-    let d11 : Draft = open_draft h ws (asked_for n ds ss us trace time chart ts 0) in
-    let d12 : Draft = open_draft h ws (asked_for n ds ss us trace time chart ts k) in
-    let e : Draft = record { begun = true; start = Some h; words = ws; asked = asked_for n ds ss us trace time chart ts k; ended = true } in
-    let s4 = one d3 d4 (Budget n) (add_budget h ws n is.budget limits.budget) in
-    let s5 = add_delays h ws n ds some limits.delays in
-    let s6 = add_signals h ws n ds some delays ss limits.signals in
-    let s7 = add_dumps h ws n ds some delays ss us limits.dumps in
-    let s8 = add_trace h ws n ds some delays ss us trace in
-    let s9 = add_time h ws n ds some delays ss us trace time in
-    let s10 = add_chart h ws n ds some delays ss us trace time chart in
-    let s11 = add_snaps h ws n ds some delays ss us trace time chart ts limits.snaps in
-    let s12 = add_back h ws n ds some delays ss us trace time chart ts k limits.back (k == 0) refl in
-    let s13 = one d12 e Fin (ap (λ (b : Bool). if b then Some e else None) (behind_delays _ _ some delays), tt) in
-    let t11 = leads_on d11 d12 e (back_lines k) (Fin ∷ []) s12 s13 in
-    let t10 = leads_on d10 d11 e (map (λ t. Snap t) ts) _ s11 t11 in
-    let t9 = leads_on d9 d10 e (marked chart Chart) _ s10 t10 in
-    let t8 = leads_on d8 d9 e (marked time Time) _ s9 t9 in
-    let t7 = leads_on d7 d8 e (marked trace Trace) _ s8 t8 in
-    let t6 = leads_on d6 d7 e (map (λ q. Dump q.0 q.1) us) _ s7 t7 in
-    let t5 = leads_on d5 d6 e (map (λ s. Signal s.count s.indicator) ss) _ s6 t6 in
-    let t4 = leads_on d4 d5 e (map (λ d. Delay d) ds) _ s5 t5 in
-    let budget = subst (λ (b : Bool). Leads d3 (if b then [] else Budget n ∷ []) d4) (sym (not_false (n == 0) some)) s4 in
-    let t3 = leads_on d3 d4 e (budget_lines n) _ budget t4 in
-    let t2 = leads_on d2 d3 e (word_lines 0 p.words) _ words.steps t3 in
-    let started : with_item d1 (Start h) ≡ Some d2 = ap (λ (b : Bool). if b then Some d2 else None) (below h (2 ^ 19) is.start) in
-    let controls : asked_for n ds ss us trace time chart ts k ≡ p.controls =
-    ap (λ (b : Bool). record p.controls { list = b }) (sym is.unlisted) in
+    let next : AreNext 0 order = (refl, (refl, (refl, (refl, (refl, (refl, (refl, (refl, (refl, (refl, (refl, (refl, (refl, tt))))))))))))) in
     record {
-      last = e;
-      steps = subst (λ (items : List Item). Leads blank items e) (whole_lines p) (d1, refl, tt, (d2, started, short, t2));
-      ended = both_true _ _ some (both_true _ _ delays refl);
-      program = ap (λ (s : List ℕ). record p { words = s; controls = asked_for n ds ss us trace time chart ts k }) (filled_again ws p.words words.zeros words.whole is.whole)
-          ∙ ap (λ (a : Asked). record p { controls = a }) controls;
+      last = draft_before p ws 13;
+      steps = subst (λ (items : List Item). Leads blank items (draft_before p ws 13)) (whole_lines p) (add_kinds p ws is words.steps order 0 next);
+      ended = both_true _ _ (not_zero p.controls.budget is.budget) (both_true _ _ (not_zero (length p.controls.delays) is.delays) refl);
+      program = ap (λ (s : List ℕ). record p { words = s; controls = asked_before p ws 13 }) (filled_again ws p.words words.zeros words.filled is.whole)
+          ∙ ap (λ (b : Bool). record p { controls = record p.controls { list = b } }) (sym is.unlisted);
     }
