@@ -1,13 +1,10 @@
 -- The cards of a deck are its statements and its control cards, and the form pass reads them all.
-use Rattle.std.proofs.Common.{◌≡◌, ◌<◌, ◌≤◌, ◌+◌, ◌*◌, ◌/◌, ◌%◌, ◌^◌, ◌==◌, ℕ, zero, suc, Bool, true, false, not, List, [], ◌∷◌, ◌++◌, length, map, filter, take, Option, Some, None, Result, Ok, Err, is_none, codes, decimal, if◌then◌else◌, refl, sym, ap, subst, ◌∙◌, append_assoc, length-append, arith}
-use Rattle.std.specs.List.{All, list_all}
+use Rattle.std.proofs.Common.{◌≡◌, ◌<◌, ◌≤◌, ◌+◌, ◌*◌, ◌/◌, ◌%◌, ◌^◌, ◌==◌, ℕ, Bool, true, false, List, [], ◌∷◌, ◌++◌, length, map, Some, None, Result, Ok, Err, is_none, codes, decimal, if◌then◌else◌, refl, sym, ap, subst, ◌∙◌, append_assoc, arith}
+use Rattle.std.specs.List.{All}
 use Rattle.std.proofs.lemmas.List.{map-append}
 use Rattle.std.proofs.lemmas.List.Elements.{All-nil, All-cons, All-head, All-tail, All-append}
-use Rattle.std.proofs.lemmas.Bool.{and_parts}
-use Rattle.st_card.specs.Cards.{kind_of, cards_of}
+use Rattle.st_card.specs.Cards.{cards_of}
 use Rattle.st_card.specs.Controls.{Asked}
-use Rattle.st_card.specs.declared.cards.CardKind.TheVariants.{Control}
-use Rattle.st_card.specs.declared.control_cards.Signal.{Signal}
 use Rattle.st_card.specs.declared.faults.Fault.{Fault}
 use Rattle.st_bits.specs.Storage.{words_of_storage_is}
 use Rattle.st_strap.specs.Reading.{number_expr}
@@ -21,11 +18,11 @@ use Rattle.st_asm.specs.Places.{role_of, length_in}
 use Rattle.st_asm.specs.Naming.{unnamed}
 use Rattle.st_asm.specs.Checks.{value_fault}
 use Rattle.st_asm.specs.Laying.{bits_of}
-use Rattle.st_asm.specs.Forming.{is_end, form_pass}
-use Rattle.st_asm.specs.Alone.{laid_alone, laid_if_read, laid_by, laid_with}
+use Rattle.st_asm.specs.Forming.{form_pass}
+use Rattle.st_asm.specs.Alone.{laid_alone, laid_if_read, laid_by}
 use Rattle.st_asm.specs.declared.alone.LaidBits.{LaidBits}
 use Rattle.st_object.specs.Object.{Program, IsProgram, AreWords}
-use Rattle.st_dis.specs.Spelling.{says, number_text, statements_of}
+use Rattle.st_dis.specs.Spelling.{number_text, statements_of}
 use Rattle.st_dis.specs.Deck.{statement_card, location_text, location_cards, placed, word_cards, end_text, marked, order_cards, back_cards, show_cards, deck_cards, deck_of, deck_text, card_count}
 use Rattle.st_dis.proofs.Spelled.{statements-cases, whole_bits, half_bits}
 use Rattle.st_dis.proofs.WordRead.{says-lays}
@@ -45,7 +42,8 @@ placed-texts w before word =
     let texts = statements_of word in
     let card = statement_card (location_text w) in
     let location : (b : Bool) → (if b then card ∷ [] else []) ++ map statement_card texts
-    ≡ map statement_card ((if b then location_text w ∷ [] else []) ++ texts) = λ b. elim b as (λ b. (if b then card ∷ [] else []) ++ map statement_card texts
+    ≡ map statement_card ((if b then location_text w ∷ [] else []) ++ texts) = λ b.
+    elim b as (λ b. (if b then card ∷ [] else []) ++ map statement_card texts
     ≡ map statement_card ((if b then location_text w ∷ [] else []) ++ texts)) [
       | true ↦ refl
       | false ↦ refl
@@ -102,7 +100,8 @@ both_texts ts us first second = record {
 
 -- what lays bits is not the end
 lays_by : (known faultless : Bool) (length bits : ℕ) (wanted : LaidBits) →
-    (if known then (if faultless then Some (record { length = length; bits = bits }) else None) else None) ≡ Some wanted → length ≡ wanted.length
+    (if known then (if faultless then Some (record { length = length; bits = bits }) else None) else None) ≡ Some wanted →
+    length ≡ wanted.length
 lays_by true true length bits wanted lays = cc
 lays_by true false length bits wanted lays = let no : ⊥ = cc in absurd no
 lays_by false faultless length bits wanted lays = let no : ⊥ = cc in absurd no

@@ -1,10 +1,10 @@
 -- The form pass over statement cards without names, with control cards behind them.
-use Rattle.std.proofs.Common.{◌≡◌, ◌<◌, ◌≤◌, ◌+◌, ◌*◌, ◌-◌, ◌==◌, ◌||◌, ℕ, zero, suc, Bool, true, false, not, List, [], ◌∷◌, ◌++◌, length, map, filter, take, drop, Option, Some, None, Result, Ok, Err, if◌then◌else◌, refl, sym, ap, subst, ◌∙◌, append_assoc, append-nil, length-append, codes, decimal, arith}
-use Rattle.std.specs.List.{All, list_all}
+use Rattle.std.proofs.Common.{◌≡◌, ◌≤◌, ◌+◌, ◌==◌, ℕ, zero, suc, Bool, true, false, not, List, [], ◌∷◌, ◌++◌, length, map, filter, take, Option, Some, None, Result, Ok, Err, if◌then◌else◌, refl, sym, ap, subst, ◌∙◌, append_assoc, append-nil, length-append, arith}
+use Rattle.std.specs.List.{All}
 use Rattle.std.proofs.lemmas.List.{take_all, length-map, map-append}
-use Rattle.std.proofs.lemmas.List.Elements.{All-nil, All-cons, All-head, All-tail, All-append}
+use Rattle.std.proofs.lemmas.List.Elements.{All-nil, All-cons, All-head, All-tail}
 use Rattle.std.proofs.lemmas.Bool.{and_parts}
-use Rattle.st_card.specs.Cards.{is_blank, columns, first_column, kind_of, cards_of, text_in}
+use Rattle.st_card.specs.Cards.{is_blank, kind_of, cards_of, text_in}
 use Rattle.st_card.specs.Controls.{Asked, nothing, added}
 use Rattle.st_card.specs.declared.cards.Card.{Card}
 use Rattle.st_card.specs.declared.cards.CardKind.{CardKind}
@@ -102,7 +102,8 @@ filled_by text s read true blanks = absurd (blank-unread text s blanks read)
 filled_by text s read false blanks = blanks
 
 -- a card whose statement is read is a statement card
-statement-kind : (text : List ℕ) (s : Statement) → length text ≤ 63 → statement_of [] text ≡ Ok s → kind_of (statement_card text) ≡ StatementCard
+statement-kind : (text : List ℕ) (s : Statement) → length text ≤ 63 → statement_of [] text ≡ Ok s →
+    kind_of (statement_card text) ≡ StatementCard
 statement-kind text s short read =
     let whole : take 63 text ≡ text = take_all 63 text short in
     let filled : is_blank (take 63 text) ≡ false = ap (λ (t : List ℕ). is_blank t) whole ∙ filled_by text s read (is_blank text) refl in
@@ -123,7 +124,8 @@ abbrev found_as : Bool → Asked → List Line → Found
 found_as ended asked lines = record { ended = ended; asked = asked; lines = lines }
 
 -- what a statement card does before the end
-statement-formed : (asked : Asked) (lines : List Line) (n : ℕ) (text : List ℕ) (s : Statement) → length text ≤ 63 → statement_of [] text ≡ Ok s →
+statement-formed : (asked : Asked) (lines : List Line) (n : ℕ) (text : List ℕ) (s : Statement) → length text ≤ 63 →
+    statement_of [] text ≡ Ok s →
     form_text (found_as false asked lines) n (statement_card text) ≡ Ok (found_as (is_end s) asked (lines ++ saying n None s ∷ []))
 unfolding form_statement name_in
 statement-formed asked lines n text s short read =
@@ -161,8 +163,8 @@ statements-lead asked lines n (t ∷ ts) (s ∷ ss) short read not_end =
     )
 
 -- the end behind them
-end-lead : (asked : Asked) (lines : List Line) (n : ℕ) (text : List ℕ) (s : Statement) → length text ≤ 63 → statement_of [] text ≡ Ok s →
-    is_end s ≡ true →
+end-lead : (asked : Asked) (lines : List Line) (n : ℕ) (text : List ℕ) (s : Statement) → length text ≤ 63 →
+    statement_of [] text ≡ Ok s → is_end s ≡ true →
     TextsLead (found_as false asked lines) n (statement_card text ∷ []) (found_as true asked (lines ++ saying n None s ∷ []))
 end-lead asked lines n text s short read last =
     let more : List Line = lines ++ saying n None s ∷ [] in (
@@ -236,7 +238,8 @@ behind_all [] ys all = all
 behind_all (x ∷ xs) ys all = behind_all xs ys (All-tail IsCard x (xs ++ ys) all)
 
 -- a job of statement cards without names, the last of which is the end, and of control cards behind it
-pub record IsJob (texts : List (List ℕ)) (final : List ℕ) (controls : List (List ℕ)) (before : List Statement) (last : Statement) (asked : Asked) : Type 0 where
+pub record IsJob (texts : List (List ℕ)) (final : List ℕ) (controls : List (List ℕ)) (before : List Statement) (last : Statement)
+    (asked : Asked) : Type 0 where
   pub read : AreRead texts before
   pub going : All IsOpen before
   pub final_read : statement_of [] final ≡ Ok last
@@ -288,8 +291,9 @@ job-leads texts final controls before last asked is short =
     (subst (λ (cs : List (List ℕ)). TextsLead unread 1 cs to) (sym whole_cards) whole)
 
 -- the form pass over it
-pub job-formed : (texts : List (List ℕ)) (final : List ℕ) (controls : List (List ℕ)) (before : List Statement) (last : Statement) (asked : Asked) →
-    IsJob texts final controls before last asked → All IsWritten (job_cards texts final controls) → All IsCard (job_cards texts final controls) →
+pub job-formed : (texts : List (List ℕ)) (final : List ℕ) (controls : List (List ℕ)) (before : List Statement) (last : Statement)
+    (asked : Asked) → IsJob texts final controls before last asked → All IsWritten (job_cards texts final controls) →
+    All IsCard (job_cards texts final controls) →
     length (job_cards texts final controls) ≤ 20000 →
     form_pass (deck_of (job_cards texts final controls)) (cards_of (deck_of (job_cards texts final controls)))
     ≡ Ok (found_in_job (before ++ last ∷ []) (length controls) asked)

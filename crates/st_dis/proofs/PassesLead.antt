@@ -1,8 +1,7 @@
 -- The name pass and the value pass over statements that lead from one stand to another.
-use Rattle.std.proofs.Common.{◌≡◌, ℕ, zero, suc, ◌+◌, ◌&&◌, Bool, true, false, not, nat_le, List, [], ◌∷◌, ◌++◌, length, Option, Some, None, unwrap_or, Result, Ok, if◌then◌else◌, refl, ap, sym, ◌∙◌, append_assoc, append-nil, subst, replicate}
+use Rattle.std.proofs.Common.{◌≡◌, ℕ, zero, suc, ◌+◌, Bool, true, false, not, List, [], ◌∷◌, ◌++◌, length, Option, None, Ok, if◌then◌else◌, refl, ap, sym, ◌∙◌, append_assoc, append-nil, subst, replicate}
 use Rattle.std.specs.List.{zip}
 use Rattle.st_card.specs.Cards.{first_fault}
-use Rattle.st_card.specs.declared.faults.Fault.{Fault}
 use Rattle.st_card.specs.declared.faults.Fault.TheVariants.{NameTwice, UndefinedSymbol, SymbolNotEarlier, TooManyNames}
 use Rattle.st_bits.specs.Storage.{words_of_storage}
 use Rattle.st_strap.specs.declared.statement.Statement.{Statement}
@@ -13,11 +12,9 @@ use Rattle.st_asm.specs.Symbols.{table, accepts_all, is_among, is_defined, names
 use Rattle.st_asm.specs.Values.{values_of}
 use Rattle.st_asm.specs.Places.{role_of, length_in, needs_earlier}
 use Rattle.st_asm.specs.Naming.{Named, unnamed, is_statement_earlier, name_fault, name_step, name_card, name_pass}
-use Rattle.st_asm.specs.Checks.{value_fault}
 use Rattle.st_asm.specs.Forming.{is_end}
 use Rattle.st_asm.specs.Laying.{half_word, bits_of}
-use Rattle.st_asm.specs.Valuing.{Laid, unlaid, with_laid, with_silent, value_statement, value_card, value_pass}
-use Rattle.st_asm.specs.declared.naming.Symbol.{Symbol}
+use Rattle.st_asm.specs.Valuing.{Laid, with_laid, value_statement, value_card, value_pass}
 use Rattle.st_asm.specs.declared.valuing.Listed.{Listed}
 use Rattle.st_dis.proofs.Said.{Line, deck_statements, AreRead, spoken_lines, silent_lines}
 use Rattle.st_dis.proofs.StatementSteps.{Stand, stand, Steps, place_at}
@@ -116,12 +113,12 @@ more-passed : (line : Line) (lines : List Line) (here next there : Stand) (place
 more-passed line lines here next there place row named laid rest = record {
   places = place ∷ rest.places;
   names = λ before.
-    ap (λ r. onward (λ s. pass (name_card (is_among [])) (λ l. l.card) s lines) line.card r) (named before)
-    ∙ (rest.names (before ++ place ∷ []) ∙ ap (λ k. Ok (named_at there k)) (append_assoc before (place ∷ []) rest.places));
+      ap (λ r. onward (λ s. pass (name_card (is_among [])) (λ l. l.card) s lines) line.card r) (named before)
+      ∙ (rest.names (before ++ place ∷ []) ∙ ap (λ k. Ok (named_at there k)) (append_assoc before (place ∷ []) rest.places));
   rows = row ∷ rest.rows;
   values = λ before.
-    ap (λ r. onward (λ s. pass (value_card []) (λ p. p.0.card) s (zip lines rest.places)) line.card r) (laid before)
-    ∙ (rest.values (before ++ row ∷ []) ∙ ap (λ k. Ok (laid_at there k)) (append_assoc before (row ∷ []) rest.rows));
+      ap (λ r. onward (λ s. pass (value_card []) (λ p. p.0.card) s (zip lines rest.places)) line.card r) (laid before)
+      ∙ (rest.values (before ++ row ∷ []) ∙ ap (λ k. Ok (laid_at there k)) (append_assoc before (row ∷ []) rest.rows));
 }
 
 silent-passed : (n k : ℕ) (here : Stand) → Passed (silent_lines n k) here here

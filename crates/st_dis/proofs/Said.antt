@@ -1,6 +1,6 @@
 -- What the cards of a deck say: the statements' texts, one after another, and the lines that they are to the passes.
 use Rattle.std.proofs.Common.{◌≡◌, ℕ, zero, suc, ◌+◌, ◌==◌, if◌then◌else◌}
-use Rattle.std.specs.Prelude.{List, [], ◌∷◌, ◌++◌, Result, Ok, None}
+use Rattle.std.specs.Prelude.{List, [], ◌∷◌, ◌++◌, Ok, None}
 use Rattle.st_object.specs.Object.{Program}
 use Rattle.st_strap.specs.Saying.{statement_of}
 use Rattle.st_strap.specs.declared.statement.Statement.{Statement}

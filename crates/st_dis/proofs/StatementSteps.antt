@@ -1,6 +1,5 @@
 -- What a statement does to the location, the image and the start, where its names are known and it has no fault.
-use Rattle.std.proofs.Common.{◌≡◌, ℕ, ℤ, pos, ◌≤◌, ◌<◌, ◌+◌, ◌-◌, ◌*◌, ◌/◌, ◌%◌, ◌^◌, ◌==◌, ◌&&◌, ◌||◌, Bool, true, false, nat_le, nat_lt, not, List, [], ◌∷◌, Option, Some, None, is_none, unwrap_or, Result, Ok, if◌then◌else◌, refl, ap, sym, subst, ◌∙◌, arith}
-use Rattle.std.proofs.Math.Nat.{mod-eq_of_lt}
+use Rattle.std.proofs.Common.{◌≡◌, ℕ, ℤ, ◌≤◌, ◌<◌, ◌+◌, ◌*◌, ◌%◌, ◌^◌, ◌==◌, ◌&&◌, ◌||◌, Bool, true, false, nat_le, nat_lt, not, List, [], ◌∷◌, Option, Some, None, is_none, unwrap_or, Ok, if◌then◌else◌, refl, ap, sym, ◌∙◌, arith}
 use Rattle.std.proofs.lemmas.Bool.{and_from as both_true}
 use Rattle.std.proofs.lemmas.Bool.Decides.{nat_tests}
 use Rattle.st_card.specs.Cards.{first_fault}
@@ -53,7 +52,8 @@ record LaysAlone (s : Statement) (wanted : LaidBits) : Type 0 where
   faultless : value_fault s (values_of [] s) unnamed.location ≡ None
   laid : record { length = length_in (role_of s); bits = bits_of s (values_of [] s) } ≡ wanted
 
-both_hold : (b c : Bool) (x y : LaidBits) → (if b then (if c then Some x else None) else None) ≡ Some y → (b ≡ true) × (c ≡ true) × (x ≡ y)
+both_hold : (b c : Bool) (x y : LaidBits) → (if b then (if c then Some x else None) else None) ≡ Some y →
+    (b ≡ true) × (c ≡ true) × (x ≡ y)
 both_hold true true x y same = (refl, refl, cc)
 both_hold true false x y same = let no : ⊥ = cc in absurd no
 both_hold false c x y same = let no : ⊥ = cc in absurd no
@@ -62,7 +62,8 @@ is-none : (o : Option Fault) → is_none o ≡ true → o ≡ None
 is-none None h = refl
 is-none (Some f) h = let no : ⊥ = cc in absurd no
 
-lays-alone : (t : List ℕ) (s : Statement) (wanted : LaidBits) → statement_of [] t ≡ Ok s → laid_alone [] t ≡ Some wanted → LaysAlone s wanted
+lays-alone : (t : List ℕ) (s : Statement) (wanted : LaidBits) → statement_of [] t ≡ Ok s → laid_alone [] t ≡ Some wanted →
+    LaysAlone s wanted
 unfolding laid_alone laid_by
 lays-alone t s wanted read lays =
     let here : laid_by [] s ≡ Some wanted = sym (ap (λ r. laid_if_read [] r) read) ∙ lays in
@@ -200,7 +201,7 @@ lays-steps t s n bits a start old new read lays is image =
       faultless = faultless-elsewhere s (values_of [] s) unnamed.location (unwrap_or (place_in (role_of s) a v) 0) alone.faultless inside;
       location = on.behind;
       image = ap (λ k. image_with old k (length_in (role_of s)) (bits_of s (values_of [] s))) place
-      ∙ (ap (λ k. image_with old a k (bits_of s (values_of [] s))) long ∙ (ap (λ k. image_with old a n k) number ∙ image));
+          ∙ (ap (λ k. image_with old a k (bits_of s (values_of [] s))) long ∙ (ap (λ k. image_with old a n k) number ∙ image));
       start = ap (λ b. if b then half_word v else start) on.no_end;
     }
 

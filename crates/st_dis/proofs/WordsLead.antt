@@ -1,5 +1,5 @@
 -- The statements of a deck, one after another, lead from an empty image to the words of the program.
-use Rattle.std.proofs.Common.{◌≡◌, ℕ, suc, ◌≤◌, ◌<◌, ◌+◌, ◌-◌, ◌*◌, ◌/◌, ◌%◌, ◌^◌, ◌==◌, Bool, true, false, List, [], ◌∷◌, ◌++◌, length, replicate, get_or, Option, Some, None, Result, Ok, if◌then◌else◌, refl, ap, sym, subst, ◌∙◌, append_assoc, append-nil, length-append, arith, zero, ◌⊎◌, inl, inr, nat_lt}
+use Rattle.std.proofs.Common.{◌≡◌, ℕ, suc, ◌≤◌, ◌<◌, ◌+◌, ◌*◌, ◌/◌, ◌%◌, ◌^◌, ◌==◌, Bool, true, false, List, [], ◌∷◌, ◌++◌, length, replicate, get_or, Some, Result, Ok, if◌then◌else◌, refl, ap, sym, subst, ◌∙◌, append_assoc, length-append, arith, zero, ◌⊎◌, inl, inr, nat_lt}
 use Rattle.std.proofs.Math.Seq.{get_or-append_seam}
 use Rattle.std.proofs.lemmas.Bool.Decides.{nat_tests}
 use Rattle.std.proofs.lemmas.List.Elements.{All-append, All-cons, All-nil, All-head, All-tail, All-replicate}
@@ -19,7 +19,7 @@ use Rattle.st_dis.proofs.Spelled.{whole_bits, half_bits, statements-cases}
 use Rattle.st_dis.proofs.WordRead.{says-lays, data-lays}
 use Rattle.st_dis.proofs.PlacesRead.{location-read, start-read}
 use Rattle.st_dis.proofs.PlacedWords.{word-placed, first-placed, second-placed}
-use Rattle.st_dis.proofs.StatementSteps.{Stand, stand, Steps, IsPlace, word-place, first-place, second-place, lays-steps, set-steps, end-steps}
+use Rattle.st_dis.proofs.StatementSteps.{Stand, stand, Steps, word-place, first-place, second-place, lays-steps, set-steps, end-steps}
 
 -- whatever a text is read as leads from one stand to the other
 abbrev TextLeads : List ℕ → Stand → Stand → Type 0
@@ -133,10 +133,10 @@ word-led w before (suc k) done zs location start size room above words zeros sma
       behind = 64 * w + 64;
       ready = λ some. omega arith;
       lead = subst (λ (b : Bool). Lead (if b then [] else (if before == 0 then location_text w ∷ [] else []) ++ statements_of (suc k)) here there)
-      (sym (more_than_none k))
-      (place-leads w before (statements_of (suc k)) here next there set
-      (λ other. ap (λ a. stand a (done ++ 0 ∷ zs) start) (ready other))
-      (lays-word done zs start words zeros w (suc k) size (above (λ h. omega arith)) room small));
+          (sym (more_than_none k))
+          (place-leads w before (statements_of (suc k)) here next there set
+          (λ other. ap (λ a. stand a (done ++ 0 ∷ zs) start) (ready other))
+          (lays-word done zs start words zeros w (suc k) size (above (λ h. omega arith)) room small));
     }
 
 -- a word that is not zero stands behind the registers
@@ -159,7 +159,8 @@ words-lead ws done (x ∷ xs) w before location start parts size whole words res
     let after = All-tail IsWord x xs rest in
     let zeros : AreWords zs = All-replicate IsWord (length xs) 0 (omega arith) in
     let now = done ++ x ∷ [] in
-    let here : get_or ws w 0 ≡ x = ap (λ k. get_or k w 0) parts ∙ (ap (λ k. get_or (done ++ x ∷ xs) k 0) (sym size) ∙ get_or-append_seam done x xs 0) in
+    let here : get_or ws w 0 ≡ x = ap (λ k. get_or k w 0) parts
+    ∙ (ap (λ k. get_or (done ++ x ∷ xs) k 0) (sym size) ∙ get_or-append_seam done x xs 0) in
     let above : (x ≡ 0 → ⊥) → 32 ≤ w = λ some. elim (is-below w) as (λ h. 32 ≤ w) [
       | inl low ↦ absurd (some (sym here ∙ registers w low))
       | inr high ↦ high
@@ -168,10 +169,12 @@ words-lead ws done (x ∷ xs) w before location start parts size whole words res
     let long = length-append done (x ∷ []) in
     let more = words-lead ws now xs (w + 1) x led.behind start (parts ∙ sym (append_assoc done (x ∷ []) xs)) (omega (arith, long, size))
     (omega (arith, whole)) (All-append IsWord done (x ∷ []) words (All-cons IsWord x [] small (All-nil IsWord))) after registers led.ready in
-    let turned : now ++ zs ≡ done ++ x ∷ zs = append_assoc done (x ∷ []) zs in
-    (more.0, lead-behind (word_statements w before x) (statements_from (w + 1) x xs) (stand location (done ++ 0 ∷ zs) start)
-    (stand led.behind (done ++ x ∷ zs) start) (stand more.0 ws start) led.lead
-    (subst (λ k. Lead (statements_from (w + 1) x xs) (stand led.behind k start) (stand more.0 ws start)) turned more.1))
+    let turned : now ++ zs ≡ done ++ x ∷ zs = append_assoc done (x ∷ []) zs in (
+      more.0,
+      lead-behind (word_statements w before x) (statements_from (w + 1) x xs) (stand location (done ++ 0 ∷ zs) start)
+          (stand led.behind (done ++ x ∷ zs) start) (stand more.0 ws start) led.lead
+          (subst (λ k. Lead (statements_from (w + 1) x xs) (stand led.behind k start) (stand more.0 ws start)) turned more.1),
+    )
 
 -- all statements of a deck
 deck-lead : (p : Program) (location : ℕ) → IsProgram p → AreWords p.words →
@@ -182,11 +185,13 @@ deck-lead p location is words =
     is.registers (λ some. absurd (some refl)) in
     let first = stand location (replicate words_of_storage 0) 0 in
     let last = stand all.0 p.words 0 in
-    let end = stand all.0 p.words p.start in
-    (all.0, lead-behind (statements_from 0 0 p.words) (end_text p.start ∷ []) first last end
-    (subst (λ n. Lead (statements_from 0 0 p.words) (stand location (replicate n 0) 0) last) size all.1)
-    (one-leads (end_text p.start) last end (text-leads (end_text p.start) (End (number_expr (32 * p.start))) last end
-    (start-read p.start is.start) (end-steps p.start all.0 0 p.words is.start))))
+    let end = stand all.0 p.words p.start in (
+      all.0,
+      lead-behind (statements_from 0 0 p.words) (end_text p.start ∷ []) first last end
+          (subst (λ n. Lead (statements_from 0 0 p.words) (stand location (replicate n 0) 0) last) size all.1)
+          (one-leads (end_text p.start) last end (text-leads (end_text p.start) (End (number_expr (32 * p.start))) last end
+          (start-read p.start is.start) (end-steps p.start all.0 0 p.words is.start))),
+    )
 
 -- so do the statements that they are read as
 pub deck-leads : (p : Program) (ss : List Statement) (location : ℕ) → IsProgram p → AreWords p.words → AreRead (deck_statements p) ss →

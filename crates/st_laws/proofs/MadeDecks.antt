@@ -1,5 +1,5 @@
 -- A made deck is a text of cards, which is assembled.
-use Rattle.std.proofs.Common.{◌≡◌, ◌≤◌, ◌<◌, ◌+◌, ◌-◌, ◌*◌, ◌^◌, ℕ, zero, suc, Bool, true, false, nat_le, List, [], ◌∷◌, ◌++◌, length, map, codes, decimal, Ok, refl, sym, ap, ◌∙◌, append_assoc, append-nil, length-append, replicate, arith}
+use Rattle.std.proofs.Common.{◌≡◌, ◌≤◌, ◌+◌, ◌-◌, ◌*◌, ℕ, zero, suc, true, false, nat_le, List, [], ◌∷◌, ◌++◌, length, map, codes, decimal, Ok, refl, sym, ap, ◌∙◌, append_assoc, append-nil, length-append, replicate, arith}
 use Rattle.std.proofs.lemmas.Bool.{and_from as both_true, le-leb as within}
 use Rattle.std.proofs.lemmas.List.{map-append, length-map}
 use Rattle.std.proofs.lemmas.List.Elements.{All-nil, All-cons, All-append}
@@ -26,10 +26,10 @@ use Rattle.st_dis.proofs.ControlsRead.{controls-read}
 use Rattle.st_dis.proofs.PlacesRead.{start-read}
 use Rattle.st_dis.proofs.Said.{spoken_lines, silent_lines}
 use Rattle.st_dis.proofs.FormPass.{IsControl, job_cards, found_in_job, job-formed}
-use Rattle.st_dis.proofs.StatementSteps.{Stand, stand, end-steps}
+use Rattle.st_dis.proofs.StatementSteps.{stand, end-steps}
 use Rattle.st_dis.proofs.PassesLead.{GivesProgram, leads-give}
 use Rattle.st_dis.proofs.ThreePasses.{assembled, defaults-kept}
-use Rattle.st_gen.specs.Deck.{next, after, below, draw, index, word, bit, offset, value, field_length, byte_field_length, field_operands, statement, form_after, card, control, drawn_card, after_cards, drawn_cards, delay_card, delay_cards, closing_cards, made_deck}
+use Rattle.st_gen.specs.Deck.{next, after, below, draw, index, word, bit, offset, value, field_length, byte_field_length, field_operands, statement, form_after, card, control, after_cards, drawn_cards, delay_cards, closing_cards, made_deck}
 use Rattle.st_gen.proofs.Sizes.{statement-short}
 use Rattle.st_gen.proofs.Drawn.{drawn-cases}
 use Rattle.st_laws.proofs.MadeStatements.{IsGood, made-good, wait-good, LeadOn, good-leads, leads-behind}

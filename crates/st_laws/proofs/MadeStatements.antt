@@ -1,5 +1,5 @@
 -- Each statement of a made deck is read, and lays one or two half-words wherever these are in storage.
-use Rattle.std.proofs.Common.{◌≡◌, ◌≤◌, ◌<◌, ◌+◌, ◌-◌, ◌*◌, ◌/◌, ◌%◌, ◌^◌, ◌==◌, ℕ, ℤ, Bool, true, false, nat_le, nat_lt, List, [], ◌∷◌, ◌++◌, Option, Some, None, unwrap_or, length, codes, decimal, Ok, refl, sym, ap, subst, ◌∙◌, if◌then◌else◌, arith}
+use Rattle.std.proofs.Common.{◌≡◌, ◌≤◌, ◌<◌, ◌+◌, ◌-◌, ◌*◌, ◌%◌, ◌^◌, ◌==◌, ℕ, ℤ, true, false, nat_le, nat_lt, List, [], ◌∷◌, ◌++◌, Some, None, unwrap_or, length, codes, Ok, refl, sym, ap, subst, ◌∙◌, if◌then◌else◌, arith}
 use Rattle.std.proofs.lemmas.Bool.Decides.{nat_tests}
 use Rattle.std.proofs.lemmas.List.Elements.{All-nil, All-cons, All-head, All-tail}
 use Rattle.std.specs.List.{All}
@@ -11,7 +11,7 @@ use Rattle.st_bits.specs.declared.operations.VflOp.TheVariants.{L, Add, St, MAdd
 use Rattle.st_bits.specs.declared.operations.ConnKind.TheVariants.{C}
 use Rattle.st_strap.specs.Describing.{plain_form}
 use Rattle.st_strap.specs.Saying.{statement_of}
-use Rattle.st_strap.specs.Spots.{number_spot, operands_text, AreOperands, progressive_form}
+use Rattle.st_strap.specs.Spots.{number_spot, AreOperands, progressive_form}
 use Rattle.st_strap.specs.declared.statement.Form.{Form as FieldForm}
 use Rattle.st_strap.specs.declared.statement.Statement.{Statement}
 use Rattle.st_strap.specs.declared.statement.Statement.TheVariants.{Half, Branch, Vfl, Connect}

@@ -7,7 +7,6 @@ use Rattle.std.proofs.lemmas.Bool.Decides.{nat_tests}
 use Rattle.std.proofs.lemmas.Fmt.{decimal_digit}
 use Rattle.std.proofs.lemmas.List.{take_at, take_all, drop_all}
 use Rattle.std.proofs.lemmas.List.Folds.{list_all-append}
-use Rattle.std.specs.List.{list_all}
 use Rattle.std.specs.Option.{option_map, option_map_or, option_and_then}
 use Rattle.std.specs.Prelude.{slice_get}
 use Rattle.st_bits.specs.declared.operations.HalfOp.{HalfOp}
@@ -20,17 +19,15 @@ use Rattle.st_card.specs.Pieces.{parted, lacks}
 use Rattle.st_card.specs.Tables.{row_of}
 use Rattle.st_card.specs.declared.faults.Fault.TheVariants.{BadName, UnknownOperation, BadDataDescription, BadProgressive}
 use Rattle.st_expr.specs.Expression.{expr_of}
-use Rattle.st_expr.specs.declared.terms.Term.{Term}
 use Rattle.st_strap.specs.Text.{stop, ends_with, clean, group_length, group, behind_group, fields_of}
 use Rattle.st_strap.specs.Table.{operation_of, other_operations, index_operations, field_operations, negated_operation, connective, kinds, truth_tables}
 use Rattle.st_strap.specs.Order.{judged, mapped, both_of}
-use Rattle.st_strap.specs.Describing.{modes, plain_form, default_form, some_number, number_to, in_mode, in_pieces, description_of, may_have, described}
+use Rattle.st_strap.specs.Describing.{modes, plain_form, some_number, number_to, in_mode, in_pieces, description_of, may_have, described}
 use Rattle.st_strap.specs.Forming.{forms, unclosed, is_form, description_in, behind_description, form_number, may_have_form, progressed}
 use Rattle.st_strap.specs.Reading.{front, index_part, index_fields, index_parts, index_field, index_of, spot, unindexed, number_in, number_of, plain_number, number_expr, index_start}
 use Rattle.st_strap.specs.Spots.{number_spot, operands_text, AreOperands, progressive_form}
 use Rattle.st_strap.specs.Saying.{index_and_spot, operand, without_fields, with_fields, is_misnamed, formed, said, clean_statement_of, statement_of}
 use Rattle.st_strap.specs.declared.statement.Form.{Form}
-use Rattle.st_strap.specs.declared.statement.Spot.{Spot}
 use Rattle.st_strap.specs.declared.statement.Statement.TheVariants.{Half, Branch, Vfl, Connect}
 use Rattle.st_strap.specs.declared.descriptions.Description.{Description}
 use Rattle.st_strap.specs.declared.descriptions.Description.TheVariants.{InForm}
