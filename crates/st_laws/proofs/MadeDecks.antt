@@ -281,7 +281,7 @@ all-texts : (P : List ℕ → Type 0) → ((y x : ℕ) → P (statement (form_af
 all-texts P each wait end cards x =
     All-append P (made_texts cards x) (codes "END,32.0" ∷ []) (made-all P each wait cards x) (All-cons P (codes "END,32.0") [] end (All-nil P))
 
-module _ (cards seed : ℕ) (few : cards ≤ 4000) where
+module _ (cards seed : ℕ) (few : cards ≤ 19980) where
   abbrev asked : Asked
   asked = asked_with (cards + 2) (drawn_delays 16 (after_cards cards seed))
 
@@ -372,7 +372,7 @@ module _ (cards seed : ℕ) (few : cards ≤ 4000) where
   asked-kept = let sixteen = drawn_delays-length 16 (after_cards cards seed) in defaults-kept asked (omega arith) (omega (arith, sixteen))
 
 -- a made deck is assembled, its program begins at the first word behind the registers, and it asks for its budget, sixteen delays and the ticks
-pub made-assembled : (seed cards : ℕ) → cards ≤ 4000 →
+pub made-assembled : (seed cards : ℕ) → cards ≤ 19980 →
     (a : Assembly) × (assembly (made_deck seed cards) ≡ Ok a) × (a.start ≡ 64) × (a.asked.budget ≡ cards + 2) × (length a.asked.delays ≡ 16)
     × (a.asked.time ≡ true)
 made-assembled seed cards few =
