@@ -1,5 +1,5 @@
 -- A made deck is a text of cards, which is assembled.
-use Rattle.std.proofs.Common.{◌≡◌, ◌≤◌, ◌<◌, ◌+◌, ◌-◌, ◌*◌, ◌^◌, ℕ, zero, suc, Bool, true, false, nat_le, List, [], ◌∷◌, ◌++◌, length, map, codes, decimal, Ok, refl, sym, ap, ◌∙◌, append_assoc, append-nil, length-append, replicate, arith}
+use Rattle.std.proofs.Common.{◌≡◌, ◌≤◌, ◌+◌, ◌-◌, ◌*◌, ℕ, zero, suc, true, false, nat_le, List, [], ◌∷◌, ◌++◌, length, map, codes, decimal, Ok, refl, sym, ap, ◌∙◌, append_assoc, append-nil, length-append, replicate, arith}
 use Rattle.std.proofs.lemmas.Bool.{and_from as both_true, le-leb as within}
 use Rattle.std.proofs.lemmas.List.{map-append, length-map}
 use Rattle.std.proofs.lemmas.List.Elements.{All-nil, All-cons, All-append}
@@ -26,10 +26,10 @@ use Rattle.st_dis.proofs.ControlsRead.{controls-read}
 use Rattle.st_dis.proofs.PlacesRead.{start-read}
 use Rattle.st_dis.proofs.Said.{spoken_lines, silent_lines}
 use Rattle.st_dis.proofs.FormPass.{IsControl, job_cards, found_in_job, job-formed}
-use Rattle.st_dis.proofs.StatementSteps.{Stand, stand, end-steps}
+use Rattle.st_dis.proofs.StatementSteps.{stand, end-steps}
 use Rattle.st_dis.proofs.PassesLead.{GivesProgram, leads-give}
 use Rattle.st_dis.proofs.ThreePasses.{assembled, defaults-kept}
-use Rattle.st_gen.specs.Deck.{next, after, below, draw, index, word, bit, offset, value, field_length, byte_field_length, field_operands, statement, form_after, card, control, drawn_card, after_cards, drawn_cards, delay_card, delay_cards, closing_cards, made_deck}
+use Rattle.st_gen.specs.Deck.{next, after, below, draw, index, word, bit, offset, value, field_length, byte_field_length, field_operands, statement, form_after, card, control, after_cards, drawn_cards, delay_cards, closing_cards, made_deck}
 use Rattle.st_gen.proofs.Sizes.{statement-short}
 use Rattle.st_gen.proofs.Drawn.{drawn-cases}
 use Rattle.st_laws.proofs.MadeStatements.{IsGood, made-good, wait-good, LeadOn, good-leads, leads-behind}
@@ -73,7 +73,8 @@ operands-plain x =
 
 load_value-plain : (x : ℕ) → IsPlain (codes "LVI,$X" ++ index 1 x ++ codes "," ++ word 2 x ++ codes ".0")
 load_value-plain x =
-    held (codes "LVI,$X" ++ index 1 x ++ codes ",") (codes ".0") (4096 + draw 2 256 x) (held (codes "LVI,$X") (codes ",") (1 + draw 1 7 x) refl refl) refl
+    held (codes "LVI,$X" ++ index 1 x ++ codes ",") (codes ".0") (4096 + draw 2 256 x)
+    (held (codes "LVI,$X") (codes ",") (1 + draw 1 7 x) refl refl) refl
 
 add_value-plain : (x : ℕ) → IsPlain (codes "V+I,$X" ++ index 1 x ++ codes "," ++ value 2 x ++ codes ".0")
 add_value-plain x =
@@ -110,7 +111,8 @@ abbrev made_texts : ℕ → ℕ → List (List ℕ)
 made_texts cards x = drawn_texts cards x ++ codes "BEW" ∷ []
 
 made-all : (P : List ℕ → Type 0) → ((y x : ℕ) → P (statement (form_after y) x)) → P (codes "BEW") → (cards x : ℕ) → All P (made_texts cards x)
-made-all P each wait cards x = All-append P (drawn_texts cards x) (codes "BEW" ∷ []) (drawn-all P each cards x) (All-cons P (codes "BEW") [] wait (All-nil P))
+made-all P each wait cards x = All-append P (drawn_texts cards x) (codes "BEW" ∷ []) (drawn-all P each cards x)
+    (All-cons P (codes "BEW") [] wait (All-nil P))
 
 -- ---- what the control cards ask for
 
@@ -120,7 +122,8 @@ drawn_delays zero x = []
 drawn_delays (suc n) x = drawn_delays n x ++ (1 + below 20 (next (after n x))) ∷ []
 
 one-delay : (y : ℕ) → is_among 1 255 (1 + below 20 y) ≡ true
-one-delay y = both_true (nat_le 1 (1 + below 20 y)) (nat_le (1 + below 20 y) 255) (within 1 (1 + below 20 y) (omega arith)) (within (1 + below 20 y) 255 (omega arith))
+one-delay y = both_true (nat_le 1 (1 + below 20 y)) (nat_le (1 + below 20 y) 255) (within 1 (1 + below 20 y) (omega arith))
+    (within (1 + below 20 y) 255 (omega arith))
 
 drawn_delays-among : (n x : ℕ) → AllPass (is_among 1 255) (drawn_delays n x)
 unfolding drawn_delays
@@ -153,7 +156,8 @@ asked_with budget delays = record {
   back = 0;
 }
 
-asked-within : (budget : ℕ) (delays : List ℕ) → budget ≤ 10000000 → AllPass (is_among 1 255) delays → length delays ≤ 4096 → IsWithinLimits (asked_with budget delays)
+asked-within : (budget : ℕ) (delays : List ℕ) → budget ≤ 10000000 → AllPass (is_among 1 255) delays → length delays ≤ 4096 →
+    IsWithinLimits (asked_with budget delays)
 asked-within budget delays small each few = record {
   budget = small;
   delays = record { each = each; few = few };
@@ -213,7 +217,8 @@ abbrev controls : Asked → List (List ℕ)
 controls asked = order_cards asked ++ show_cards asked
 
 controls-are : (budget : ℕ) (delays : List ℕ) →
-    controls (asked_with budget delays) ≡ (codes "/BUDGET " ++ decimal budget) ∷ (map (λ d. codes "/DELAYS " ++ decimal d) delays ++ codes "/TIME" ∷ [])
+    controls (asked_with budget delays) ≡ (codes "/BUDGET " ++ decimal budget)
+    ∷ (map (λ d. codes "/DELAYS " ++ decimal d) delays ++ codes "/TIME" ∷ [])
 controls-are budget delays =
     let cards = map (λ d. codes "/DELAYS " ++ decimal d) delays in
     ap (λ (cs : List (List ℕ)). (codes "/BUDGET " ++ decimal budget) ∷ (cs ++ codes "/TIME" ∷ [])) (append-nil (cards ++ []) ∙ append-nil cards)
@@ -240,9 +245,11 @@ closing-is cards x =
     let third : control budget ++ deck_of (delays ++ time) ≡ deck_of (budget ∷ (delays ++ time)) =
     ap (λ (t : List ℕ). t ++ deck_of (delays ++ time)) (control-is budget) ∙ sym (cards-behind (budget ∷ []) (delays ++ time)) in
     let second : card (codes "END,32.0") ++ deck_of (budget ∷ (delays ++ time)) ≡ deck_of (end ∷ budget ∷ (delays ++ time)) =
-    ap (λ (t : List ℕ). t ++ deck_of (budget ∷ (delays ++ time))) (card-is (codes "END,32.0")) ∙ sym (cards-behind (end ∷ []) (budget ∷ (delays ++ time))) in
+    ap (λ (t : List ℕ). t ++ deck_of (budget ∷ (delays ++ time))) (card-is (codes "END,32.0"))
+    ∙ sym (cards-behind (end ∷ []) (budget ∷ (delays ++ time))) in
     let first : card (codes "BEW") ++ deck_of (end ∷ budget ∷ (delays ++ time)) ≡ deck_of (wait ∷ end ∷ budget ∷ (delays ++ time)) =
-    ap (λ (t : List ℕ). t ++ deck_of (end ∷ budget ∷ (delays ++ time))) (card-is (codes "BEW")) ∙ sym (cards-behind (wait ∷ []) (end ∷ budget ∷ (delays ++ time))) in
+    ap (λ (t : List ℕ). t ++ deck_of (end ∷ budget ∷ (delays ++ time))) (card-is (codes "BEW"))
+    ∙ sym (cards-behind (wait ∷ []) (end ∷ budget ∷ (delays ++ time))) in
     five (card (codes "BEW")) (card (codes "END,32.0")) (control budget) (delay_cards 16 x) (control (codes "/TIME"))
     ∙ (ap (λ (t : List ℕ). card (codes "BEW") ++ (card (codes "END,32.0") ++ (control budget ++ t))) last
     ∙ (ap (λ (t : List ℕ). card (codes "BEW") ++ (card (codes "END,32.0") ++ t)) third
@@ -257,7 +264,8 @@ made-is seed cards =
     let wait = statement_card (codes "BEW") in
     let end = statement_card (codes "END,32.0") in
     let rest = controls (asked_with (cards + 2) (drawn_delays 16 x)) in
-    let one : map statement_card (drawn_texts cards seed ++ codes "BEW" ∷ []) ≡ drawn ++ wait ∷ [] = map-append statement_card (drawn_texts cards seed) (codes "BEW" ∷ []) in
+    let one : map statement_card (drawn_texts cards seed ++ codes "BEW" ∷ []) ≡ drawn ++ wait ∷ [] =
+    map-append statement_card (drawn_texts cards seed) (codes "BEW" ∷ []) in
     let two : map statement_card (made_texts cards seed ++ codes "END,32.0" ∷ []) ≡ (drawn ++ wait ∷ []) ++ end ∷ [] =
     map-append statement_card (made_texts cards seed) (codes "END,32.0" ∷ []) ∙ ap (λ (cs : List (List ℕ)). cs ++ end ∷ []) one in
     let flat : made_cards cards seed ≡ drawn ++ wait ∷ end ∷ rest =
@@ -281,7 +289,7 @@ all-texts : (P : List ℕ → Type 0) → ((y x : ℕ) → P (statement (form_af
 all-texts P each wait end cards x =
     All-append P (made_texts cards x) (codes "END,32.0" ∷ []) (made-all P each wait cards x) (All-cons P (codes "END,32.0") [] end (All-nil P))
 
-module _ (cards seed : ℕ) (few : cards ≤ 4000) where
+module _ (cards seed : ℕ) (few : cards ≤ 19980) where
   abbrev asked : Asked
   asked = asked_with (cards + 2) (drawn_delays 16 (after_cards cards seed))
 
@@ -341,7 +349,8 @@ module _ (cards seed : ℕ) (few : cards ≤ 4000) where
   abbrev last : Statement
   last = End (number_expr 2048)
 
-  gives : GivesProgram (spoken_lines 1 (lead-on.statements ++ last ∷ []) ++ silent_lines (length (lead-on.statements ++ last ∷ []) + 1) (length (controls asked)))
+  gives : GivesProgram (spoken_lines 1 (lead-on.statements ++ last ∷ []) ++ silent_lines (length (lead-on.statements ++ last ∷ []) + 1)
+      (length (controls asked)))
       lead-on.image 64
   gives =
       leads-give (lead-on.statements ++ last ∷ []) (length (controls asked)) lead-on.image 64 lead-on.location
@@ -365,19 +374,21 @@ module _ (cards seed : ℕ) (few : cards ≤ 4000) where
   job-assembled : assembly (deck_of (made_cards cards seed))
       ≡ Ok (together (found_in_job (lead-on.statements ++ last ∷ []) (length (controls asked)) asked) gives.named gives.laid)
   job-assembled =
-      assembled (deck_of (made_cards cards seed)) (found_in_job (lead-on.statements ++ last ∷ []) (length (controls asked)) asked) gives.named gives.laid
+      assembled (deck_of (made_cards cards seed)) (found_in_job (lead-on.statements ++ last ∷ []) (length (controls asked)) asked) gives.named
+      gives.laid
       formed gives.names gives.values
 
   asked-kept : with_defaults asked ≡ asked
   asked-kept = let sixteen = drawn_delays-length 16 (after_cards cards seed) in defaults-kept asked (omega arith) (omega (arith, sixteen))
 
 -- a made deck is assembled, its program begins at the first word behind the registers, and it asks for its budget, sixteen delays and the ticks
-pub made-assembled : (seed cards : ℕ) → cards ≤ 4000 →
+pub made-assembled : (seed cards : ℕ) → cards ≤ 19980 →
     (a : Assembly) × (assembly (made_deck seed cards) ≡ Ok a) × (a.start ≡ 64) × (a.asked.budget ≡ cards + 2) × (length a.asked.delays ≡ 16)
     × (a.asked.time ≡ true)
 made-assembled seed cards few =
     let kept = asked-kept cards seed few in (
-      together (found_in_job ((lead-on cards seed few).statements ++ last cards seed few ∷ []) (length (controls (asked cards seed few))) (asked cards seed few))
+      together (found_in_job ((lead-on cards seed few).statements ++ last cards seed few ∷ []) (length (controls (asked cards seed few)))
+          (asked cards seed few))
           (gives cards seed few).named (gives cards seed few).laid,
       ap (λ (t : List ℕ). assembly t) (made-is seed cards) ∙ job-assembled cards seed few,
       (gives cards seed few).begins,

@@ -1,5 +1,5 @@
 -- Each statement of a made deck is read, and lays one or two half-words wherever these are in storage.
-use Rattle.std.proofs.Common.{◌≡◌, ◌≤◌, ◌<◌, ◌+◌, ◌-◌, ◌*◌, ◌/◌, ◌%◌, ◌^◌, ◌==◌, ℕ, ℤ, Bool, true, false, nat_le, nat_lt, List, [], ◌∷◌, ◌++◌, Option, Some, None, unwrap_or, length, codes, decimal, Ok, refl, sym, ap, subst, ◌∙◌, if◌then◌else◌, arith}
+use Rattle.std.proofs.Common.{◌≡◌, ◌≤◌, ◌<◌, ◌+◌, ◌-◌, ◌*◌, ◌%◌, ◌^◌, ◌==◌, ℕ, ℤ, true, false, nat_le, nat_lt, List, [], ◌∷◌, ◌++◌, Some, None, unwrap_or, length, codes, Ok, refl, sym, ap, subst, ◌∙◌, if◌then◌else◌, arith}
 use Rattle.std.proofs.lemmas.Bool.Decides.{nat_tests}
 use Rattle.std.proofs.lemmas.List.Elements.{All-nil, All-cons, All-head, All-tail}
 use Rattle.std.specs.List.{All}
@@ -11,7 +11,7 @@ use Rattle.st_bits.specs.declared.operations.VflOp.TheVariants.{L, Add, St, MAdd
 use Rattle.st_bits.specs.declared.operations.ConnKind.TheVariants.{C}
 use Rattle.st_strap.specs.Describing.{plain_form}
 use Rattle.st_strap.specs.Saying.{statement_of}
-use Rattle.st_strap.specs.Spots.{number_spot, operands_text, AreOperands, progressive_form}
+use Rattle.st_strap.specs.Spots.{number_spot, AreOperands, progressive_form}
 use Rattle.st_strap.specs.declared.statement.Form.{Form as FieldForm}
 use Rattle.st_strap.specs.declared.statement.Statement.{Statement}
 use Rattle.st_strap.specs.declared.statement.Statement.TheVariants.{Half, Branch, Vfl, Connect}
@@ -112,7 +112,8 @@ field-lays op f a i o small short = record {
   laid = refl;
 }
 
-field-good : (text : List ℕ) (op : VflOp) (f : FieldForm) (a i o : ℕ) → statement_of [] text ≡ Ok (Vfl op false f (number_spot a i) o) → a < 2 ^ 24 → o ≤ 127 →
+field-good : (text : List ℕ) (op : VflOp) (f : FieldForm) (a i o : ℕ) → statement_of [] text ≡ Ok (Vfl op false f (number_spot a i) o) →
+    a < 2 ^ 24 → o ≤ 127 →
     IsGood text
 field-good text op f a i o read small short = record {
   statement = Vfl op false f (number_spot a i) o;
@@ -146,7 +147,8 @@ connect-lays f a o small short = record {
   laid = refl;
 }
 
-connect-good : (text : List ℕ) (f : FieldForm) (a o : ℕ) → statement_of [] text ≡ Ok (Connect C 6 f (number_spot a 0) o) → a < 2 ^ 24 → o ≤ 127 → IsGood text
+connect-good : (text : List ℕ) (f : FieldForm) (a o : ℕ) → statement_of [] text ≡ Ok (Connect C 6 f (number_spot a 0) o) → a < 2 ^ 24 → o ≤ 127 →
+    IsGood text
 connect-good text f a o read small short = record {
   statement = Connect C 6 f (number_spot a 0) o;
   count = 64;
@@ -210,23 +212,27 @@ load_word-good x =
 
 add-good : (x : ℕ) → IsGood (codes "+" ++ field_operands x)
 add-good x =
-    field-good (codes "+" ++ field_operands x) Add (plain_form false true (1 + draw 1 64 x) 8) (64 * (4096 + draw 2 256 x) + draw 3 64 x) 0 (draw 4 64 x)
+    field-good (codes "+" ++ field_operands x) Add (plain_form false true (1 + draw 1 64 x) 8)
+    (64 * (4096 + draw 2 256 x) + draw 3 64 x) 0 (draw 4 64 x)
     (add-read (1 + draw 1 64 x) (4096 + draw 2 256 x) (draw 3 64 x) (draw 4 64 x) (drawn-operands x)) (omega arith) (omega arith)
 
 store-good : (x : ℕ) → IsGood (codes "ST" ++ field_operands x)
 store-good x =
-    field-good (codes "ST" ++ field_operands x) St (plain_form false true (1 + draw 1 64 x) 8) (64 * (4096 + draw 2 256 x) + draw 3 64 x) 0 (draw 4 64 x)
+    field-good (codes "ST" ++ field_operands x) St (plain_form false true (1 + draw 1 64 x) 8)
+    (64 * (4096 + draw 2 256 x) + draw 3 64 x) 0 (draw 4 64 x)
     (store-read (1 + draw 1 64 x) (4096 + draw 2 256 x) (draw 3 64 x) (draw 4 64 x) (drawn-operands x)) (omega arith) (omega arith)
 
 add_one-good : (x : ℕ) → IsGood (codes "M+1(B," ++ byte_field_length 1 x ++ codes ",8)," ++ word 2 x ++ codes "." ++ bit 3 x)
 add_one-good x =
     field-good (codes "M+1(B," ++ byte_field_length 1 x ++ codes ",8)," ++ word 2 x ++ codes "." ++ bit 3 x) MAdd1
     (plain_form false false (8 + draw 1 57 x) 8) (64 * (4096 + draw 2 256 x) + draw 3 64 x) 0 0
-    (add_one-read (8 + draw 1 57 x) (4096 + draw 2 256 x) (draw 3 64 x) (omega arith) (omega arith) (omega arith) (omega arith)) (omega arith) (omega arith)
+    (add_one-read (8 + draw 1 57 x) (4096 + draw 2 256 x) (draw 3 64 x) (omega arith) (omega arith) (omega arith) (omega arith)) (omega arith)
+    (omega arith)
 
 connect-drawn : (x : ℕ) → IsGood (codes "C0110" ++ field_operands x)
 connect-drawn x =
-    connect-good (codes "C0110" ++ field_operands x) (plain_form false true (1 + draw 1 64 x) 8) (64 * (4096 + draw 2 256 x) + draw 3 64 x) (draw 4 64 x)
+    connect-good (codes "C0110" ++ field_operands x) (plain_form false true (1 + draw 1 64 x) 8) (64 * (4096 + draw 2 256 x) + draw 3 64 x)
+    (draw 4 64 x)
     (connect-read (1 + draw 1 64 x) (4096 + draw 2 256 x) (draw 3 64 x) (draw 4 64 x) (drawn-operands x)) (omega arith) (omega arith)
 
 multiply-good : (x : ℕ) → IsGood (codes "*(BU," ++ field_length 1 x ++ codes ")(V+I),0.32($X" ++ index 2 x ++ codes ")")
@@ -294,7 +300,8 @@ good-leads (t ∷ ts) a start image good even above room =
     let halves = first.lays.halves in
     let few = first.lays.few in
     let next = image_with image a count (bits_of s (values_of [] s)) in
-    let rest = good-leads ts (a + count) start next (All-tail IsGood t ts good) (omega (arith, even, halves)) (omega arith) (omega (arith, few, room)) in
+    let rest = good-leads ts (a + count) start next (All-tail IsGood t ts good) (omega (arith, even, halves)) (omega arith)
+    (omega (arith, few, room)) in
     record {
       statements = s ∷ rest.statements;
       read = (first.read, rest.read);
@@ -305,6 +312,7 @@ good-leads (t ∷ ts) a start image good even above room =
     }
 
 -- one more statement behind them
-pub leads-behind : (ss : List Statement) (s : Statement) (here next there : Stand) → Leads ss here next → Steps s next there → Leads (ss ++ s ∷ []) here there
+pub leads-behind : (ss : List Statement) (s : Statement) (here next there : Stand) → Leads ss here next → Steps s next there →
+    Leads (ss ++ s ∷ []) here there
 leads-behind [] s here next there same step = (there, subst (λ (k : Stand). Steps s k there) (sym same) step, refl)
 leads-behind (x ∷ xs) s here next there lead step = (lead.0, lead.1, leads-behind xs s lead.0 next there lead.2 step)

@@ -7,7 +7,6 @@ use Rattle.std.proofs.lemmas.Bool.Decides.{nat_tests}
 use Rattle.std.proofs.lemmas.Fmt.{decimal_digit}
 use Rattle.std.proofs.lemmas.List.{take_at, take_all, drop_all}
 use Rattle.std.proofs.lemmas.List.Folds.{list_all-append}
-use Rattle.std.specs.List.{list_all}
 use Rattle.std.specs.Option.{option_map, option_map_or, option_and_then}
 use Rattle.std.specs.Prelude.{slice_get}
 use Rattle.st_bits.specs.declared.operations.HalfOp.{HalfOp}
@@ -20,17 +19,15 @@ use Rattle.st_card.specs.Pieces.{parted, lacks}
 use Rattle.st_card.specs.Tables.{row_of}
 use Rattle.st_card.specs.declared.faults.Fault.TheVariants.{BadName, UnknownOperation, BadDataDescription, BadProgressive}
 use Rattle.st_expr.specs.Expression.{expr_of}
-use Rattle.st_expr.specs.declared.terms.Term.{Term}
 use Rattle.st_strap.specs.Text.{stop, ends_with, clean, group_length, group, behind_group, fields_of}
 use Rattle.st_strap.specs.Table.{operation_of, other_operations, index_operations, field_operations, negated_operation, connective, kinds, truth_tables}
 use Rattle.st_strap.specs.Order.{judged, mapped, both_of}
-use Rattle.st_strap.specs.Describing.{modes, plain_form, default_form, some_number, number_to, in_mode, in_pieces, description_of, may_have, described}
+use Rattle.st_strap.specs.Describing.{modes, plain_form, some_number, number_to, in_mode, in_pieces, description_of, may_have, described}
 use Rattle.st_strap.specs.Forming.{forms, unclosed, is_form, description_in, behind_description, form_number, may_have_form, progressed}
 use Rattle.st_strap.specs.Reading.{front, index_part, index_fields, index_parts, index_field, index_of, spot, unindexed, number_in, number_of, plain_number, number_expr, index_start}
 use Rattle.st_strap.specs.Spots.{number_spot, operands_text, AreOperands, progressive_form}
 use Rattle.st_strap.specs.Saying.{index_and_spot, operand, without_fields, with_fields, is_misnamed, formed, said, clean_statement_of, statement_of}
 use Rattle.st_strap.specs.declared.statement.Form.{Form}
-use Rattle.st_strap.specs.declared.statement.Spot.{Spot}
 use Rattle.st_strap.specs.declared.statement.Statement.TheVariants.{Half, Branch, Vfl, Connect}
 use Rattle.st_strap.specs.declared.descriptions.Description.{Description}
 use Rattle.st_strap.specs.declared.descriptions.Description.TheVariants.{InForm}
@@ -247,8 +244,10 @@ module _ (inside : List ℕ) (lack : lacks 41 inside ≡ true) where
       ap (λ b. if b then [] else group text) no_form ∙ group-is rest in
       let behind : behind_description text ≡ rest =
       ap (λ b. if b then text else behind_group text) no_form ∙ group-behind rest in
-      ap (λ (d : List ℕ). judged BadDataDescription (option_and_then (described op) (description_of d)) (λ d. formed d.0 d.1 (behind_description text))) first
-      ∙ (ap (λ (o : Option Description). judged BadDataDescription (option_and_then (described op) o) (λ d. formed d.0 d.1 (behind_description text))) description-is
+      ap (λ (d : List ℕ). judged BadDataDescription (option_and_then (described op) (description_of d))
+      (λ d. formed d.0 d.1 (behind_description text))) first
+      ∙ (ap (λ (o : Option Description). judged BadDataDescription (option_and_then (described op) o)
+      (λ d. formed d.0 d.1 (behind_description text))) description-is
       ∙ ap (λ (t : List ℕ). judged BadDataDescription (option_and_then (described op) (in_pieces (parted 44 inside))) (λ d. formed d.0 d.1 t)) behind)
 
 -- ---- descriptions
@@ -271,7 +270,8 @@ signed_form n = plain_form false false n 8
 unsigned-pieces : (n : ℕ) → 1 ≤ n → n ≤ 64 → in_pieces (parted 44 (codes "BU," ++ decimal n)) ≡ Some (InForm (unsigned_form n))
 unfolding modes in_mode
 unsigned-pieces n some few =
-    ap (λ (ps : List (List ℕ)). in_pieces ((66 ∷ 85 ∷ []) ∷ ps)) (lacks-parted 44 (decimal n) (decimal-lacks 44 n (low_other 44 (omega arith)) (omega arith)))
+    ap (λ (ps : List (List ℕ)). in_pieces ((66 ∷ 85 ∷ []) ∷ ps))
+    (lacks-parted 44 (decimal n) (decimal-lacks 44 n (low_other 44 (omega arith)) (omega arith)))
     ∙ ap (λ o. option_map (λ k. InForm (unsigned_form k)) o) (number-to n some few)
 
 eight-to : number_to 8 (codes "8") ≡ Some 8
@@ -281,7 +281,8 @@ eight-to = refl
 signed-pieces : (n : ℕ) → 1 ≤ n → n ≤ 64 → in_pieces (parted 44 (codes "B," ++ (decimal n ++ codes ",8"))) ≡ Some (InForm (signed_form n))
 unfolding modes in_mode
 signed-pieces n some few =
-    ap (λ (ps : List (List ℕ)). in_pieces ((66 ∷ []) ∷ ps)) (parted-once 44 (decimal n) (codes "8") (decimal-lacks 44 n (low_other 44 (omega arith)) (omega arith)))
+    ap (λ (ps : List (List ℕ)). in_pieces ((66 ∷ []) ∷ ps)) (parted-once 44 (decimal n) (codes "8")
+    (decimal-lacks 44 n (low_other 44 (omega arith)) (omega arith)))
     ∙ (ap (λ o. option_and_then (λ k. option_map (λ s. InForm (plain_form false false k s)) (number_to 8 (codes "8"))) o) (number-to n some few)
     ∙ ap (λ o. option_map (λ s. InForm (plain_form false false n s)) o) eight-to)
 
@@ -290,7 +291,8 @@ plain-formed : (op : Operation) (d u : Bool) (n s : ℕ) (text : List ℕ) →
     formed op (plain_form d u n s) (44 ∷ text) ≡ with_fields op (plain_form d u n s) (fields_of (44 ∷ text))
 unfolding formed progressed group_length form_number may_have_form
 plain-formed op d u n s text =
-    ap (λ b. judged BadProgressive (if b then Some (plain_form d u n s) else None) (λ f. with_fields op f (fields_of (44 ∷ text)))) (is_end-comma text)
+    ap (λ b. judged BadProgressive (if b then Some (plain_form d u n s) else None) (λ f. with_fields op f (fields_of (44 ∷ text))))
+    (is_end-comma text)
 
 unsigned-none : (n : ℕ) → is_some (row_of (40 ∷ (codes "BU," ++ decimal n)) forms) ≡ false
 unfolding forms
@@ -327,7 +329,8 @@ unsigned-formed op n rest may some few =
 signed-formed : (op : Operation) (n : ℕ) (rest : List ℕ) → may_have op (signed_form n) ≡ true → 1 ≤ n → n ≤ 64 →
     said op (group_text (codes "B," ++ (decimal n ++ codes ",8")) ++ rest) ≡ formed op (signed_form n) rest
 signed-formed op n rest may some few =
-    described-formed op (codes "B," ++ (decimal n ++ codes ",8")) (signed_form n) rest (signed-lacks 41 n (low_other 41 (omega arith)) refl refl (omega arith))
+    described-formed op (codes "B," ++ (decimal n ++ codes ",8")) (signed_form n) rest
+    (signed-lacks 41 n (low_other 41 (omega arith)) refl refl (omega arith))
     (signed-none n) (signed-pieces n some few) may
 
 -- ---- the address and the offset of a field
@@ -506,7 +509,8 @@ load-clean text =
     ap (λ op. if is_misnamed [] op then Err BadName else judged UnknownOperation op (λ found. said found (40 ∷ text))) load-operation
 
 load-said : (w b : ℕ) → w ≤ 262143 → b ≤ 63 →
-    said (VflOperation L false) (group_text (codes "BU,64") ++ 44 ∷ place_text w b) ≡ Ok (Vfl L false (unsigned_form 64) (number_spot (64 * w + b) 0) 0)
+    said (VflOperation L false) (group_text (codes "BU,64") ++ 44 ∷ place_text w b)
+    ≡ Ok (Vfl L false (unsigned_form 64) (number_spot (64 * w + b) 0) 0)
 unfolding with_fields
 load-said w b fits_w fits_b =
     described-formed (VflOperation L false) (codes "BU,64") (unsigned_form 64) (44 ∷ place_text w b) refl whole-none whole-pieces (field-may L 64)
@@ -518,8 +522,10 @@ pub load_word-read : (w : ℕ) → w ≤ 262143 →
 load_word-read w fits_w =
     let digit : decimal 0 ≡ 48 ∷ [] = decimal_digit 0 (omega arith) in
     let behind = group_text (codes "BU,64") ++ 44 ∷ place_text w 0 in
-    let nested : codes "L(BU,64)," ++ decimal w ++ codes ".0" ≡ codes "L(BU,64)," ++ (decimal w ++ 46 ∷ 48 ∷ []) = append_assoc (codes "L(BU,64),") (decimal w) (codes ".0") in
-    let same : codes "L(BU,64)," ++ (decimal w ++ 46 ∷ 48 ∷ []) ≡ codes "L" ++ behind = ap (λ (z : List ℕ). codes "L(BU,64)," ++ (decimal w ++ 46 ∷ z)) (sym digit) in
+    let nested : codes "L(BU,64)," ++ decimal w ++ codes ".0" ≡ codes "L(BU,64)," ++ (decimal w ++ 46 ∷ 48 ∷ []) =
+    append_assoc (codes "L(BU,64),") (decimal w) (codes ".0") in
+    let same : codes "L(BU,64)," ++ (decimal w ++ 46 ∷ 48 ∷ []) ≡ codes "L" ++ behind =
+    ap (λ (z : List ℕ). codes "L(BU,64)," ++ (decimal w ++ 46 ∷ z)) (sym digit) in
     let plain : clean (codes "L" ++ behind) ≡ codes "L" ++ behind = clean-is (codes "L" ++ behind)
     (place-lacks 59 w 0 (high_other 59 (omega arith)) refl (omega arith) (omega arith))
     (place-lacks 32 w 0 (low_other 32 (omega arith)) refl (omega arith) (omega arith)) in
@@ -607,7 +613,8 @@ progressive-formed : (n j : ℕ) → 1 ≤ j → j ≤ 7 →
     formed (VflOperation Mul false) (unsigned_form n) (progressive_text j) ≡ Ok (Vfl Mul false (progressive_form n) (number_spot 32 j) 0)
 unfolding formed progressed group_length form_number unclosed forms may_have_form fields_of with_fields operand spot index_start index_of index_parts
 progressive-formed n j some few =
-    of_seven (λ k. formed (VflOperation Mul false) (unsigned_form n) (progressive_text k) ≡ Ok (Vfl Mul false (progressive_form n) (number_spot 32 k) 0))
+    of_seven (λ k. formed (VflOperation Mul false) (unsigned_form n) (progressive_text k)
+    ≡ Ok (Vfl Mul false (progressive_form n) (number_spot 32 k) 0))
     refl refl refl refl refl refl refl j some few
 
 multiply-operation : operation_of (codes "*") ≡ Some (VflOperation Mul false)
@@ -623,7 +630,8 @@ five-flat : (a b c d e : List ℕ) → a ++ b ++ c ++ d ++ e ≡ a ++ (b ++ (c +
 five-flat a b c d e = simp append_assoc refl
 
 multiply-nested : (n j : ℕ) → 1 ≤ j → j ≤ 7 →
-    codes "*(BU," ++ decimal n ++ codes ")(V+I),0.32($X" ++ decimal j ++ codes ")" ≡ codes "*" ++ (group_text (codes "BU," ++ decimal n) ++ progressive_text j)
+    codes "*(BU," ++ decimal n ++ codes ")(V+I),0.32($X" ++ decimal j ++ codes ")"
+    ≡ codes "*" ++ (group_text (codes "BU," ++ decimal n) ++ progressive_text j)
 multiply-nested n j some few =
     let digit = decimal_digit j (omega arith) in
     five-flat (codes "*(BU,") (decimal n) (codes ")(V+I),0.32($X") (decimal j) (codes ")")
