@@ -388,3 +388,8 @@ go-inside n ds s t None now true false fresh v w is owes ends right due goes loo
       },
       same-fields ds n s s t None None _ _ (now + 1) false false None None refl refl front refl,
     )
+
+-- where no entry was done at a tick, nothing closes at it
+pub not-fresh : (fresh : Bool) (banks : LastAnswers) → fresh ≡ false → (if fresh then Some banks else None) ≡ None
+not-fresh true banks stale = absurd (cc stale)
+not-fresh false banks stale = refl

@@ -119,6 +119,10 @@ impl<const N: usize> Machine<N> {
         ensures after { self.new ≡ settled self.old }
     {
         self.quiet();
+        if !self.is_fresh() {
+            self.go_on();
+            return Settled::Goes;
+        }
         if let Some(indicator) = self.interrupt_due() {
             return self.interrupt(indicator);
         }
@@ -141,6 +145,13 @@ impl<const N: usize> Machine<N> {
             × (rests self.entry.now.state ≡ false) × (self.entry.now.behind ≡ None) }
     {
         let _ = &self.now;
+    }
+
+    /// Whether an entry was done at this tick.
+    fn is_fresh(&self) -> bool
+        ensures { result ≡ false → self.entry.now.closing ≡ None }
+    {
+        self.fresh
     }
 
     /// The interrupt that is taken before the next entry.

@@ -43,4 +43,14 @@ pub returns-clause-after : goal.returns-clause-after
 returns-clause-after g c =
     settled-goes c.args.self.now c.go_on.new.self (sym c.interrupt_due.ensures.value ∙ c.in_default.is)
     (sym c.is_resting.ensures ∙ c.if-is_resting.false) (none-behind c.args.self.now.behind (sym c.is_misled.ensures ∙ c.if-is_misled.false))
-    c.go_on.ensures
+    c.go_on-2.ensures
+
+pub returns-then-not-is_fresh-clause-answer : goal.returns-then-not-is_fresh-clause-answer
+returns-then-not-is_fresh-clause-answer g c =
+    let still = c.quiet.ensures (c.is_fresh.ensures c.if-not-is_fresh.true) in
+    answer-goes c.args.self.now still.0 still.1 still.2
+
+pub returns-then-not-is_fresh-clause-after : goal.returns-then-not-is_fresh-clause-after
+returns-then-not-is_fresh-clause-after g c =
+    let still = c.quiet.ensures (c.is_fresh.ensures c.if-not-is_fresh.true) in
+    settled-goes c.args.self.now _ still.0 still.1 still.2 c.go_on.ensures
