@@ -37,6 +37,9 @@ impl<const N: usize> Look<N> {
         open_levels_run_ahead();
         rows_are_in_order();
         let _few = self.levels.len();
+        if self.next.planned {
+            return;
+        }
         if self.front.wanted_from() > now {
             return;
         }
