@@ -220,9 +220,11 @@ module _ (p : Program) (ws : List ℕ) where
         ap (λ k. record (draft_before 11) { asked = record (asked_before 11) { back = k } }) same
     back_step false any =
         let filled : 1 ≤ p.controls.back = grind (arith, nat_tests) in
-        one (draft_before 11) (draft_before 12) (Back p.controls.back)
-        (step_asked (draft_before 11) _ keywords.Back (p.controls.back ∷ []) _ (behind_delays _ _ some delays)
-        (back-asked (asked_before 11) p.controls.back refl filled is.limits.back), omega (arith, is.limits.back))
+        one (draft_before 11) (draft_before 12) (Back p.controls.back) (
+          step_asked (draft_before 11) _ keywords.Back (p.controls.back ∷ []) _ (behind_delays _ _ some delays)
+              (back-asked (asked_before 11) p.controls.back refl filled is.limits.back),
+          omega (arith, is.limits.back),
+        )
 
     -- the lines of a kind lead from what the kinds before say to what they say with it
     add_kind : (kind : Kind) → Leads (draft_before (row kind).0) (lines_at kind) (draft_before ((row kind).0 + 1))
@@ -239,21 +241,27 @@ module _ (p : Program) (ws : List ℕ) where
     add_kind kinds.Delay =
         let asked = λ (done : List ℕ). record (asked_before 4) { delays = done } in
         leads_each (λ done. record (draft_before 4) { asked = asked done }) (λ n. Delay n) (λ xs. AreDelays xs)
-        (λ done rest n fits.
-        (step_asked (record (draft_before 4) { asked = asked done }) _ keywords.Delays (n ∷ []) _ (behind_budget _ some)
-        (delay-asked (asked done) n rest fits), delay-short done rest n fits)) [] p.controls.delays is.limits.delays
+        (λ done rest n fits. (
+          step_asked (record (draft_before 4) { asked = asked done }) _ keywords.Delays (n ∷ []) _ (behind_budget _ some)
+              (delay-asked (asked done) n rest fits),
+          delay-short done rest n fits,
+        )) [] p.controls.delays is.limits.delays
     add_kind kinds.Signal =
         let asked = λ (done : List GivenSignal). record (asked_before 5) { signals = done } in
         leads_each (λ done. record (draft_before 5) { asked = asked done }) (λ s. Signal s.count s.indicator) (λ xs. AreSignals xs)
-        (λ done rest s fits.
-        (step_asked (record (draft_before 5) { asked = asked done }) _ keywords.Signals (s.count ∷ s.indicator ∷ []) _ (behind_delays _ _ some delays)
-        (signal-asked (asked done) s rest fits), signal-short done rest s fits)) [] p.controls.signals is.limits.signals
+        (λ done rest s fits. (
+          step_asked (record (draft_before 5) { asked = asked done }) _ keywords.Signals (s.count ∷ s.indicator ∷ []) _ (behind_delays _ _ some delays)
+              (signal-asked (asked done) s rest fits),
+          signal-short done rest s fits,
+        )) [] p.controls.signals is.limits.signals
     add_kind kinds.Dump =
         let asked = λ (done : List (ℕ × ℕ)). record (asked_before 6) { dumps = done } in
         leads_each (λ done. record (draft_before 6) { asked = asked done }) (λ d. Dump d.0 d.1) (λ xs. AreDumps xs)
-        (λ done rest d fits.
-        (step_asked (record (draft_before 6) { asked = asked done }) _ keywords.Dump (d.0 ∷ d.1 ∷ []) _ (behind_delays _ _ some delays)
-        (dump-asked (asked done) d rest fits), dump-short done rest d fits)) [] p.controls.dumps is.limits.dumps
+        (λ done rest d fits. (
+          step_asked (record (draft_before 6) { asked = asked done }) _ keywords.Dump (d.0 ∷ d.1 ∷ []) _ (behind_delays _ _ some delays)
+              (dump-asked (asked done) d rest fits),
+          dump-short done rest d fits,
+        )) [] p.controls.dumps is.limits.dumps
     add_kind kinds.Trace =
         let at = λ (b : Bool). record (draft_before 7) { asked = record (asked_before 7) { trace = b } } in
         leads_marked at Trace (ap (λ b. if b then Some (at true) else None) (behind_delays _ _ some delays), tt) p.controls.trace
@@ -266,9 +274,11 @@ module _ (p : Program) (ws : List ℕ) where
     add_kind kinds.Snap =
         let asked = λ (done : List ℕ). record (asked_before 10) { snaps = done } in
         leads_each (λ done. record (draft_before 10) { asked = asked done }) (λ t. Snap t) (λ xs. AreSnaps xs)
-        (λ done rest t fits.
-        (step_asked (record (draft_before 10) { asked = asked done }) _ keywords.Snap (t ∷ []) _ (behind_delays _ _ some delays)
-        (snap-asked (asked done) t rest fits), snap-short done rest t fits)) [] p.controls.snaps is.limits.snaps
+        (λ done rest t fits. (
+          step_asked (record (draft_before 10) { asked = asked done }) _ keywords.Snap (t ∷ []) _ (behind_delays _ _ some delays)
+              (snap-asked (asked done) t rest fits),
+          snap-short done rest t fits,
+        )) [] p.controls.snaps is.limits.snaps
     add_kind kinds.Back = back_step (p.controls.back == 0) refl
     add_kind kinds.Fin = one (draft_before 12) (draft_before 13) Fin
         (ap (λ (b : Bool). if b then Some (draft_before 13) else None) (behind_delays _ _ some delays), tt)
