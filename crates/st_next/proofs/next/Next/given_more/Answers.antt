@@ -7,4 +7,3 @@ overflow_add-self c = omega (arith, c.requires.words.own_few, c.requires.words.t
 
 pub slice_bounds-contents-end : goal.slice_bounds-contents-end
 slice_bounds-contents-end c = omega (arith, c.requires.words.own_few, c.requires.words.target_few)
-
