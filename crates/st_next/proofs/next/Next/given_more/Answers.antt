@@ -1,5 +1,4 @@
-use Rattle.std.proofs.Common.{take, sym, ◌∙◌, ap, arith}
-use Rattle.std.proofs.lemmas.List.{length-take}
+use Rattle.std.proofs.Common.{arith}
 use Rattle.st_next.proofs.next.Next.given_more.Goals as goal
 
 pub overflow_add-self : goal.overflow_add-self
