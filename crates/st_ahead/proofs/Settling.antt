@@ -1,5 +1,5 @@
 -- What a machine keeps when a tick is settled.
-use Rattle.std.specs.Prelude.{All, IfSome, IsSome, is_none, is_some, ◌&&◌, if◌then◌else◌}
+use Rattle.std.specs.Prelude.{All, IsSome, is_none, is_some, ◌&&◌, if◌then◌else◌}
 use Rattle.std.proofs.Common.{◌≡◌, ℕ, ◌+◌, ◌-◌, ◌<◌, ◌≤◌, ◌^◌, ◌||◌, not, Bool, true, false, List, length, Option, None, Some, refl, sym, subst, ◌∙◌, ap, arith}
 use Rattle.std.proofs.lemmas.List.Elements.{All-weaker}
 use Rattle.st_state.specs.Machine.{Machine, IsMachine}
@@ -12,16 +12,14 @@ use Rattle.st_rows.specs.Rows.{opening}
 use Rattle.st_rows.specs.declared.front.Front.{Front}
 use Rattle.st_ring.specs.declared.level.Level.{Level}
 use Rattle.st_levels.specs.Levels.{oldest_front}
-use Rattle.st_levels.specs.declared.plans.Plan.{Plan}
 use Rattle.st_segment.specs.Ahead.{ahead, prepared_before}
 use Rattle.st_levels.proofs.LevelLemmas.{length-ahead}
-use Rattle.st_ahead.specs.Overlap.{Overlap, seen, with_counter, levels_of, interrupt_due, last_tick}
+use Rattle.st_ahead.specs.Overlap.{Overlap, seen, with_counter, levels_of, interrupt_due}
 use Rattle.st_ahead.specs.Calls.{dropped, ended, passed, settled, answer, settled_by, answer_by}
 use Rattle.st_ahead.specs.Look.{LookView, IsLook, IsOpened, count}
 use Rattle.st_ahead.specs.Going.{IsGoing}
 use Rattle.st_ahead.specs.Inside.{standing, IsBetween, IsInside, IsInTime}
 use Rattle.st_ahead.proofs.Openings.{opening-looks}
-use Rattle.st_ahead.specs.declared.events.Settled.{Settled}
 use Rattle.st_ahead.specs.declared.events.Settled.TheVariants.{Goes, Interrupt, Missed, Waits}
 use Rattle.st_ahead.proofs.Standing.{opened-front, same-fields, chosen, left_over}
 

@@ -73,8 +73,16 @@ impl<const N: usize> Look<N> {
         let before = self.front;
         let mut x = *self.levels.index();
         let prepared = self.next.prepare(&mut x, state);
-        let filled = self.front.complete(delays, N, &self.next.entry, self.next.formed);
-        ask_data(&mut self.port, &before.past, &self.next.entry, &self.next.formed.bus, now);
+        let filled = self
+            .front
+            .complete(delays, N, &self.next.entry, self.next.formed);
+        ask_data(
+            &mut self.port,
+            &before.past,
+            &self.next.entry,
+            &self.next.formed.bus,
+            now,
+        );
         self.next.restart(place_behind(&prepared), &self.front);
         self.levels.push(prepared, &before, &filled, state);
     }

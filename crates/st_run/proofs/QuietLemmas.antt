@@ -1,15 +1,13 @@
 -- Where nothing comes between two entries.
-use Rattle.std.specs.Prelude.{nat_le, nat_lt, is_some, is_none, if◌then◌else◌, IsSome}
-use Rattle.std.proofs.Common.{◌≡◌, ◌≢◌, ℕ, ◌+◌, Bool, true, false, ◌||◌, List, [], ◌∷◌, length, Option, None, Some, refl, sym, subst, ◌∙◌, ap, arith}
+use Rattle.std.specs.Prelude.{nat_lt, is_some}
+use Rattle.std.proofs.Common.{◌≡◌, ◌≢◌, ℕ, Bool, true, false, ◌||◌, List, [], ◌∷◌, length, Option, None, Some, refl, sym, subst, ◌∙◌, ap, arith}
 use Rattle.std.proofs.lemmas.Bool.{le-ltb}
 use Rattle.st_state.specs.Machine.{Machine}
 use Rattle.st_state.specs.Orders.{is_due}
-use Rattle.st_exec.specs.Step.{rests}
 use Rattle.st_ahead.specs.Overlap.{Overlap, interrupt_due}
 use Rattle.st_ahead.specs.Calls.{settled as settled_of}
-use Rattle.st_run.specs.Run.{Scene, Signal, Reached, with_due_signals, with_due_orders, settled, nothing, and_then, with_reader, with_printer, if_due}
-use Rattle.st_run.specs.Moments.{has_card, has_waited}
-use Rattle.st_run.specs.Together.{Together, scene_of, moment_of, with_scene, IsBehind, IsBefore}
+use Rattle.st_run.specs.Run.{Scene, Signal, with_due_signals, with_due_orders, settled, nothing}
+use Rattle.st_run.specs.Together.{Together, scene_of, moment_of, with_scene, IsBehind}
 use Rattle.st_run.specs.Between.{Came, IsChoice, IsQuiet, signal_due}
 use Rattle.st_run.specs.Leaving.{IsDecided, nothing_decided}
 use Rattle.st_run.specs.Telling.{Waiting, whats, rest_of, IsRun, AreInTime}
@@ -64,9 +62,13 @@ module _ (left : ℕ) (b n : Together) (is : IsBehind b) (some : left ≢ 0) (si
   came = settled-going b b b None false (no-signal b signals) (no-text b quiet) quiet.awake
 
   choice : IsChoice Before left false b.machine nothing_decided n.machine
-  choice =
-      (some, quiet.awake, after, neither-first (is_some b.machine.behind) (interrupt_due b.machine) quiet.open_still,
-      neither-still (is_some b.machine.behind) (interrupt_due b.machine) quiet.open_still)
+  choice = (
+    some,
+    quiet.awake,
+    after,
+    neither-first (is_some b.machine.behind) (interrupt_due b.machine) quiet.open_still,
+    neither-still (is_some b.machine.behind) (interrupt_due b.machine) quiet.open_still,
+  )
 
   pub quiet-decided : IsDecided left (moment_of b) nothing_decided n
   quiet-decided =

@@ -1,4 +1,4 @@
-use Rattle.std.proofs.Common.{None, sym, ◌∙◌, ap}
+use Rattle.std.proofs.Common.{sym, ◌∙◌, ap}
 use Rattle.st_ahead.specs.Overlap.{Overlap}
 use Rattle.st_ahead.proofs.Settling.{not-fresh}
 use Rattle.st_ahead.proofs.machine.Machine.is_fresh.Goals as goal

@@ -2,7 +2,6 @@ use Rattle.std.proofs.Common.{List, ℕ, ◌+◌, ◌∙◌, ap, arith}
 use Rattle.st_state.specs.Machine.{word}
 use Rattle.st_prep.specs.Reading.{reading, left_after, given as given_of}
 use Rattle.st_next.proofs.Starts.{length-first, none-read, one-read}
-use Rattle.st_segment.specs.Alone.{words_of_run}
 use Rattle.st_next.proofs.next.Next.given.Goals as goal
 
 pub returns-then-so_far-eq0-clause-value : goal.returns-then-so_far-eq0-clause-value

@@ -1,5 +1,4 @@
-use Rattle.std.proofs.Common.{take, sym, ◌∙◌, ap, arith}
-use Rattle.std.proofs.lemmas.List.{length-take}
+use Rattle.std.proofs.Common.{arith}
 use Rattle.st_next.proofs.next.Next.given_more.Goals as goal
 
 pub overflow_add-self : goal.overflow_add-self
@@ -7,4 +6,3 @@ overflow_add-self c = omega (arith, c.requires.words.own_few, c.requires.words.t
 
 pub slice_bounds-contents-end : goal.slice_bounds-contents-end
 slice_bounds-contents-end c = omega (arith, c.requires.words.own_few, c.requires.words.target_few)
-
