@@ -1,20 +1,21 @@
 -- What a machine keeps when a tick is settled.
-use Rattle.std.specs.Prelude.{All, IsSome, is_none, is_some, ◌&&◌, if◌then◌else◌}
+use Rattle.std.specs.Prelude.{All, IsSome, is_none, is_some, ◌&&◌, if◌then◌else◌, IfSome}
 use Rattle.std.proofs.Common.{◌≡◌, ℕ, ◌+◌, ◌-◌, ◌<◌, ◌≤◌, ◌^◌, ◌||◌, not, Bool, true, false, List, length, Option, None, Some, refl, sym, subst, ◌∙◌, ap, arith}
-use Rattle.std.proofs.lemmas.List.Elements.{All-weaker}
+use Rattle.std.proofs.lemmas.List.Elements.{All-weaker, All-replicate}
 use Rattle.st_state.specs.Machine.{Machine, IsMachine}
 use Rattle.st_state.specs.Interrupts.{pending}
 use Rattle.st_prep.specs.Fetch.{place_of, index_words}
 use Rattle.st_prep.specs.declared.entries.Place.{Place}
 use Rattle.st_exec.specs.Step.{interrupt, rests}
 use Rattle.st_banks.specs.declared.answers.LastAnswers.{LastAnswers}
+use Rattle.st_banks.specs.declared.answers.TheConstants.{BANKS}
 use Rattle.st_rows.specs.Rows.{opening}
 use Rattle.st_rows.specs.declared.front.Front.{Front}
 use Rattle.st_ring.specs.declared.level.Level.{Level}
 use Rattle.st_levels.specs.Levels.{oldest_front}
 use Rattle.st_segment.specs.Ahead.{ahead, prepared_before}
 use Rattle.st_levels.proofs.LevelLemmas.{length-ahead}
-use Rattle.st_ahead.specs.Overlap.{Overlap, seen, with_counter, levels_of, interrupt_due}
+use Rattle.st_ahead.specs.Overlap.{Overlap, seen, with_counter, levels_of, interrupt_due, idle_banks, last_tick}
 use Rattle.st_ahead.specs.Calls.{dropped, ended, passed, settled, answer, settled_by, answer_by}
 use Rattle.st_ahead.specs.Look.{LookView, IsLook, IsOpened, count}
 use Rattle.st_ahead.specs.Going.{IsGoing}
@@ -48,6 +49,7 @@ pub record IsEnded (m e : Overlap) : Type 0 where
   pub taken : e.taken ≡ m.taken
   pub owed : e.owed ≡ m.owed
   pub ended : e.ended ≡ true
+  pub closing : e.closing ≡ m.closing
 
 pub ended-rest : (m e : Overlap) (b : Bool) → m.ended ≡ b → e ≡ ended m → IsEnded m e
 unfolding ended
@@ -58,6 +60,7 @@ ended-rest m e true over is =
       taken = ap (λ (x : Overlap). x.taken) same;
       owed = ap (λ (x : Overlap). x.owed) same;
       ended = ap (λ (x : Overlap). x.ended) same ∙ over;
+      closing = ap (λ (x : Overlap). x.closing) same;
     }
 ended-rest m e false over is =
     let same = is ∙ left_over m.ended m _ over in
@@ -66,6 +69,7 @@ ended-rest m e false over is =
       taken = ap (λ (x : Overlap). x.taken) same;
       owed = ap (λ (x : Overlap). x.owed) same;
       ended = ap (λ (x : Overlap). x.ended) same;
+      closing = ap (λ (x : Overlap). x.closing) same;
     }
 
 due-none : (t p : Option ℕ) (i : ℕ) → (if is_none t then p else None) ≡ Some i → (t ≡ None) × (p ≡ Some i)
@@ -161,7 +165,7 @@ end-calm n ds s b now v w is most levels opened early =
         indicator = tt;
         in_time = is.in_time;
         fresh_owed = λ e. refl;
-        ended_fresh = λ e. refl;
+        ended_owed = λ e. refl;
         behind_fresh = λ e. absurd (cc e);
         done_now = λ e f. absurd (cc f);
         none_taken = λ e. refl;
@@ -196,6 +200,69 @@ end-first n ds s t b now true false false v w is owes ends done most levels open
 end-first n ds s (Some i) b now true false true v w is owes ends done most levels opened early = absurd (cc (is.none_taken refl))
 end-first n ds s None b now true false true v w is owes ends done most levels opened early =
     end-calm n ds s b now v w is most (levels-counted n ds s None b now true v (levels is.looking)) (opened is.looking) early
+
+-- where no entry was done at the tick
+given-calm : (n : ℕ) (ds : List ℕ) (s : Machine) (t b : Option ℕ) (now : ℕ) (v w : LookView)
+    → IsInside (standing n ds s t b now true false false v) false v → count v ≤ n
+    → length (levels_of (standing n ds s t b now true false false v)) ≡ count v
+    → IsOpened t s (opening idle_banks (now + 1 + count v)) w
+    → IsInside (standing n ds s t b now true true false w) false w
+    × (count v ≡ dropped (standing n ds s t b now true false false v))
+    × (standing n ds s t b now true true false w ≡ ended (standing n ds s t b now true false false v))
+unfolding dropped ended
+given-calm n ds s t b now v w is most levels opened =
+    let banks : w.port.bus.banks ≡ idle_banks = ap (λ port. port.bus.banks) opened.port in
+    let start : w.front.c ≡ now + 1 + count v = ap (λ (f : Front). f.c) opened.front in
+    let few : n ≤ 8 = is.few in
+    let front = opened-front t s (opening idle_banks (now + 1 + count v)) w opened in
+    let between : IsBetween now t s w = record {
+      opened =
+          subst (λ (x : LastAnswers). IsOpened t s (opening x w.front.c) w) (sym banks)
+          (subst (λ (x : ℕ). IsOpened t s (opening idle_banks x) w) (sym start) opened);
+      banks = subst (λ (x : LastAnswers). All (λ y. y ≤ w.front.c + 255) x.ticks) (sym banks)
+          (All-replicate (λ (y : ℕ). y ≤ w.front.c + 255) BANKS 0 (omega arith));
+      later = omega (arith, start);
+      soon = omega (arith, start, most, few);
+    } in (
+      record {
+        some = is.some;
+        few = few;
+        looking = between;
+        indicator = is.indicator;
+        in_time = is.in_time;
+        fresh_owed = λ e. refl;
+        ended_owed = λ e. refl;
+        behind_fresh = is.behind_fresh;
+        done_now = λ e. absurd (cc e);
+        none_taken = λ e. absurd (cc e);
+        quiet = is.quiet;
+        unstarted = λ e. absurd (cc e);
+      },
+      sym levels,
+      same-fields ds n s s t b b _ _ now true true None None refl refl (front ∙ ap (λ k. opening idle_banks (now + 1 + k)) (sym levels)) refl,
+    )
+
+pub given-up : (n : ℕ) (ds : List ℕ) (s : Machine) (t b : Option ℕ) (now : ℕ) (owed over fresh : Bool) (v w : LookView)
+    → IsInside (standing n ds s t b now owed over fresh v) fresh v → owed ≡ true → over ≡ false
+    → (standing n ds s t b now owed over fresh v).closing ≡ None → count v ≤ n
+    → (IsLook ds n now now t (with_counter b s) (oldest_front v.levels.plans v.front) v
+    → prepared_before now (ahead ds n n t (with_counter b s) (oldest_front v.levels.plans v.front)) ≡ ahead ds n (count v) t (with_counter b s) (oldest_front v.levels.plans v.front))
+    → (IsLook ds n now now t (with_counter b s) (oldest_front v.levels.plans v.front) v → IsOpened t s (opening idle_banks (now + 1 + count v)) w)
+    → IsInside (standing n ds s t b now owed true fresh w) fresh w
+    × (count v ≡ dropped (standing n ds s t b now owed over fresh v))
+    × (standing n ds s t b now owed true fresh w ≡ ended (standing n ds s t b now owed over fresh v))
+unfolding seen
+given-up n ds s t b now false over fresh v w is owes ends none most levels opened = absurd (cc owes)
+given-up n ds s t b now true true fresh v w is owes ends none most levels opened = absurd (cc ends)
+given-up n ds s t b now true false true v w is owes ends none most levels opened = absurd (cc none)
+given-up n ds s t b now true false false v w is owes ends none most levels opened =
+    given-calm n ds s t b now v w is most (levels-counted n ds s t b now false v (levels is.looking)) (opened is.looking)
+
+-- what it asks for: the number of the tick, and the indicator that was taken, are within their ranges
+pub giving-up : (n : ℕ) (ds : List ℕ) (s : Machine) (t b : Option ℕ) (now : ℕ) (owed over fresh : Bool) (v : LookView)
+    → IsInside (standing n ds s t b now owed over fresh v) fresh v → owed ≡ true → (now < 2 ^ 63) × IfSome t (λ i. i < 64)
+giving-up n ds s t b now false over fresh v is owes = absurd (cc owes)
+giving-up n ds s t b now true over fresh v is owes = (is.in_time, is.indicator)
 
 -- what the end of one asks for
 pub record IsEnding (n : ℕ) (ds : List ℕ) (s : Machine) (t b : Option ℕ) (now : ℕ) (v : LookView) : Type 0 where
@@ -245,7 +312,7 @@ pass-inside n ds s t b now true true fresh v is m owes ends due goes =
         indicator = is.indicator;
         in_time = let early : now < 2 ^ 63 = is.in_time in omega (arith, early);
         fresh_owed = λ e. absurd (cc e);
-        ended_fresh = λ e. absurd (cc e);
+        ended_owed = λ e. absurd (cc e);
         behind_fresh = λ e. refl;
         done_now = λ e. absurd (cc e);
         none_taken = λ e. absurd (cc e);
@@ -301,7 +368,7 @@ interrupt-inside n ds s b now true true fresh v i is m owes ends few due =
         indicator = few;
         in_time = let early : now < 2 ^ 63 = is.in_time in omega (arith, early);
         fresh_owed = λ e. absurd (cc e);
-        ended_fresh = λ e. absurd (cc e);
+        ended_owed = λ e. absurd (cc e);
         behind_fresh = λ e. refl;
         done_now = λ e. absurd (cc e);
         none_taken = λ e. absurd (cc e);
@@ -377,7 +444,7 @@ go-inside n ds s t None now true false fresh v w is owes ends right due goes loo
         indicator = is.indicator;
         in_time = let early : now < 2 ^ 63 = is.in_time in omega (arith, early);
         fresh_owed = λ e. absurd (cc e);
-        ended_fresh = λ e. absurd (cc e);
+        ended_owed = λ e. absurd (cc e);
         behind_fresh = λ e. refl;
         done_now = λ e. absurd (cc e);
         none_taken = λ e. absurd (cc e);

@@ -48,7 +48,7 @@ before-first : (n : ℕ) (ds : List ℕ) (s u : Machine) (t b : Option ℕ) (now
     → IsInside (standing n ds s t b now false over fresh v) fresh v → now ≡ 0 → IsMachine u → AreAlikeBesideOrders s u → LooksOn ds n now v
     → IsInside (standing n ds u t b now false over fresh v) fresh v
 unfolding seen
-before-first n ds s u t b now true fresh v is start m alike on = absurd (cc (is.fresh_owed (is.ended_fresh refl)))
+before-first n ds s u t b now true fresh v is start m alike on = absurd (cc (is.ended_owed refl))
 before-first n ds s u t b now false true v is start m alike on = absurd (cc (is.fresh_owed refl))
 before-first n ds s u t (Some h) now false false v is start m alike on = absurd (cc (is.behind_fresh refl))
 before-first n ds s u (Some i) None now false false v is start m alike on = absurd (cc ((is.unstarted refl start).table))
@@ -67,7 +67,7 @@ before-first n ds s u None None now false false v is start m alike on =
       indicator = tt;
       in_time = is.in_time;
       fresh_owed = λ e. absurd (cc e);
-      ended_fresh = λ e. absurd (cc e);
+      ended_owed = λ e. absurd (cc e);
       behind_fresh = λ e. refl;
       done_now = λ e. absurd (cc e);
       none_taken = λ e. refl;
@@ -95,7 +95,7 @@ behind-done n ds s u None b now true true v is done m alike on =
       indicator = tt;
       in_time = is.in_time;
       fresh_owed = λ e. refl;
-      ended_fresh = λ e. refl;
+      ended_owed = λ e. refl;
       behind_fresh = λ e. absurd (cc e);
       done_now = λ e g. absurd (cc g);
       none_taken = λ e. refl;
@@ -114,7 +114,7 @@ behind-done n ds s u None b now false true v is done m alike on =
       indicator = tt;
       in_time = is.in_time;
       fresh_owed = λ e. refl;
-      ended_fresh = λ e. absurd (cc e);
+      ended_owed = λ e. absurd (cc e);
       behind_fresh = λ e. absurd (cc e);
       done_now = λ e g. is.done_now refl refl;
       none_taken = λ e. refl;

@@ -99,7 +99,7 @@ started-inside n ds s v some few m enabled waiting is =
         indicator = tt;
         in_time = omega arith;
         fresh_owed = λ e. absurd (cc e);
-        ended_fresh = λ e. absurd (cc e);
+        ended_owed = λ e. absurd (cc e);
         behind_fresh = λ e. refl;
         done_now = λ e. absurd (cc e);
         none_taken = λ e. refl;
@@ -122,7 +122,7 @@ pub idle : (n : ℕ) (ds : List ℕ) (s : Machine) (t b : Option ℕ) (now : ℕ
     → IsInside (standing n ds s t b now owed ended fresh v) fresh v → owed ≡ false → IsIdle n ds s t b now ended fresh v
 unfolding seen
 idle n ds s t b now true ended fresh v is e = absurd (cc e)
-idle n ds s t b now false true fresh v is e = absurd (cc (is.fresh_owed (is.ended_fresh refl)))
+idle n ds s t b now false true fresh v is e = absurd (cc (is.ended_owed refl))
 idle n ds s t b now false false true v is e = absurd (cc (is.fresh_owed refl))
 idle n ds s t b now false false false v is e =
     let behind = is.behind_fresh refl in
@@ -161,7 +161,7 @@ passed-calm n ds s u t now v w is early by front =
         indicator = is.indicator;
         in_time = early;
         fresh_owed = λ e. absurd (cc e);
-        ended_fresh = λ e. absurd (cc e);
+        ended_owed = λ e. absurd (cc e);
         behind_fresh = λ e. refl;
         done_now = λ e. absurd (cc e);
         none_taken = λ e. absurd (cc e);
@@ -183,7 +183,7 @@ pub passed-tick : (n : ℕ) (ds : List ℕ) (s u : Machine) (t b : Option ℕ) (
     × (is_done (standing n ds s t b now owed ended fresh v) ≡ false)
     × (standing n ds u t b now true ended fresh w ≡ ticked (standing n ds s t b now owed ended fresh v))
 passed-tick n ds s u t b now true ended fresh v w is e early by front = absurd (cc e)
-passed-tick n ds s u t b now false true fresh v w is e early by front = absurd (cc (is.fresh_owed (is.ended_fresh refl)))
+passed-tick n ds s u t b now false true fresh v w is e early by front = absurd (cc (is.ended_owed refl))
 passed-tick n ds s u t b now false false true v w is e early by front = absurd (cc (is.fresh_owed refl))
 passed-tick n ds s u t (Some h) now false false false v w is e early by front = absurd (cc (is.behind_fresh refl))
 passed-tick n ds s u t None now false false false v w is e early by front = passed-calm n ds s u t now v w is early by front
@@ -221,7 +221,7 @@ done-calm n ds s u t now v w done is early by front banks guessed =
         indicator = tt;
         in_time = early;
         fresh_owed = λ e. refl;
-        ended_fresh = λ e. refl;
+        ended_owed = λ e. refl;
         behind_fresh = λ e. absurd (cc e);
         done_now = λ e g. ap (λ (x : Front). x.c) front ∙ after-c ds n f (entry t s) ∙ by.due;
         none_taken = λ e. refl;
@@ -243,7 +243,7 @@ pub done-tick : (n : ℕ) (ds : List ℕ) (s u : Machine) (t b : Option ℕ) (no
     × (is_done (standing n ds s t b now owed ended fresh v) ≡ true)
     × (standing n ds u None done.missed now true ended true w ≡ ticked (standing n ds s t b now owed ended fresh v))
 done-tick n ds s u t b now true ended fresh v w done is e early by front banks guessed = absurd (cc e)
-done-tick n ds s u t b now false true fresh v w done is e early by front banks guessed = absurd (cc (is.fresh_owed (is.ended_fresh refl)))
+done-tick n ds s u t b now false true fresh v w done is e early by front banks guessed = absurd (cc (is.ended_owed refl))
 done-tick n ds s u t b now false false true v w done is e early by front banks guessed = absurd (cc (is.fresh_owed refl))
 done-tick n ds s u t (Some h) now false false false v w done is e early by front banks guessed = absurd (cc (is.behind_fresh refl))
 done-tick n ds s u t None now false false false v w done is e early by front banks guessed = done-calm n ds s u t now v w done is early by front banks guessed
@@ -266,7 +266,7 @@ pub row-tick : (n : ℕ) (ds : List ℕ) (s u : Machine) (t b : Option ℕ) (now
     → IsDoneAt ds n now t s (oldest_front v.levels.plans v.front) v u w done → (executed t s).done ≡ s.done + 1
     → told u.done done.address done.p done.r now ≡ row_done (standing n ds s t b now owed ended fresh v)
 row-tick n ds s u t b now true ended fresh v w done is e by number = absurd (cc e)
-row-tick n ds s u t b now false true fresh v w done is e by number = absurd (cc (is.fresh_owed (is.ended_fresh refl)))
+row-tick n ds s u t b now false true fresh v w done is e by number = absurd (cc (is.ended_owed refl))
 row-tick n ds s u t b now false false true v w done is e by number = absurd (cc (is.fresh_owed refl))
 row-tick n ds s u t (Some h) now false false false v w done is e by number = absurd (cc (is.behind_fresh refl))
 row-tick n ds s u t None now false false false v w done is e by number = row-calm n ds s u t now v w done by number

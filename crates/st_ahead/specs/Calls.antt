@@ -7,7 +7,7 @@ use Rattle.st_exec.specs.Completion.{executed, is_missed}
 use Rattle.st_exec.specs.Step.{rests}
 use Rattle.st_exec.specs.Transfer.{read_in, printed_out}
 use Rattle.st_rows.specs.Rows.{opening, after}
-use Rattle.st_ahead.specs.Overlap.{Overlap, oldest, oldest_row, levels_of, banks_at_its_end, interrupt_due}
+use Rattle.st_ahead.specs.Overlap.{Overlap, idle_banks, oldest, oldest_row, levels_of, banks_at_its_end, interrupt_due}
 use Rattle.st_ahead.specs.declared.events.Row.{Row}
 use Rattle.st_ahead.specs.declared.events.Event.{Event}
 use Rattle.st_ahead.specs.declared.events.Event.TheVariants.{Passed, Done}
@@ -59,16 +59,17 @@ IsEvent m (Done row) = (is_done m ≡ true) × (row ≡ row_done m)
 unfoldable pub dropped : Overlap → ℕ
 dropped m = if m.ended then 0 else length (levels_of m)
 
-abbrev pub banks_left : Overlap → Option LastAnswers → LastAnswers
-banks_left m (Some banks) = banks
-banks_left m None = m.front.bus.banks
+-- the last answers of the banks that the next segment opens with; where no entry was done at this tick, nothing is left of the reads
+abbrev pub banks_left : Option LastAnswers → LastAnswers
+banks_left (Some banks) = banks
+banks_left None = idle_banks
 
 -- the machine at the front of the next segment
 unfoldable pub ended : Overlap → Overlap
 ended m =
     if m.ended then m
     else record m {
-      front = opening (banks_left m m.closing) (m.now + 1 + length (levels_of m));
+      front = opening (banks_left m.closing) (m.now + 1 + length (levels_of m));
       ended = true;
     }
 

@@ -58,7 +58,7 @@ pub record IsInside (m : Overlap) (fresh : Bool) (v : LookView) : Type 0 where
   pub indicator : IfSome m.taken (λ i. i < 64)
   pub in_time : IsInTime m.owed m.now
   pub fresh_owed : fresh ≡ true → m.owed ≡ true
-  pub ended_fresh : m.ended ≡ true → fresh ≡ true
+  pub ended_owed : m.ended ≡ true → m.owed ≡ true
   pub behind_fresh : fresh ≡ false → m.behind ≡ None
   pub done_now : fresh ≡ true → m.ended ≡ false → m.front.c ≡ m.now
   pub none_taken : fresh ≡ true → m.taken ≡ None

@@ -29,6 +29,10 @@ pub record Overlap : Type 0 where
   pub ended : Bool
   pub closing : Option LastAnswers
 
+-- banks that nothing was read from
+abbrev pub idle_banks : LastAnswers
+idle_banks = record { ticks = replicate BANKS 0 }
+
 -- a machine before its first tick
 abbrev pub started : List ℕ → ℕ → Machine → Overlap
 started delays levels s = record {
@@ -37,7 +41,7 @@ started delays levels s = record {
   state = s;
   taken = None;
   behind = None;
-  front = opening (record { ticks = replicate BANKS 0 }) 0;
+  front = opening idle_banks 0;
   now = 0;
   owed = false;
   ended = false;

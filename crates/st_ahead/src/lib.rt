@@ -13,7 +13,8 @@ mod machine;
 
 pub use events::{Event, LevelView, Row, Settled, View};
 pub use going_laws::{
-    next_entries_are_known, open_levels_run_ahead, planned_entries_become_levels,
+    instruction_words_are_those_of_the_run, next_entries_are_known, open_levels_run_ahead,
+    planned_entries_become_levels,
 };
 pub use look::Look;
 pub use look_laws::{looks_are_levels, openings_look, signals_leave_looks, the_banks_are_left};

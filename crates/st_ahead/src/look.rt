@@ -5,6 +5,7 @@ ghost use Rattle.st_prep.specs.Fetch.{index_words as index_words_of};
 ghost use Rattle.st_rows.specs.Ranges.{IsNear};
 ghost use Rattle.st_rows.specs.Rows.{opening};
 ghost use Rattle.st_rows.specs.declared.front.Front.{Front as FrontOf};
+ghost use Rattle.st_ahead.specs.Overlap.{idle_banks};
 
 use st_banks::{Delays, LastAnswers};
 use st_levels::{Completed, Levels};
@@ -78,5 +79,24 @@ impl<const N: usize> Look<N> {
         self.port = Port::new(banks, start);
         self.next = Next::new(place_of(state, table), &self.front);
         dropped
+    }
+
+    /// The segment ends at the tick `now`, at most 2^64 - 2,048, at which no entry is done, and nothing is kept of its reads; the next one would
+    /// begin as after `end`, whose index words the levels have. The result is the number of levels dropped.
+    pub fn give_up(&mut self, state: &State, table: Option<u8>, now: u64) -> u8
+        requires indicator { IfSome table (λ i. i < 64) }
+        requires early { now ≤ 2 ^ 64 - 2048 }
+        ensures dropped { result ≡ count self.old }
+        ensures opened { (ds : List ℕ) (tick : ℕ) (t : Option ℕ) (s : Machine) (f : FrontOf) →
+            IsLook ds N tick now t s f self.old → index_words_of s ≡ index_words_of state.now →
+            IsOpened table state.now (opening idle_banks (now + 1 + count self.old)) self.new }
+    {
+        let count = self.levels.undo();
+        let start = now + 1 + u64::from(count);
+        let banks = LastAnswers::new();
+        self.front = Front::new(banks, start);
+        self.port = Port::new(banks, start);
+        self.next = Next::new(place_of(state, table), &self.front);
+        count
     }
 }

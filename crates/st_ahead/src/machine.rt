@@ -298,15 +298,37 @@ impl<const N: usize> Machine<N> {
         self.state.shape();
     }
 
-    /// Ends the segment at the end of a run, behind a tick at which an entry was done. The result is the number of levels dropped. After it only
-    /// `view`, `state`, `ring` and `index` are of use.
+    /// Ends the segment at the end of a run, at the tick whose settle is owed. The result is the number of levels dropped. After it only `view`,
+    /// `state`, `ring` and `index` are of use.
     pub fn stop(&mut self) -> u8
-        requires owed { self.old.owed ≡ true }
-        requires done { IsSome self.old.closing }
+        requires { self.old.owed ≡ true }
         ensures dropped { result ≡ dropped self.old }
         ensures after { self.new ≡ ended self.old }
     {
-        self.end()
+        if self.fresh {
+            self.end()
+        } else {
+            self.give_up()
+        }
+    }
+
+    /// The segment ends at this tick, at which no entry was done; where it has not ended already. The result is the number of levels dropped.
+    fn give_up(&mut self) -> u8
+        requires owed { self.old.owed ≡ true }
+        requires none { self.old.closing ≡ None }
+        ensures dropped { result ≡ dropped self.old }
+        ensures after { self.new ≡ ended self.old }
+    {
+        looks_are_levels();
+        self.delays.shape();
+        self.look.shape();
+        if self.ended {
+            return 0;
+        }
+        let now = self.now;
+        let dropped = self.look.give_up(&self.state, self.taken, now);
+        self.ended = true;
+        dropped
     }
 
     /// The order of the reader takes effect with its next card, which ends the segment, or without one. The result is the number of levels dropped.
@@ -341,6 +363,7 @@ impl<const N: usize> Machine<N> {
     /// The order of the reader takes effect with a card, where the segment has ended.
     fn store_card(&mut self, card: [u64; 8])
         requires order { IsSome self.old.state.reader }
+        requires turn { MayServe self.old }
         requires ended { self.old.ended ≡ true }
         ensures { IfSome self.old.state.reader (λ order.
             self.new ≡ record self.old { state = read_in_of self.old.state order.word (Some card) }) }

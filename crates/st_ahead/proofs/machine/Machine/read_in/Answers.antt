@@ -1,5 +1,5 @@
 use Rattle.std.specs.Prelude.{IsSome}
-use Rattle.std.proofs.Common.{refl, sym, subst, arith}
+use Rattle.std.proofs.Common.{refl, sym, subst, ◌∙◌, arith}
 use Rattle.st_state.specs.Machine.{Machine}
 use Rattle.st_ahead.proofs.Settling.{ended-rest}
 use Rattle.st_ahead.proofs.Cards.{read-ended}
@@ -9,7 +9,9 @@ pub store_card-requires : goal.store_card-requires
 store_card-requires g c =
     let m = c.args.self.now in
     let rest = ended-rest m c.end-dropped.new.self m.ended refl c.end-dropped.ensures.after in
-    (omega arith, (subst (λ (s : Machine). IsSome s.reader) (sym rest.state) c.requires.order, rest.ended))
+    let owed = rest.owed ∙ c.requires.turn.0 in
+    let done = subst IsSome (sym rest.closing) c.requires.turn.1 in
+    (omega arith, (subst (λ (s : Machine). IsSome s.reader) (sym rest.state) c.requires.order, ((owed, done), rest.ended)))
 
 pub returns-clause-after : goal.returns-clause-after
 returns-clause-after g c =

@@ -5,6 +5,7 @@ use Rattle.st_exec.specs.Transfer.{read_in}
 use Rattle.st_ahead.specs.Overlap.{Overlap}
 use Rattle.st_ahead.specs.Inside.{standing}
 use Rattle.st_ahead.proofs.Cards.{card-inside, with-read}
+use Rattle.st_ahead.proofs.Settling.{fresh-closing}
 use Rattle.st_ahead.proofs.machine.Machine.store_card.Goals as goal
 
 pub invariant_of-self : goal.invariant_of-self
@@ -13,7 +14,9 @@ invariant_of-self g c =
     let i = c.self.inside in
     let some = subst (λ (m : Overlap). IsSome m.state.reader) (sym c.self.view_is) c.requires.order in
     let over = subst (λ (m : Overlap). m.ended ≡ true) (sym c.self.view_is) c.requires.ended in
-    card-inside n i.delays i.state c.read_in.new.state i.taken i.behind i.now i.owed i.ended i.fresh i.look i.state.reader c.args.card c.self.invariant over
+    let done = subst (λ (m : Overlap). IsSome m.closing) (sym c.self.view_is) c.requires.turn.1 in
+    let fresh = fresh-closing n i.delays i.state i.taken i.behind i.now i.owed i.ended i.fresh i.look done in
+    card-inside n i.delays i.state c.read_in.new.state i.taken i.behind i.now i.owed i.ended i.fresh i.look i.state.reader c.args.card c.self.invariant over fresh
     c.shape.ensures.reader_area some c.read_in.ensures
 
 pub returns : goal.returns

@@ -1,0 +1,72 @@
+use Rattle.std.proofs.Common.{◌≡◌, ℕ, ◌+◌, ◌<◌, ◌≤◌, ◌^◌, None, true, sym, subst, ◌∙◌, arith}
+use Rattle.st_rows.proofs.Within.{AreDelays-list}
+use Rattle.st_levels.specs.Levels.{oldest_front}
+use Rattle.st_ahead.specs.Overlap.{Overlap, with_counter}
+use Rattle.st_ahead.specs.Calls.{dropped, ended}
+use Rattle.st_ahead.specs.Look.{count}
+use Rattle.st_ahead.specs.Inside.{standing}
+use Rattle.st_ahead.proofs.Settling.{end-again, given-up, giving-up, counted-index}
+use Rattle.st_ahead.proofs.machine.Machine.give_up.Goals as goal
+
+pub returns-then-self-clause-dropped : goal.returns-then-self-clause-dropped
+returns-then-self-clause-dropped g c =
+    let i = c.self.inside in
+    subst (λ (m : Overlap). 0 ≡ dropped m) c.self.view_is
+    (end-again g.row.N i.delays i.state i.taken i.behind i.now i.owed i.ended i.fresh i.look c.if-self.true).0
+
+pub returns-then-self-clause-after : goal.returns-then-self-clause-after
+returns-then-self-clause-after g c =
+    let i = c.self.inside in
+    subst (λ (m : Overlap). m ≡ ended m) c.self.view_is
+    (end-again g.row.N i.delays i.state i.taken i.behind i.now i.owed i.ended i.fresh i.look c.if-self.true).1
+
+pub give_up-dropped-requires : goal.give_up-dropped-requires
+give_up-dropped-requires g c =
+    let i = c.self.inside in
+    let owes = subst (λ (m : Overlap). m.owed ≡ true) (sym c.self.view_is) c.requires.owed in
+    let asks = giving-up g.row.N i.delays i.state i.taken i.behind i.now i.owed i.ended i.fresh i.look c.self.invariant owes in
+    let early : i.now < 2 ^ 63 = asks.0 in
+    (omega arith, (asks.1, omega (arith, early)))
+
+pub invariant_of-self : goal.invariant_of-self
+invariant_of-self g c =
+    let n = g.row.N in
+    let i = c.self.inside in
+    let owes = subst (λ (m : Overlap). m.owed ≡ true) (sym c.self.view_is) c.requires.owed in
+    let none = subst (λ (m : Overlap). m.closing ≡ None) (sym c.self.view_is) c.requires.none in
+    let most : count i.look ≤ n = c.shape-2.ensures in
+    (given-up n i.delays i.state i.taken i.behind i.now i.owed i.ended i.fresh i.look c.give_up-dropped.new.self c.self.invariant owes c.if-self.false none most
+    (λ look. c.looks_are_levels.ensures i.delays n i.now i.now i.taken (with_counter i.behind i.state) (oldest_front i.look.levels.plans i.look.front) i.look
+    c.self.invariant.some c.self.invariant.few (AreDelays-list i.delays c.shape.ensures) (omega arith) most look)
+    (λ look. c.give_up-dropped.ensures.opened i.delays i.now i.taken (with_counter i.behind i.state) (oldest_front i.look.levels.plans i.look.front) look
+    (counted-index i.behind i.state))).0
+
+pub returns-clause-dropped : goal.returns-clause-dropped
+returns-clause-dropped g c =
+    let n = g.row.N in
+    let i = c.self.inside in
+    let owes = subst (λ (m : Overlap). m.owed ≡ true) (sym c.self.view_is) c.requires.owed in
+    let none = subst (λ (m : Overlap). m.closing ≡ None) (sym c.self.view_is) c.requires.none in
+    let most : count i.look ≤ n = c.shape-2.ensures in
+    subst (λ (m : Overlap). c.give_up-dropped.result ≡ dropped m) c.self.view_is
+    (c.give_up-dropped.ensures.dropped ∙
+    (given-up n i.delays i.state i.taken i.behind i.now i.owed i.ended i.fresh i.look c.give_up-dropped.new.self c.self.invariant owes c.if-self.false none most
+    (λ look. c.looks_are_levels.ensures i.delays n i.now i.now i.taken (with_counter i.behind i.state) (oldest_front i.look.levels.plans i.look.front) i.look
+    c.self.invariant.some c.self.invariant.few (AreDelays-list i.delays c.shape.ensures) (omega arith) most look)
+    (λ look. c.give_up-dropped.ensures.opened i.delays i.now i.taken (with_counter i.behind i.state) (oldest_front i.look.levels.plans i.look.front) look
+    (counted-index i.behind i.state))).1)
+
+pub returns-clause-after : goal.returns-clause-after
+returns-clause-after g c =
+    let n = g.row.N in
+    let i = c.self.inside in
+    let owes = subst (λ (m : Overlap). m.owed ≡ true) (sym c.self.view_is) c.requires.owed in
+    let none = subst (λ (m : Overlap). m.closing ≡ None) (sym c.self.view_is) c.requires.none in
+    let most : count i.look ≤ n = c.shape-2.ensures in
+    let w = c.give_up-dropped.new.self in
+    subst (λ (m : Overlap). standing n i.delays i.state i.taken i.behind i.now i.owed true i.fresh w ≡ ended m) c.self.view_is
+    (given-up n i.delays i.state i.taken i.behind i.now i.owed i.ended i.fresh i.look w c.self.invariant owes c.if-self.false none most
+    (λ look. c.looks_are_levels.ensures i.delays n i.now i.now i.taken (with_counter i.behind i.state) (oldest_front i.look.levels.plans i.look.front) i.look
+    c.self.invariant.some c.self.invariant.few (AreDelays-list i.delays c.shape.ensures) (omega arith) most look)
+    (λ look. c.give_up-dropped.ensures.opened i.delays i.now i.taken (with_counter i.behind i.state) (oldest_front i.look.levels.plans i.look.front) look
+    (counted-index i.behind i.state))).2
