@@ -1,12 +1,12 @@
 //! The entry that is prepared next, as far as it is known.
-ghost use Rattle.std.specs.Prelude.{◌≡◌, ℕ, ◌+◌, ◌-◌, ◌<◌, ◌≤◌, ◌^◌, true, false, max, length, take, map, List, [], ◌++◌, Option, IfSome, get_or, is_none, ◌&&◌, if◌then◌else◌};
+ghost use Rattle.std.specs.Prelude.{◌≡◌, ℕ, ◌+◌, ◌-◌, ◌<◌, ◌≤◌, ◌^◌, true, false, max, length, take, map, List, [], ◌++◌, Option, IfSome, get_or, is_none, option_map, None, ◌&&◌, if◌then◌else◌};
 ghost use Rattle.st_bits.specs.Storage.{words_of_storage};
 ghost use Rattle.st_fetch.specs.Planned.{tick_of};
 ghost use Rattle.st_state.specs.Machine.{Machine, word};
 ghost use Rattle.st_prep.specs.EarlyChange.{words_after};
 ghost use Rattle.st_prep.specs.Fetch.{place_of as place_by};
-ghost use Rattle.st_prep.specs.Plan.{seen, plan as plan_of};
-ghost use Rattle.st_prep.specs.Ranges.{IsPlace, IsFetched, IsFetching, IsChange, IsPrepared};
+ghost use Rattle.st_prep.specs.Plan.{seen, plan as plan_of, prepared as prepared_of, needs as needs_of};
+ghost use Rattle.st_prep.specs.Ranges.{IsPlace, IsFetched, IsFetching, IsChange, IsPrepared, IsNeeds};
 ghost use Rattle.st_prep.specs.Reading.{reading, left_after, given as given_of};
 ghost use Rattle.st_rows.specs.Asked.{word_asked, side_asked};
 ghost use Rattle.st_rows.specs.declared.front.Front.{Front as FrontAt};
@@ -21,6 +21,7 @@ ghost use Rattle.st_next.specs.Going.{IsFront, IsEarly, GoesOn, AreAskedMore, kn
 
 use st_banks::Delays;
 use st_bits::register::FIRST_STORAGE_WORD;
+use st_format::{Decoded, Instr};
 use st_port::Port;
 use st_prep::{
     Fetched, Fetching as Given, IndexChange, Needs, Place, Prepared, Words, fetch_on, prepare_in,
@@ -375,7 +376,7 @@ impl Next {
         ensures bus { port.new.bus ≡ port.old.bus }
     {
         self.prepared.place = self.place;
-        self.needs = prepare_without_side(&mut self.prepared, fetched, outlook.x, state);
+        self.needs = prepare_as(&mut self.prepared, fetched, outlook.x, state);
         self.entry = entry_of(self.own, self.target, &self.needs, &self.prepared, fetched);
         self.fetched = *fetched;
         let front = outlook.front;
@@ -383,6 +384,100 @@ impl Next {
         self.planned = true;
         port.ask_side(&front.past, self.entry.side, self.formed.a);
     }
+}
+
+/// Prepares an entry as far as it goes without its index-side word. What follows knows the form of a frequent instruction, so that it is told
+/// apart once.
+#[inline(always)]
+fn prepare_as(p: &mut Prepared, fetched: &Fetched, x: &[u64; 16], state: &State) -> Needs
+    requires place { IsPlace p.old.place }
+    requires fetched { IsFetched fetched.now }
+    ensures value { let v = seen p.old.place fetched.now x.now state.now in
+        p.new ≡ prepared_of v (option_map (λ w. 0) (needs_of v).index_read) }
+    ensures needs { result ≡ needs_of (seen p.old.place fetched.now x.now state.now) }
+    ensures place { p.new.place ≡ p.old.place }
+    ensures ranges { IsPrepared p.new }
+    ensures shape { IsNeeds result }
+{
+    if fetched.target.is_some() {
+        return prepare_any(p, fetched, x, state);
+    }
+    if fetched.fault.is_some() {
+        return prepare_any(p, fetched, x, state);
+    }
+    let halves = fetched.instr.halves;
+    match fetched.instr.instr {
+        Instr::Half { op, address, j, i } => {
+            let instr = Instr::Half { op, address, j, i };
+            prepare_own(p, Decoded { instr, halves }, x, state)
+        }
+        Instr::Branch { op, address, i } => {
+            let instr = Instr::Branch { op, address, i };
+            prepare_own(p, Decoded { instr, halves }, x, state)
+        }
+        Instr::Vfl {
+            op,
+            decimal,
+            unsigned,
+            negated,
+            p: form,
+            length,
+            byte,
+            offset,
+            address,
+            i,
+        } => {
+            let instr = Instr::Vfl {
+                op,
+                decimal,
+                unsigned,
+                negated,
+                p: form,
+                length,
+                byte,
+                offset,
+                address,
+                i,
+            };
+            prepare_own(p, Decoded { instr, halves }, x, state)
+        }
+        _ => prepare_any(p, fetched, x, state),
+    }
+}
+
+/// The same of any entry.
+#[inline(never)]
+fn prepare_any(p: &mut Prepared, fetched: &Fetched, x: &[u64; 16], state: &State) -> Needs
+    requires place { IsPlace p.old.place }
+    requires fetched { IsFetched fetched.now }
+    ensures value { let v = seen p.old.place fetched.now x.now state.now in
+        p.new ≡ prepared_of v (option_map (λ w. 0) (needs_of v).index_read) }
+    ensures needs { result ≡ needs_of (seen p.old.place fetched.now x.now state.now) }
+    ensures place { p.new.place ≡ p.old.place }
+    ensures ranges { IsPrepared p.new }
+    ensures shape { IsNeeds result }
+{
+    prepare_without_side(p, fetched, x, state)
+}
+
+/// The same of an own instruction whose words may be fetched, and which has no target.
+#[inline(always)]
+fn prepare_own(p: &mut Prepared, own: Decoded, x: &[u64; 16], state: &State) -> Needs
+    requires place { IsPlace p.old.place }
+    requires fetched { IsFetched (record { instr = own; target = None; fault = None }) }
+    ensures value { let v = seen p.old.place (record { instr = own; target = None; fault = None }) x.now state.now in
+        p.new ≡ prepared_of v (option_map (λ w. 0) (needs_of v).index_read) }
+    ensures needs { result ≡ needs_of (seen p.old.place (record { instr = own; target = None; fault = None }) x.now state.now) }
+    ensures place { p.new.place ≡ p.old.place }
+    ensures ranges { IsPrepared p.new }
+    ensures shape { IsNeeds result }
+{
+    let fetched = Fetched {
+        instr: own,
+        target: None,
+        fault: None,
+    };
+    prepare_without_side(p, &fetched, x, state)
 }
 
 /// An entry with these instruction words as the timetable sees it.
