@@ -1,0 +1,10 @@
+use Rattle.std.proofs.Common.{◌<◌, ◌≤◌, refl, arith}
+use Rattle.std.proofs.lemmas.List.{get_or-replicate}
+use Rattle.st_exec.proofs.execution.read_operands.Goals as goal
+
+pub loop-k-init : goal.loop-k-init
+loop-k-init c = record {
+  size = refl;
+  each = λ k below. absurd (omega arith);
+  zero_from = λ k from below. get_or-replicate 32 k 0 0 below;
+}
