@@ -1,5 +1,5 @@
 -- A made deck is a text of cards, which is assembled.
-use Rattle.std.proofs.Common.{◌≡◌, ◌≤◌, ◌+◌, ◌-◌, ◌*◌, ℕ, zero, suc, true, false, nat_le, List, [], ◌∷◌, ◌++◌, length, map, codes, decimal, Ok, refl, sym, ap, ◌∙◌, append_assoc, append-nil, length-append, replicate, arith}
+use Rattle.std.proofs.Common.{◌≡◌, ◌≤◌, ◌+◌, ℕ, zero, suc, true, false, nat_le, List, [], ◌∷◌, ◌++◌, length, map, codes, decimal, Ok, refl, sym, ap, ◌∙◌, append_assoc, append-nil, length-append, replicate, arith}
 use Rattle.std.proofs.lemmas.Bool.{and_from as both_true, le-leb as within}
 use Rattle.std.proofs.lemmas.List.{map-append, length-map}
 use Rattle.std.proofs.lemmas.List.Elements.{All-nil, All-cons, All-append}

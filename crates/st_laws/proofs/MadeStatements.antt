@@ -1,5 +1,5 @@
 -- Each statement of a made deck is read, and lays one or two half-words wherever these are in storage.
-use Rattle.std.proofs.Common.{◌≡◌, ◌≤◌, ◌<◌, ◌+◌, ◌-◌, ◌*◌, ◌%◌, ◌^◌, ◌==◌, ℕ, ℤ, true, false, nat_le, nat_lt, List, [], ◌∷◌, ◌++◌, Some, None, unwrap_or, length, codes, Ok, refl, sym, ap, subst, ◌∙◌, if◌then◌else◌, arith}
+use Rattle.std.proofs.Common.{◌≡◌, ◌≤◌, ◌<◌, ◌+◌, ◌*◌, ◌%◌, ◌^◌, ◌==◌, ℕ, ℤ, true, false, nat_le, nat_lt, List, [], ◌∷◌, ◌++◌, Some, None, unwrap_or, length, codes, Ok, refl, sym, ap, subst, ◌∙◌, if◌then◌else◌, arith}
 use Rattle.std.proofs.lemmas.Bool.Decides.{nat_tests}
 use Rattle.std.proofs.lemmas.List.Elements.{All-nil, All-cons, All-head, All-tail}
 use Rattle.std.specs.List.{All}
