@@ -77,12 +77,12 @@ unfolding levels_of
 levels-few m = few-before m.delays m.levels m.now m.levels m.taken (seen m) m.front
 
 left-soon : (most : ℕ) (m : Overlap) (c : Option LastAnswers) → IsSome c → IfSome c (λ b. All (λ t. t ≤ m.now + most) b.ticks)
-    → All (λ t. t ≤ m.now + most) (banks_left m c).ticks
+    → All (λ t. t ≤ m.now + most) (banks_left c).ticks
 left-soon most m None some soon = absurd (cc some)
 left-soon most m (Some banks) some soon = soon
 
 opened : Overlap → Overlap
-opened m = record m { front = opening (banks_left m m.closing) (m.now + 1 + length (levels_of m)); ended = true }
+opened m = record m { front = opening (banks_left m.closing) (m.now + 1 + length (levels_of m)); ended = true }
 
 -- ---- each call
 
@@ -97,8 +97,8 @@ within-ended most made since m is some w =
     (λ over. w)
     (λ going. record {
       tight =
-          opening-tight most start (banks_left m m.closing)
-          (All-weaker (λ t. t ≤ m.now + most) (λ t. t ≤ start + most) (λ t low. omega arith) (banks_left m m.closing).ticks
+          opening-tight most start (banks_left m.closing)
+          (All-weaker (λ t. t ≤ m.now + most) (λ t. t ≤ start + most) (λ t low. omega arith) (banks_left m.closing).ticks
           (left-soon most m m.closing some w.banks));
       banks = w.banks;
       ticks = w.ticks;

@@ -228,7 +228,7 @@ pub kept-ended : (m : Overlap) → IsKept m → IsSome m.closing → IsKept (end
 unfolding ended
 kept-ended m is some =
     let fresh = fresh-of m is some in
-    choice_by IsKept m.ended m (record m { front = opening (banks_left m m.closing) (m.now + 1 + length (levels_of m)); ended = true })
+    choice_by IsKept m.ended m (record m { front = opening (banks_left m.closing) (m.now + 1 + length (levels_of m)); ended = true })
     (λ over. is)
     (λ going. record {
       some = is.some;
@@ -260,7 +260,7 @@ pub record IsEnded (m e : Overlap) : Type 0 where
 pub ended-rest : (m : Overlap) → IsEnded m (ended m)
 unfolding ended
 ended-rest m =
-    choice_by (IsEnded m) m.ended m (record m { front = opening (banks_left m m.closing) (m.now + 1 + length (levels_of m)); ended = true })
+    choice_by (IsEnded m) m.ended m (record m { front = opening (banks_left m.closing) (m.now + 1 + length (levels_of m)); ended = true })
     (λ over. record {
       delays = refl;
       levels = refl;

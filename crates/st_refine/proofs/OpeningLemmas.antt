@@ -301,7 +301,7 @@ stands-goes m j o xs owed is stands =
 -- ---- the end of a segment
 
 opened : Overlap → Overlap
-opened m = record m { front = opening (banks_left m m.closing) (m.now + 1 + length (levels_of m)); ended = true }
+opened m = record m { front = opening (banks_left m.closing) (m.now + 1 + length (levels_of m)); ended = true }
 
 ended-going : (m : Overlap) → m.ended ≡ false → ended m ≡ opened m
 unfolding ended opened
@@ -311,9 +311,9 @@ pub ended-again : (m : Overlap) → m.ended ≡ true → ended m ≡ m
 unfolding ended opened
 ended-again m over = ap (λ b. if b then m else opened m) over
 
-left-is : (m : Overlap) (c : Option LastAnswers) (b : LastAnswers) → IsSome c → IfSome c (λ x. x ≡ b) → banks_left m c ≡ b
-left-is m None b some is = absurd (cc some)
-left-is m (Some x) b some is = is
+left-is : (c : Option LastAnswers) (b : LastAnswers) → IsSome c → IfSome c (λ x. x ≡ b) → banks_left c ≡ b
+left-is None b some is = absurd (cc some)
+left-is (Some x) b some is = is
 
 stands-opened : (m : Overlap) (made since j : ℕ) (o : Opening) (xs : List Outside) → IsReached m made since → MayServe m → m.ended ≡ false
     → StandsAt o xs j m → StandsAt (opening_behind m.delays m.levels (length (levels_of m)) o xs j) [] 0 (opened m)
@@ -325,7 +325,7 @@ stands-opened m made since j o xs from may going is =
       state = is.state;
       front =
           ap₂ (λ b c. opening b (c + 1 + length (levels_of m)))
-          (left-is m m.closing (banks_behind m.delays m.levels o xs j) may.1 (is.banks going)) now;
+          (left-is m.closing (banks_behind m.delays m.levels o xs j) may.1 (is.banks going)) now;
       table = fresh.none;
       done = λ some. absurd (omega (arith, some));
       before = All-nil (λ (x : Outside). x.done ≤ m.state.done);

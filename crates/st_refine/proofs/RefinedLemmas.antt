@@ -9,13 +9,13 @@ use Rattle.st_exec.specs.Completion.{executed, guess, is_missed}
 use Rattle.st_exec.specs.Step.{interrupt, rests, step, address}
 use Rattle.st_exec.specs.Transfer.{read_in}
 use Rattle.st_exec.proofs.StepLemmas.{step-done}
-use Rattle.st_rows.specs.Rows.{row, after}
+use Rattle.st_rows.specs.Rows.{row, opening, after}
 use Rattle.st_segment.specs.Entries.{entry}
 use Rattle.st_segment.specs.Guesses.{guesses}
 use Rattle.st_segment.specs.Ahead.{next_ahead, ahead, prepared_before, front_behind}
 use Rattle.st_segment.proofs.StepLemmas.{guess-right, guess-missed}
 use Rattle.st_ahead.specs.Overlap.{Overlap, started, seen, with_counter, oldest_row, levels_of, interrupt_due}
-use Rattle.st_ahead.specs.Calls.{is_done, row_done, missed_counter, completed, ticked, dropped, ended, passed, settled, settled_by, answer, answer_by, read_in_by, dropped_by, MayServe}
+use Rattle.st_ahead.specs.Calls.{is_done, row_done, missed_counter, completed, ticked, dropped, banks_left, ended, passed, settled, settled_by, answer, answer_by, read_in_by, dropped_by, MayServe}
 use Rattle.st_ahead.specs.Shown.{shown}
 use Rattle.st_ahead.specs.declared.events.Settled.TheVariants.{Goes, Interrupt, Missed, Waits}
 use Rattle.st_ahead.proofs.Settling.{due-taken}
@@ -23,7 +23,7 @@ use Rattle.st_ahead.proofs.Standing.{guess-seen}
 use Rattle.st_refine.specs.Reached.{IsReached, MayTick}
 use Rattle.st_refine.specs.Refined.{row_of, IsUnwound, AddsOneAtMost}
 use Rattle.st_refine.proofs.LevelLists.{none-before, one-more, done-levels}
-use Rattle.st_refine.proofs.Kept.{IsIdle, IsPhase, IsKept, idle-of, fresh-of, kept, kept-ended, seen-idle, ended-rest, quiet, closing-cases}
+use Rattle.st_refine.proofs.Kept.{choice_by, IsIdle, IsPhase, IsKept, idle-of, fresh-of, kept, kept-ended, seen-idle, ended-rest, quiet, closing-cases}
 use Rattle.st_refine.proofs.SplitLemmas.{plan-address, shown-none}
 
 -- ---- a tick
@@ -282,10 +282,27 @@ waits-unwinds m made since from owed is =
     let after_it : settled_by (interrupt_due m) (rests m.state) m.behind m ≡ ended m = rw (told.0, told.1) refl in
     (told.1, subst IsUnwound (sym after_it) (unwound-ended m kept_is some))
 
-pub stop-unwinds : (m : Overlap) (made since : ℕ) → IsReached m made since → MayServe m
+-- where no entry was done at the tick, the segment has not ended before
+dropped-going : (m : Overlap) → m.ended ≡ false → dropped m ≡ length (levels_of m)
+unfolding dropped
+dropped-going m going =
+    choice_by (λ k. k ≡ length (levels_of m)) m.ended 0 (length (levels_of m)) (λ over. absurd (cc (sym over ∙ going))) (λ on. refl)
+
+unwound-going : (m : Overlap) → m.ended ≡ false → IsUnwound (ended m)
+unfolding ended
+unwound-going m going =
+    let m' = record m { front = opening (banks_left m.closing) (m.now + 1 + length (levels_of m)); ended = true } in
+    choice_by IsUnwound m.ended m m' (λ over. absurd (cc (sym over ∙ going))) (λ on. unwound-by m' (omega arith))
+
+pub stop-unwinds : (m : Overlap) (made since : ℕ) → IsReached m made since → m.owed ≡ true
     → ((ended m).state ≡ m.state) × (dropped m ≡ length (levels_of m)) × IsUnwound (ended m)
-stop-unwinds m made since from may =
-    ((ended-rest m).state, dropped-is m (kept from) may.1, unwound-ended m (kept from) may.1)
+stop-unwinds m made since from owed =
+    let is = kept from in
+    elim (closing-cases m.closing) [
+      | inl none ↦ let idle : IsIdle m = subst (λ c. IsPhase c m) none is.phase in
+          ((ended-rest m).state, dropped-going m idle.going, unwound-going m idle.going)
+      | inr some ↦ ((ended-rest m).state, dropped-is m is some, unwound-ended m is some)
+    ]
 
 pub card-unwinds : (m : Overlap) (made since w : ℕ) (card : List ℕ) → IsReached m made since → MayServe m
     → (dropped_by (Some card) m ≡ length (levels_of m)) × IsUnwound (read_in_by w (Some card) m)

@@ -27,8 +27,8 @@ pub record IsCard (card : List ℕ) : Type 0 where
   pub below : All (λ x. x < 2 ^ 64) card
 
 -- the machine before its first call, and after each further one: a tick, a settle, a signal, the order of the reader with a card or without one,
--- that of the printer, or the end of the run. Beside it, how many ticks were made, and how many of them since the last instruction was done, or
--- since the start
+-- that of the printer, or the end of the run behind a tick at which an entry was done; at another tick it is the last call. Beside it, how many
+-- ticks were made, and how many of them since the last instruction was done, or since the start
 pub data IsReached : Overlap → ℕ → ℕ → Type 0 where
   Starts : (ds : List ℕ) (n : ℕ) (s : Machine) → CanStart ds n s → IsReached (started ds n s) 0 0
   Ticks : (m : Overlap) (made since : ℕ) → IsReached m made since → MayTick m

@@ -54,7 +54,7 @@ pub fn levels_are_unwound()
         answer m ≡ Missed k → (k ≡ length (levels_of m)) × IsUnwound (settled m) }
     ensures waits { (m : Overlap) (made since : ℕ) → IsReached m made since → m.owed ≡ true →
         answer m ≡ Waits → (rests m.state ≡ true) × IsUnwound (settled m) }
-    ensures stop { (m : Overlap) (made since : ℕ) → IsReached m made since → MayServe m →
+    ensures stop { (m : Overlap) (made since : ℕ) → IsReached m made since → m.owed ≡ true →
         ((ended m).state ≡ m.state) × (dropped m ≡ length (levels_of m)) × IsUnwound (ended m) }
     ensures card { (m : Overlap) (made since w : ℕ) (card : List ℕ) → IsReached m made since → MayServe m →
         (dropped_by (Some card) m ≡ length (levels_of m)) × IsUnwound (read_in_by w (Some card) m) }
