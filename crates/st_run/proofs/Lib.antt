@@ -26,3 +26,4 @@ pub mod ChoiceLemmas
 pub mod LevelLemmas
 pub mod PartLemmas
 pub mod LastLemmas
+pub mod ServingLemmas
