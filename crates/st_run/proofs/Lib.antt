@@ -27,3 +27,4 @@ pub mod LevelLemmas
 pub mod PartLemmas
 pub mod LastLemmas
 pub mod QuietLemmas
+pub mod ServingLemmas
