@@ -60,6 +60,33 @@ going-waits ds n now t s f v late is = record {
   free = is.free;
 }
 
+-- ---- it is planned already
+
+next-planned : (b : Bool) (ds : List ℕ) (n now : ℕ) (t : Option ℕ) (s : Machine) (v : LookView) → v.next.planned ≡ true
+    → IsNextIf b ds n now t s v → IsNextIf b ds n (now + 1) t s v
+next-planned true ds n now t s v planned is = (is.0, Planned planned)
+next-planned false ds n now t s v planned is = is
+
+pub going-planned : (ds : List ℕ) (n now : ℕ) (t : Option ℕ) (s : Machine) (f : Front) (v : LookView) → v.next.planned ≡ true
+    → IsGoing ds n now now t s f v → IsGoing ds n now (now + 1) t s f v
+going-planned ds n now t s f v planned is = record {
+  machine = is.machine;
+  indicator = is.indicator;
+  ahead = is.ahead;
+  prepared = is.prepared;
+  not_done = is.not_done;
+  oldest = is.oldest;
+  tight = is.tight;
+  start = is.start;
+  early = is.early;
+  next = next-planned (is_open v) ds n now t s v planned is.next;
+  late = is.late;
+  way = is.way;
+  room = is.room;
+  near = is.near;
+  free = is.free;
+}
+
 -- ---- it is wanted by now
 
 -- the youngest level is not done by the tick

@@ -1,6 +1,6 @@
 -- What a machine keeps when a tick is settled.
-use Rattle.std.specs.Prelude.{All, IfSome, IsSome, is_none, is_some, ◌&&◌, if◌then◌else◌}
-use Rattle.std.proofs.Common.{◌≡◌, ℕ, ◌+◌, ◌-◌, ◌<◌, ◌≤◌, ◌^◌, Bool, true, false, List, length, Option, None, Some, refl, sym, subst, ◌∙◌, ap, arith}
+use Rattle.std.specs.Prelude.{All, IsSome, is_none, is_some, ◌&&◌, if◌then◌else◌, IfSome}
+use Rattle.std.proofs.Common.{◌≡◌, ℕ, ◌+◌, ◌-◌, ◌<◌, ◌≤◌, ◌^◌, ◌||◌, not, Bool, true, false, List, length, Option, None, Some, refl, sym, subst, ◌∙◌, ap, arith}
 use Rattle.std.proofs.lemmas.List.Elements.{All-weaker, All-replicate}
 use Rattle.st_state.specs.Machine.{Machine, IsMachine}
 use Rattle.st_state.specs.Interrupts.{pending}
@@ -13,16 +13,14 @@ use Rattle.st_rows.specs.Rows.{opening}
 use Rattle.st_rows.specs.declared.front.Front.{Front}
 use Rattle.st_ring.specs.declared.level.Level.{Level}
 use Rattle.st_levels.specs.Levels.{oldest_front}
-use Rattle.st_levels.specs.declared.plans.Plan.{Plan}
 use Rattle.st_segment.specs.Ahead.{ahead, prepared_before}
 use Rattle.st_levels.proofs.LevelLemmas.{length-ahead}
-use Rattle.st_ahead.specs.Overlap.{Overlap, idle_banks, seen, with_counter, levels_of, interrupt_due, last_tick}
+use Rattle.st_ahead.specs.Overlap.{Overlap, seen, with_counter, levels_of, interrupt_due, idle_banks, last_tick}
 use Rattle.st_ahead.specs.Calls.{dropped, ended, passed, settled, answer, settled_by, answer_by}
 use Rattle.st_ahead.specs.Look.{LookView, IsLook, IsOpened, count}
 use Rattle.st_ahead.specs.Going.{IsGoing}
 use Rattle.st_ahead.specs.Inside.{standing, IsBetween, IsInside, IsInTime}
 use Rattle.st_ahead.proofs.Openings.{opening-looks}
-use Rattle.st_ahead.specs.declared.events.Settled.{Settled}
 use Rattle.st_ahead.specs.declared.events.Settled.TheVariants.{Goes, Interrupt, Missed, Waits}
 use Rattle.st_ahead.proofs.Standing.{opened-front, same-fields, chosen, left_over}
 
@@ -455,3 +453,50 @@ go-inside n ds s t None now true false fresh v w is owes ends right due goes loo
       },
       same-fields ds n s s t None None _ _ (now + 1) false false None None refl refl front refl,
     )
+
+-- where no entry was done at a tick, nothing closes at it
+pub not-fresh : (fresh : Bool) (banks : LastAnswers) → fresh ≡ false → (if fresh then Some banks else None) ≡ None
+not-fresh true banks stale = absurd (cc stale)
+not-fresh false banks stale = refl
+
+-- whether it goes on, by three tests
+both-none : (b d : Option ℕ) → (is_some b || is_some d) ≡ false → (d ≡ None) × (b ≡ None)
+both-none (Some h) d none = absurd (cc none)
+both-none None (Some i) none = absurd (cc none)
+both-none None None none = (refl, refl)
+
+pub goes-yes : (m : Overlap) (ends waits : Bool) → ends ≡ (is_some m.behind || is_some (interrupt_due m)) → ends ≡ false
+    → waits ≡ rests m.state → not waits ≡ true → (interrupt_due m ≡ None) × (rests m.state ≡ false) × (m.behind ≡ None)
+goes-yes m ends true is none by goes = absurd (cc goes)
+goes-yes m ends false is none by goes =
+    let both = both-none m.behind (interrupt_due m) (sym is ∙ none) in
+    (both.0, sym by, both.1)
+
+some-first : (b d r : Bool) → (b || d) ≡ true → (b || d || r) ≡ true
+some-first true d r some = refl
+some-first false true r some = refl
+some-first false false r some = absurd (cc some)
+
+some-last : (b d r : Bool) → r ≡ true → (b || d || r) ≡ true
+some-last true d r some = refl
+some-last false true r some = refl
+some-last false false r some = some
+
+pub goes-not : (m : Overlap) (ends : Bool) → ends ≡ (is_some m.behind || is_some (interrupt_due m)) → ends ≡ true
+    → (is_some m.behind || is_some (interrupt_due m) || rests m.state) ≡ true
+goes-not m ends is some = some-first (is_some m.behind) (is_some (interrupt_due m)) (rests m.state) (sym is ∙ some)
+
+pub goes-no : (m : Overlap) (waits : Bool) → waits ≡ rests m.state → not waits ≡ false
+    → (is_some m.behind || is_some (interrupt_due m) || rests m.state) ≡ true
+goes-no m true by waits = some-last (is_some m.behind) (is_some (interrupt_due m)) (rests m.state) (sym by)
+goes-no m false by waits = absurd (cc waits)
+
+missed-by : (b : Bool) (d : Option ℕ) (r : Bool) → d ≡ None → r ≡ false → (b || is_some d || r) ≡ true → b ≡ true
+missed-by true d r none goes some = refl
+missed-by false (Some i) r none goes some = absurd (cc none)
+missed-by false None true none goes some = absurd (cc goes)
+missed-by false None false none goes some = absurd (cc some)
+
+pub misled : (m : Overlap) → interrupt_due m ≡ None → rests m.state ≡ false
+    → (is_some m.behind || is_some (interrupt_due m) || rests m.state) ≡ true → is_some m.behind ≡ true
+misled m none goes some = missed-by (is_some m.behind) (interrupt_due m) (rests m.state) none goes some

@@ -37,6 +37,9 @@ impl<const N: usize> Look<N> {
         open_levels_run_ahead();
         rows_are_in_order();
         let _few = self.levels.len();
+        if self.next.planned {
+            return;
+        }
         if self.front.wanted_from() > now {
             return;
         }
@@ -68,13 +71,19 @@ impl<const N: usize> Look<N> {
         delays.shape();
         let _few = self.levels.len();
         let before = self.front;
-        let entry = self.next.entry;
-        let formed = self.next.formed;
         let mut x = *self.levels.index();
         let prepared = self.next.prepare(&mut x, state);
-        let filled = self.front.complete(delays, N, &entry, formed);
-        ask_data(&mut self.port, &before.past, &entry, &formed.bus, now);
-        self.next = Next::new(place_behind(&prepared), &self.front);
+        let filled = self
+            .front
+            .complete(delays, N, &self.next.entry, self.next.formed);
+        ask_data(
+            &mut self.port,
+            &before.past,
+            &self.next.entry,
+            &self.next.formed.bus,
+            now,
+        );
+        self.next.restart(place_behind(&prepared), &self.front);
         self.levels.push(prepared, &before, &filled, state);
     }
 

@@ -1,5 +1,5 @@
 //! The overlapped machine, and the calls that drive it.
-ghost use Rattle.std.specs.Prelude.{◌≡◌, ℕ, ◌+◌, ◌<◌, ◌≤◌, ◌^◌, true, false, is_some, IsSome, IfSome, None, Some, get_or, length};
+ghost use Rattle.std.specs.Prelude.{◌≡◌, ℕ, ◌+◌, ◌<◌, ◌≤◌, ◌^◌, true, false, is_some, IsSome, IfSome, None, Some, get_or, length, ◌||◌};
 
 use crate::events::{Event, LevelView, Row, Settled, View};
 use crate::look::Look;
@@ -118,6 +118,10 @@ impl<const N: usize> Machine<N> {
         ensures answer { result ≡ answer self.old }
         ensures after { self.new ≡ settled self.old }
     {
+        if self.goes_on() {
+            self.go_on();
+            return Settled::Goes;
+        }
         self.quiet();
         if let Some(indicator) = self.interrupt_due() {
             return self.interrupt(indicator);
@@ -126,13 +130,26 @@ impl<const N: usize> Machine<N> {
             self.end();
             return Settled::Waits;
         }
-        if self.is_misled() {
-            let dropped = self.end();
-            self.pass();
-            return Settled::Missed { dropped };
+        let dropped = self.end();
+        self.pass();
+        Settled::Missed { dropped }
+    }
+
+    /// Whether nothing else comes behind the last tick than that it goes on.
+    fn goes_on(&self) -> bool
+        ensures yes { result ≡ true → (interrupt_due_of self.entry.now ≡ None)
+            × (rests self.entry.now.state ≡ false) × (self.entry.now.behind ≡ None) }
+        ensures no { result ≡ false → (is_some self.entry.now.behind || is_some (interrupt_due_of self.entry.now)
+            || rests self.entry.now.state) ≡ true }
+    {
+        self.quiet();
+        if !self.is_fresh() {
+            return true;
         }
-        self.go_on();
-        Settled::Goes
+        if self.ends() {
+            return false;
+        }
+        !self.is_resting()
     }
 
     // Where no entry was done, no interrupt is due, the machine is not at rest, and no branch was missed.
@@ -141,6 +158,13 @@ impl<const N: usize> Machine<N> {
             × (rests self.entry.now.state ≡ false) × (self.entry.now.behind ≡ None) }
     {
         let _ = &self.now;
+    }
+
+    /// Whether an entry was done at this tick.
+    fn is_fresh(&self) -> bool
+        ensures { result ≡ false → self.entry.now.closing ≡ None }
+    {
+        self.fresh
     }
 
     /// The interrupt that is taken before the next entry.
@@ -166,6 +190,13 @@ impl<const N: usize> Machine<N> {
         ensures { result ≡ is_some self.entry.now.behind }
     {
         self.behind.is_some()
+    }
+
+    /// Whether an interrupt is due or a branch was missed, so that the next decision ends the segment.
+    pub fn ends(&self) -> bool
+        ensures { result ≡ (is_some self.entry.now.behind || is_some (interrupt_due_of self.entry.now)) }
+    {
+        self.is_misled() || self.interrupt_due().is_some()
     }
 
     /// The segment ends at this tick, at which an entry was done; where it has not ended already. The result is the number of levels dropped.

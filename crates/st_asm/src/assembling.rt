@@ -10,7 +10,7 @@ use crate::forming::form_pass;
 use crate::naming::{Symbol, name_pass};
 use crate::stop::AsmError;
 use crate::valuing::{Listed, value_pass};
-use st_card::{Controls, split};
+use st_card::{Card, Controls, cards_stand_in_their_job, split};
 use std::alloc::Global;
 
 // How many instructions may be done where no card says it.
@@ -39,7 +39,6 @@ pub struct Assembled {
 ///
 /// The cards are gone over three times: for what each says by itself, for the names and places, and for
 /// the values. docs/strap.md has the rules and all faults. `NoMemory` where memory ran out.
-#[tactic(auto, unfolding(crate::specs::Assembly::assembly))]
 pub fn assemble(alloc: Global, job: &[u8]) -> Result<Assembled, AsmError>
     requires { length job.now < 2 ^ 32 }
     ensures ok { IfOk result (λ a. spec.assembly job.now ≡ Ok (spec.shown a)) }
@@ -54,7 +53,26 @@ pub fn assemble(alloc: Global, job: &[u8]) -> Result<Assembled, AsmError>
     let Ok(cards) = split(alloc, job) else {
         return Err(AsmError::NoMemory);
     };
-    let deck = form_pass(alloc, job, cards.as_slice())?;
+    assemble_cards(alloc, job, cards.as_slice())
+}
+
+/// The same of a job whose cards are cut already: `cards` are those of `job`, all of them and in order.
+///
+/// `NoMemory` where memory ran out.
+#[tactic(auto, unfolding(crate::specs::Assembly::assembly))]
+pub fn assemble_cards(alloc: Global, job: &[u8], cards: &[Card]) -> Result<Assembled, AsmError>
+    requires { cards.now ≡ cards_of job.now }
+    ensures ok { IfOk result (λ a. spec.assembly job.now ≡ Ok (spec.shown a)) }
+    ensures err { IfErr result (Explains (spec.assembly job.now)) }
+
+    // A row for each card, and what the machine asks of an image, a start and controls.
+    ensures sound { IfOk result (λ a. IsSound (length (cards_of job.now)) (spec.shown a)) }
+
+    // No card has a fault by itself, so each text can be printed.
+    ensures faultless { IfOk result (λ a. All (λ card. card.fault ≡ None) (cards_of job.now)) }
+{
+    cards_stand_in_their_job();
+    let deck = form_pass(alloc, job, cards)?;
     let names = name_pass(alloc, deck.lines.as_slice())?;
     let layout = value_pass(
         alloc,

@@ -18,7 +18,7 @@ mod values;
 mod valuing;
 
 pub use alone::{LaidBits, laid_alone};
-pub use assembling::{Assembled, assemble};
+pub use assembling::{Assembled, assemble, assemble_cards};
 pub use laws::{cards_have_their_first_fault, passes_stop_at_the_first_fault};
 pub use naming::Symbol;
 pub use stop::AsmError;

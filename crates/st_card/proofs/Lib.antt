@@ -5,3 +5,5 @@ pub mod CardLemmas
 pub mod TableLemmas
 pub mod TextLemmas
 pub mod LimitLemmas
+pub mod StandingLemmas
+pub mod OrderLemmas

@@ -124,25 +124,11 @@ impl Controls {
         }
     }
 
-    // Adds what the words of a control card ask for.
-    fn add_text(&mut self, text: &[u8]) -> Outcome
-        requires { length text.now ≤ 72 }
-        ensures { Settles self.old self.new (spec.with_words self.old (words text.now)) result }
-    {
-        let Some((word, rest)) = first_word(text) else {
-            return Outcome::Refused;
-        };
-        let Some(keyword) = keyword_of(word) else {
-            return Outcome::Refused;
-        };
-        let Some(numbers) = read_numbers(rest) else {
-            return Outcome::Refused;
-        };
-        self.add_numbers(keyword, numbers.as_slice())
-    }
-
-    // Adds what a keyword and its numbers ask for.
-    fn add_numbers(&mut self, keyword: Keyword, numbers: &[u64]) -> Outcome
+    /// Adds what a keyword asks for with its numbers, 36 of them at most.
+    ///
+    /// It is refused with another count of numbers, past a limit, or a second time where once is
+    /// allowed. After a refusal, and after want of memory, the controls are as before.
+    pub fn ask(&mut self, keyword: Keyword, numbers: &[u64]) -> Outcome
         requires { length numbers.now ≤ 36 }
         ensures { Settles self.old self.new
             (spec.with_keyword keyword self.old numbers.now) result }
@@ -159,6 +145,23 @@ impl Controls {
             Keyword::Time => set_mark(&mut self.time, numbers),
             Keyword::Chart => set_mark(&mut self.chart, numbers),
         }
+    }
+
+    // Adds what the words of a control card ask for.
+    fn add_text(&mut self, text: &[u8]) -> Outcome
+        requires { length text.now ≤ 72 }
+        ensures { Settles self.old self.new (spec.with_words self.old (words text.now)) result }
+    {
+        let Some((word, rest)) = first_word(text) else {
+            return Outcome::Refused;
+        };
+        let Some(keyword) = keyword_of(word) else {
+            return Outcome::Refused;
+        };
+        let Some(numbers) = read_numbers(rest) else {
+            return Outcome::Refused;
+        };
+        self.ask(keyword, numbers.as_slice())
     }
 
     fn add_budget(&mut self, numbers: &[u64]) -> Outcome

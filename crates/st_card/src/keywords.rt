@@ -1,4 +1,4 @@
-//! The words and numbers of control cards.
+//! What can be asked for, and the words and numbers of control cards.
 
 ghost use Rattle.std.specs.Prelude.{◌≡◌, ◌≤◌, length};
 ghost use Rattle.std.specs.Option.{option_map};
@@ -12,26 +12,40 @@ use crate::tables::row_of;
 use crate::words::first_word;
 use arrayvec::ArrayVec;
 
-// What a control card asks for.
-#[derive(Clone, Copy)]
-pub(crate) enum Keyword {
+/// What can be asked for, by control cards and by the lines of an object text; each with the numbers that it takes.
+#[derive(Clone, Copy, Debug, PartialEq, Eq)]
+pub enum Keyword {
+    /// How many instructions may be done: one number, 1 to 10,000,000; once.
     Budget,
+    /// Delays of storage in ticks: one number or more, each 1 to 255; at most 4,096 delays.
     Delays,
+    /// A signal: how many instructions are done when it comes, up to 10,000,000 and not below the last, and its indicator,
+    /// 0 to 13; at most 4,096 signals.
     Signals,
+    /// A part of storage that is to be printed: its first and its last word, up to 98,303; at most 16 parts.
     Dump,
+    /// A tick at which the machine is to be shown: one number, above the last; at most 64 ticks.
     Snap,
+    /// How many instructions are to be stepped back at the end: one number, 1 to 64; once.
     Back,
+    /// The listing: no number; once.
     Listing,
+    /// A line for each instruction: no number; once.
     Trace,
+    /// Ticks: no number; once.
     Time,
+    /// The timetable: no number; once.
     Chart,
 }
 
-// What comes of a control card.
-#[derive(Clone, Copy)]
-pub(crate) enum Outcome {
+/// What comes of something that is asked for.
+#[derive(Clone, Copy, Debug, PartialEq, Eq)]
+pub enum Outcome {
+    /// It was added.
     Added,
+    /// It was refused, and nothing changed.
     Refused,
+    /// There was no memory for it, and nothing changed.
     NoMemory,
 }
 

@@ -2,19 +2,17 @@
 use Rattle.std.proofs.Common.{◌≡◌, ◌≤◌, ◌<◌, ◌+◌, ◌-◌, ◌==◌, ℕ, Bool, true, false, not, nat_le, nat_lt, List, [], ◌∷◌, ◌++◌, Option, Some, None, if◌then◌else◌, length, map, filter, get_or, codes, decimal, refl, ap, sym, subst, ◌∙◌, append_assoc, append-nil, length-append, arith}
 use Rattle.std.proofs.lemmas.Bool.{and_from as both_true, and_parts as holds_both, le-leb as at_most, leb-true as is_at_most, lt-ltb as below}
 use Rattle.std.proofs.lemmas.Bool.Decides.{nat_tests}
-use Rattle.std.proofs.lemmas.List.{take_all, get_or_append_left, get_or_at, get_or_default}
-use Rattle.std.proofs.lemmas.List.Sums.{list_all-from_AllPass}
-use Rattle.std.proofs.lemmas.Option.{slice_get-get_or}
+use Rattle.std.proofs.lemmas.List.{take_all}
 use Rattle.std.proofs.lemmas.Fmt.{length-decimal-le}
 use Rattle.std.specs.List.{list_all}
-use Rattle.std.specs.List.Sorted.{IsNonDecreasingBy, IsStrictlyIncreasing}
-use Rattle.std.specs.Option.{option_and_then, option_map_or}
+use Rattle.std.specs.Option.{option_and_then}
 use Rattle.st_card.specs.Number.{is_filled, reading}
 use Rattle.st_card.specs.Pieces.{parted, lacks, words}
 use Rattle.st_card.specs.Cards.{columns}
-use Rattle.st_card.specs.Controls.{Asked, nothing, good, number_in, before, numbers_in, is_among, last_passes, with_budget, with_delays, with_signal, with_dump, with_snap, with_back, with_trace, with_time, with_chart, with_words, added}
-use Rattle.st_card.specs.Limits.{IsWithinLimits, is_signal, is_part, is_tick}
+use Rattle.st_card.specs.Controls.{Asked, nothing, good, number_in, before, numbers_in, with_budget, with_delays, with_signal, with_dump, with_snap, with_back, with_trace, with_time, with_chart, with_words, added}
+use Rattle.st_card.specs.Limits.{IsWithinLimits, AreDelays, AreSignals, AreDumps, AreSnaps}
 use Rattle.st_card.specs.declared.control_cards.Signal.{Signal}
+use Rattle.st_card.proofs.OrderLemmas.{budget-asked, delay-asked, signal-asked, dump-asked, snap-asked, back-asked, delay-short, signal-short, dump-short, snap-short}
 use Rattle.st_strap.proofs.Digits.{decimal-digits, reading-decimal, digits-lack, low_other, lacks-parted}
 use Rattle.st_strap.proofs.PlaceCards.{parted-once}
 use Rattle.st_dis.specs.Deck.{marked, order_cards, back_cards, show_cards}
@@ -156,178 +154,96 @@ asked_for n ds ss us trace time chart ts k = record {
   back = k;
 }
 
--- what a test that holds gives
-given : (test : Bool) (new : Asked) → test ≡ true → (if test then Some new else None) ≡ Some new
-given true new holds = refl
-given false new holds = let no : ⊥ = cc in absurd no
+-- a card for each item of a list
+cards_each : {X : Type 0} (at : List X → Asked) (card : X → List ℕ) (Fits : List X → Type 0) →
+    ((done rest : List X) (x : X) → Fits (done ++ x ∷ rest) → added (at done) (card x) ≡ Some (at (done ++ x ∷ []))) →
+    (done rest : List X) → Fits (done ++ rest) → CardsLead (at done) (map card rest) (at (done ++ rest))
+cards_each at card Fits step done [] fits = ap at (sym (append-nil done))
+cards_each {X} at card Fits step done (x ∷ rest) fits =
+    let regrouped = append_assoc done (x ∷ []) rest in
+    let later = cards_each at card Fits step (done ++ x ∷ []) rest (subst Fits (sym regrouped) fits) in (
+      at (done ++ x ∷ []),
+      step done rest x fits,
+      subst (λ (xs : List X). CardsLead (at (done ++ x ∷ [])) (map card rest) (at xs)) regrouped later,
+    )
 
--- a test of the last item passes, where it passes at the last place
-last_ok : {X : Type 0} (test : X → Bool) (items : List X) →
-    ((d : X) → 0 < length items → test (get_or items (length items - 1) d) ≡ true) → last_passes test items ≡ true
-last_ok test [] passes = refl
-last_ok {X} test (x ∷ xs) passes =
-    let some : 0 < length (x ∷ xs) = omega arith in
-    let within : length (x ∷ xs) - 1 < length (x ∷ xs) = omega arith in
-    ap (λ (o : Option X). option_map_or test o true) (slice_get-get_or (x ∷ xs) (length (x ∷ xs) - 1) x within) ∙ passes x some
+-- a card that stands there where it is asked for
+cards_marked : (at : Bool → Asked) (card : List ℕ) → added (at false) card ≡ Some (at true) → (b : Bool) →
+    CardsLead (at false) (marked b card) (at b)
+cards_marked at card step false = refl
+cards_marked at card step true = (at true, step, refl)
 
--- counts that do not fall
-last_count : (done rest : List Signal) (s : Signal) → IsNonDecreasingBy (λ x. x.count) (done ++ s ∷ rest) →
-    last_passes (λ x. nat_le x.count s.count) done ≡ true
-last_count done rest s order =
-    last_ok (λ (x : Signal). nat_le x.count s.count) done
-    (λ d some.
-    let last : ℕ = length done - 1 in
-    let ahead : last ≤ length done = omega arith in
-    let inside : last < length done = omega arith in
-    let within : length done < length (done ++ s ∷ rest) = omega (arith, length-append done (s ∷ rest)) in
-    let ordered = order last (length done) d ahead within in
-    let left = ap (λ (x : Signal). x.count) (get_or_append_left done (s ∷ rest) d last inside) in
-    let right = ap (λ (x : Signal). x.count) (get_or_at done s rest d (length done) refl) in
-    at_most _ s.count (omega (arith, ordered, left, right)))
-
--- ticks that rise
-last_tick : (done rest : List ℕ) (t : ℕ) → IsStrictlyIncreasing (done ++ t ∷ rest) → last_passes (λ x. nat_lt x t) done ≡ true
-last_tick done rest t order =
-    last_ok (λ x. nat_lt x t) done
-    (λ d some.
-    let last : ℕ = length done - 1 in
-    let next : last + 1 ≡ length done = omega (arith, some) in
-    let inside : last < length done = omega arith in
-    let within : last + 1 < length (done ++ t ∷ rest) = omega (arith, length-append done (t ∷ rest)) in
-    let ordered = order last within in
-    let left = get_or_append_left done (t ∷ rest) 0 last inside in
-    let right = ap (λ k. get_or (done ++ t ∷ rest) k 0) next ∙ get_or_at done t rest 0 (length done) refl in
-    let same = get_or_default done last d 0 inside in
-    below _ t (omega (arith, ordered, left, right, same)))
-
-module _ (n : ℕ) where
-  add_delays : (done rest : List ℕ) → list_all (is_among 1 255) rest ≡ true → length done + length rest ≤ 4096 →
-      CardsLead (asked_for n done [] [] false false false [] 0) (map (λ d. codes "/DELAYS " ++ decimal d) rest)
-      (asked_for n (done ++ rest) [] [] false false false [] 0)
-  add_delays done [] each few = ap (λ (ds : List ℕ). asked_for n ds [] [] false false false [] 0) (sym (append-nil done))
-  add_delays done (d ∷ rest) each few =
-      let tests = holds_both (is_among 1 255 d) (list_all (is_among 1 255) rest) each in
-      let room : nat_le (length done + length (d ∷ [])) 4096 ≡ true = at_most _ 4096 (omega (arith, few)) in
-      let passed = both_true _ _ room (both_true (is_among 1 255 d) true tests.0 refl) in
-      let small : d ≤ 255 = is_at_most d 255 (holds_both _ _ tests.0).1 in
-      let short : IsShort d = omega (arith, small) in
-      let count : length (done ++ d ∷ []) + length rest ≤ 4096 = omega (arith, few, length-append done (d ∷ [])) in
-      let next = asked_for n (done ++ d ∷ []) [] [] false false false [] 0 in (
-        next,
-        delay-card (asked_for n done [] [] false false false [] 0) d short ∙ given _ next passed,
-        subst (λ (ds : List ℕ). CardsLead next (map (λ k. codes "/DELAYS " ++ decimal k) rest) (asked_for n ds [] [] false false false [] 0))
-            (append_assoc done (d ∷ []) rest) (add_delays (done ++ d ∷ []) rest tests.1 count),
-      )
+add_delays : (n : ℕ) (ds : List ℕ) → AreDelays ds →
+    CardsLead (asked_for n [] [] [] false false false [] 0) (map (λ d. codes "/DELAYS " ++ decimal d) ds)
+    (asked_for n ds [] [] false false false [] 0)
+add_delays n ds are =
+    let asked = λ (done : List ℕ). asked_for n done [] [] false false false [] 0 in
+    cards_each asked (λ d. codes "/DELAYS " ++ decimal d) (λ xs. AreDelays xs)
+    (λ done rest d fits. delay-card (asked done) d (delay-short done rest d fits) ∙ delay-asked (asked done) d rest fits) [] ds are
 
 module _ (n : ℕ) (ds : List ℕ) where
-  add_signals : (done rest : List Signal) → list_all is_signal rest ≡ true → IsNonDecreasingBy (λ s. s.count) (done ++ rest) →
-      length done + length rest ≤ 4096 →
-      CardsLead (asked_for n ds done [] false false false [] 0)
-      (map (λ s. codes "/SIGNAL " ++ decimal s.count ++ codes " " ++ decimal s.indicator) rest)
-      (asked_for n ds (done ++ rest) [] false false false [] 0)
-  add_signals done [] each order few = ap (λ (ss : List Signal). asked_for n ds ss [] false false false [] 0) (sym (append-nil done))
-  add_signals done (s ∷ rest) each order few =
-      let tests = holds_both (is_signal s) (list_all is_signal rest) each in
-      let ranges = holds_both _ _ tests.0 in
-      let room : nat_lt (length done) 4096 ≡ true = below _ 4096 (omega (arith, few)) in
-      let passed = both_true _ _ (both_true _ _ (both_true _ _ room ranges.0) ranges.1) (last_count done rest s order) in
-      let count : IsShort s.count = omega (arith, is_at_most s.count 10000000 ranges.0) in
-      let indicator : IsShort s.indicator = omega (arith, is_at_most s.indicator 13 ranges.1) in
-      let more : length (done ++ s ∷ []) + length rest ≤ 4096 = omega (arith, few, length-append done (s ∷ [])) in
-      let regrouped = append_assoc done (s ∷ []) rest in
-      let next = asked_for n ds (done ++ s ∷ []) [] false false false [] 0 in (
-        next,
-        signal-card (asked_for n ds done [] false false false [] 0) s.count s.indicator count indicator ∙ given _ next passed,
-        subst (λ (ss : List Signal). CardsLead next
-            (map (λ x. codes "/SIGNAL " ++ decimal x.count ++ codes " " ++ decimal x.indicator) rest)
-            (asked_for n ds ss [] false false false [] 0)) regrouped
-            (add_signals (done ++ s ∷ []) rest tests.1
-            (subst (λ (ss : List Signal). IsNonDecreasingBy (λ x. x.count) ss) (sym regrouped) order) more),
-      )
+  add_signals : (ss : List Signal) → AreSignals ss →
+      CardsLead (asked_for n ds [] [] false false false [] 0)
+      (map (λ s. codes "/SIGNAL " ++ decimal s.count ++ codes " " ++ decimal s.indicator) ss)
+      (asked_for n ds ss [] false false false [] 0)
+  add_signals ss are =
+      let asked = λ (done : List Signal). asked_for n ds done [] false false false [] 0 in
+      cards_each asked (λ s. codes "/SIGNAL " ++ decimal s.count ++ codes " " ++ decimal s.indicator) (λ xs. AreSignals xs)
+      (λ done rest s fits.
+      let short = signal-short done rest s fits in
+      signal-card (asked done) s.count s.indicator short.0 short.1 ∙ signal-asked (asked done) s rest fits) [] ss are
 
-  add_dumps : (ss : List Signal) (done rest : List (ℕ × ℕ)) → list_all is_part rest ≡ true → length done + length rest ≤ 16 →
-      CardsLead (asked_for n ds ss done false false false [] 0)
-      (map (λ p. codes "/DUMP " ++ decimal p.0 ++ codes " " ++ decimal p.1) rest)
-      (asked_for n ds ss (done ++ rest) false false false [] 0)
-  add_dumps ss done [] each few = ap (λ (us : List (ℕ × ℕ)). asked_for n ds ss us false false false [] 0) (sym (append-nil done))
-  add_dumps ss done (p ∷ rest) each few =
-      let tests = holds_both (is_part p) (list_all is_part rest) each in
-      let ranges = holds_both _ _ tests.0 in
-      let room : nat_lt (length done) 16 ≡ true = below _ 16 (omega (arith, few)) in
-      let passed = both_true _ _ (both_true _ _ room ranges.0) ranges.1 in
-      let last : IsShort p.1 = omega (arith, is_at_most p.1 98303 ranges.1) in
-      let first : IsShort p.0 = omega (arith, is_at_most p.0 p.1 ranges.0, is_at_most p.1 98303 ranges.1) in
-      let more : length (done ++ p ∷ []) + length rest ≤ 16 = omega (arith, few, length-append done (p ∷ [])) in
-      let next = asked_for n ds ss (done ++ p ∷ []) false false false [] 0 in (
-        next,
-        dump-card (asked_for n ds ss done false false false [] 0) p.0 p.1 first last ∙ given _ next passed,
-        subst (λ (us : List (ℕ × ℕ)). CardsLead next (map (λ q. codes "/DUMP " ++ decimal q.0 ++ codes " " ++ decimal q.1) rest)
-            (asked_for n ds ss us false false false [] 0)) (append_assoc done (p ∷ []) rest)
-            (add_dumps ss (done ++ p ∷ []) rest tests.1 more),
-      )
+  add_dumps : (ss : List Signal) (us : List (ℕ × ℕ)) → AreDumps us →
+      CardsLead (asked_for n ds ss [] false false false [] 0)
+      (map (λ p. codes "/DUMP " ++ decimal p.0 ++ codes " " ++ decimal p.1) us)
+      (asked_for n ds ss us false false false [] 0)
+  add_dumps ss us are =
+      let asked = λ (done : List (ℕ × ℕ)). asked_for n ds ss done false false false [] 0 in
+      cards_each asked (λ p. codes "/DUMP " ++ decimal p.0 ++ codes " " ++ decimal p.1) (λ xs. AreDumps xs)
+      (λ done rest p fits.
+      let short = dump-short done rest p fits in
+      dump-card (asked done) p.0 p.1 short.0 short.1 ∙ dump-asked (asked done) p rest fits) [] us are
 
   module _ (ss : List Signal) (us : List (ℕ × ℕ)) where
     add_trace : (trace : Bool) → CardsLead (asked_for n ds ss us false false false [] 0) (marked trace (codes "/TRACE"))
         (asked_for n ds ss us trace false false [] 0)
-    add_trace false = refl
-    add_trace true = (asked_for n ds ss us true false false [] 0, trace-card (asked_for n ds ss us false false false [] 0), refl)
+    add_trace trace = cards_marked (λ b. asked_for n ds ss us b false false [] 0) (codes "/TRACE")
+        (trace-card (asked_for n ds ss us false false false [] 0)) trace
 
     add_time : (trace time : Bool) → CardsLead (asked_for n ds ss us trace false false [] 0) (marked time (codes "/TIME"))
         (asked_for n ds ss us trace time false [] 0)
-    add_time trace false = refl
-    add_time trace true = (asked_for n ds ss us trace true false [] 0, time-card (asked_for n ds ss us trace false false [] 0), refl)
+    add_time trace time = cards_marked (λ b. asked_for n ds ss us trace b false [] 0) (codes "/TIME")
+        (time-card (asked_for n ds ss us trace false false [] 0)) time
 
     add_chart : (trace time chart : Bool) → CardsLead (asked_for n ds ss us trace time false [] 0) (marked chart (codes "/CHART"))
         (asked_for n ds ss us trace time chart [] 0)
-    add_chart trace time false = refl
-    add_chart trace time true = (asked_for n ds ss us trace time true [] 0, chart-card (asked_for n ds ss us trace time false [] 0), refl)
+    add_chart trace time chart = cards_marked (λ b. asked_for n ds ss us trace time b [] 0) (codes "/CHART")
+        (chart-card (asked_for n ds ss us trace time false [] 0)) chart
 
     module _ (trace time chart : Bool) where
-      add_snaps : (done rest : List ℕ) → list_all is_tick rest ≡ true → IsStrictlyIncreasing (done ++ rest) →
-          length done + length rest ≤ 64 →
-          CardsLead (asked_for n ds ss us trace time chart done 0) (map (λ t. codes "/SNAP " ++ decimal t) rest)
-          (asked_for n ds ss us trace time chart (done ++ rest) 0)
-      add_snaps done [] each order few = ap (λ (ts : List ℕ). asked_for n ds ss us trace time chart ts 0) (sym (append-nil done))
-      add_snaps done (t ∷ rest) each order few =
-          let tests = holds_both (is_tick t) (list_all is_tick rest) each in
-          let room : nat_lt (length done) 64 ≡ true = below _ 64 (omega (arith, few)) in
-          let passed = both_true _ _ room (last_tick done rest t order) in
-          let short : IsShort t = is_at_most t 999999999999 tests.0 in
-          let more : length (done ++ t ∷ []) + length rest ≤ 64 = omega (arith, few, length-append done (t ∷ [])) in
-          let regrouped = append_assoc done (t ∷ []) rest in
-          let next = asked_for n ds ss us trace time chart (done ++ t ∷ []) 0 in (
-            next,
-            snap-card (asked_for n ds ss us trace time chart done 0) t short ∙ given _ next passed,
-            subst (λ (ts : List ℕ). CardsLead next (map (λ k. codes "/SNAP " ++ decimal k) rest)
-                (asked_for n ds ss us trace time chart ts 0)) regrouped
-                (add_snaps (done ++ t ∷ []) rest tests.1 (subst (λ (ts : List ℕ). IsStrictlyIncreasing ts) (sym regrouped) order) more),
-          )
+      add_snaps : (ts : List ℕ) → AreSnaps ts →
+          CardsLead (asked_for n ds ss us trace time chart [] 0) (map (λ t. codes "/SNAP " ++ decimal t) ts)
+          (asked_for n ds ss us trace time chart ts 0)
+      add_snaps ts are =
+          let asked = λ (done : List ℕ). asked_for n ds ss us trace time chart done 0 in
+          cards_each asked (λ t. codes "/SNAP " ++ decimal t) (λ xs. AreSnaps xs)
+          (λ done rest t fits. snap-card (asked done) t (snap-short done rest t fits) ∙ snap-asked (asked done) t rest fits) [] ts are
 
-      add_back_by : (ts : List ℕ) (k : ℕ) → k ≤ 64 → (b : Bool) → (k == 0) ≡ b →
+      add_back : (ts : List ℕ) (k : ℕ) → k ≤ 64 → (b : Bool) → (k == 0) ≡ b →
           CardsLead (asked_for n ds ss us trace time chart ts 0) (if b then [] else (codes "/BACK " ++ decimal k) ∷ [])
           (asked_for n ds ss us trace time chart ts k)
-      add_back_by ts k few true test =
+      add_back ts k few true test =
           let none : k ≡ 0 = grind (arith, nat_tests, test) in ap (λ j. asked_for n ds ss us trace time chart ts j) (sym none)
-      add_back_by ts k few false test =
+      add_back ts k few false test =
           let some : 1 ≤ k = grind (arith, nat_tests, test) in
-          let next = asked_for n ds ss us trace time chart ts k in
-          let passed = both_true _ _ (at_most 1 k some) (at_most k 64 few) in (
-            next,
-            back-card (asked_for n ds ss us trace time chart ts 0) k (omega (arith, few)) ∙ given _ next passed,
-            refl,
-          )
-
-      add_back : (ts : List ℕ) (k : ℕ) → k ≤ 64 → CardsLead (asked_for n ds ss us trace time chart ts 0) (back_cards k)
-          (asked_for n ds ss us trace time chart ts k)
-      add_back ts k few = add_back_by ts k few (k == 0) refl
+          let asked : Asked = asked_for n ds ss us trace time chart ts 0 in
+          (asked_for n ds ss us trace time chart ts k, back-card asked k (omega (arith, few)) ∙ back-asked asked k refl some few, refl)
 
 -- the budget
 add_budget : (n : ℕ) → 1 ≤ n → n ≤ 10000000 →
     CardsLead nothing ((codes "/BUDGET " ++ decimal n) ∷ []) (asked_for n [] [] [] false false false [] 0)
 add_budget n some few =
-    let next = asked_for n [] [] [] false false false [] 0 in
-    let passed = both_true _ _ (at_most 1 n some) (at_most n 10000000 few) in
-    (next, budget-card nothing n (omega (arith, few)) ∙ given _ next passed, refl)
+    (asked_for n [] [] [] false false false [] 0, budget-card nothing n (omega (arith, few)) ∙ budget-asked nothing n refl some few, refl)
 
 -- the control cards ask for what is asked for
 pub controls-read : (a : Asked) → IsWithinLimits a → 1 ≤ a.budget → a.list ≡ false → CardsLead nothing (order_cards a ++ show_cards a) a
@@ -336,14 +252,6 @@ controls-read a limits some unlisted =
     let ds = a.delays in
     let ss = a.signals in
     let us = a.dumps in
-    let fewer = limits.delays.few in
-    let few_signals = limits.signals.few in
-    let few_dumps = limits.dumps.few in
-    let few_snaps = limits.snaps.few in
-    let each_delay = list_all-from_AllPass (is_among 1 255) ds limits.delays.each in
-    let each_signal = list_all-from_AllPass is_signal ss limits.signals.each in
-    let each_dump = list_all-from_AllPass is_part us limits.dumps.each in
-    let each_snap = list_all-from_AllPass is_tick a.snaps limits.snaps.each in
     let a1 = asked_for n [] [] [] false false false [] 0 in
     let a2 = asked_for n ds [] [] false false false [] 0 in
     let a3 = asked_for n ds ss [] false false false [] 0 in
@@ -363,14 +271,14 @@ controls-read a limits some unlisted =
     let c8 : List (List ℕ) = map (λ t. codes "/SNAP " ++ decimal t) a.snaps in
     let c9 = back_cards a.back in
     let budget = add_budget n some limits.budget in
-    let delays = add_delays n [] ds each_delay (omega (arith, fewer)) in
-    let signals = add_signals n ds [] ss each_signal limits.signals.counts (omega (arith, few_signals)) in
-    let dumps = add_dumps n ds ss [] us each_dump (omega (arith, few_dumps)) in
+    let delays = add_delays n ds limits.delays in
+    let signals = add_signals n ds ss limits.signals in
+    let dumps = add_dumps n ds ss us limits.dumps in
     let trace = add_trace n ds ss us a.trace in
     let time = add_time n ds ss us a.trace a.time in
     let chart = add_chart n ds ss us a.trace a.time a.chart in
-    let snaps = add_snaps n ds ss us a.trace a.time a.chart [] a.snaps each_snap limits.snaps.rising (omega (arith, few_snaps)) in
-    let back = add_back n ds ss us a.trace a.time a.chart a.snaps a.back limits.back in
+    let snaps = add_snaps n ds ss us a.trace a.time a.chart a.snaps limits.snaps in
+    let back = add_back n ds ss us a.trace a.time a.chart a.snaps a.back limits.back (a.back == 0) refl in
     let two = leads_on nothing a1 a2 c1 c2 budget delays in
     let three = leads_on nothing a2 a3 (c1 ++ c2) c3 two signals in
     let orders = leads_on nothing a3 a4 (c1 ++ c2 ++ c3) c4 three dumps in

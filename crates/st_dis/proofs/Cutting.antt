@@ -9,13 +9,13 @@ use Rattle.std.specs.List.{All, list_all}
 use Rattle.std.specs.Prelude.{slice_index}
 use Rattle.std.specs.Str.Lines.{strip_carriage_return}
 use Rattle.st_report.specs.Line.{lf}
-use Rattle.st_card.specs.Cards.{first_fault, fault_of, card_at, cards_from, cards_of, text_in, is_printable, is_column_1, first_column}
+use Rattle.st_card.specs.Cards.{first_fault, fault_of, kind_of, card_at, cards_from, cards_of, text_in, is_printable, is_column_1, first_column}
 use Rattle.st_card.specs.declared.cards.Card.{Card}
 use Rattle.st_card.specs.declared.faults.Fault.{Fault}
 use Rattle.st_card.specs.declared.faults.Fault.TheVariants.{NotAscii, CardTooLong, BadName, TooManyCards}
 use Rattle.st_object.specs.Object.{Program, IsProgram, AreWords}
 use Rattle.st_dis.specs.Deck.{deck_cards, deck_of, deck_text, card_count}
-use Rattle.st_dis.proofs.Printable.{IsPlain, is_plain, IsWritten, deck_written, deck_pieces}
+use Rattle.st_dis.proofs.Printable.{IsPlain, is_plain, IsWritten, pieces, deck_written}
 use Rattle.st_dis.proofs.Lengths.{IsCard, deck_cards-short}
 
 -- no byte of a printable text is a carriage return
@@ -50,17 +50,31 @@ text_there front line rest short =
     let size : length line ≡ min (length line) 80 = omega (arith, short) in
     ap (take (min (length line) 80)) (drop-append_seam front (line ++ rest)) ∙ take_at line rest (min (length line) 80) size
 
+-- the n-th card, without a fault, that is cut from a job as a line
+pub record IsCardAs (job : List ℕ) (n : ℕ) (line : List ℕ) (card : Card) : Type 0 where
+  pub number : card.number ≡ n
+  pub kind : card.kind ≡ kind_of line
+  pub fault : card.fault ≡ None
+  pub text : text_in job card ≡ line
+
+-- the cards from the n-th on, one a line
+abbrev pub AreCardsAs : List ℕ → ℕ → List (List ℕ) → List Card → Type 0
+AreCardsAs job n [] cards = cards ≡ []
+AreCardsAs job n (line ∷ lines) [] = ⊥
+AreCardsAs job n (line ∷ lines) (card ∷ cards) = IsCardAs job n line card × AreCardsAs job (n + 1) lines cards
+
 -- cards that are cut from a job as lines
-record IsCutAs (job : List ℕ) (cards : List Card) (lines : List (List ℕ)) : Type 0 where
-  texts : map (text_in job) cards ≡ lines
-  good : All (λ card. card.fault ≡ None) cards
+pub record IsCutAs (job : List ℕ) (n : ℕ) (cards : List Card) (lines : List (List ℕ)) : Type 0 where
+  pub texts : map (text_in job) cards ≡ lines
+  pub good : All (λ card. card.fault ≡ None) cards
+  pub each : AreCardsAs job n lines cards
 
 first_cut : (n place : ℕ) (line : List ℕ) (lines : List (List ℕ)) → cards_from n place (line ∷ (lines ++ [] ∷ [])) ≡ card_at n place (strip_carriage_return line) ∷ cards_from (n + 1) (place + length line + 1) (lines ++ [] ∷ [])
 first_cut n place line [] = refl
 first_cut n place line (next ∷ more) = refl
 
-cut : (job front : List ℕ) (n : ℕ) (lines : List (List ℕ)) → job ≡ front ++ deck_of lines → All IsWritten lines → All IsCard lines → n + length lines ≤ 20001 → IsCutAs job (cards_from n (length front) (lines ++ [] ∷ [])) lines
-cut job front n [] e w s few = record { texts = refl; good = All-nil (λ (card : Card). card.fault ≡ None) }
+cut : (job front : List ℕ) (n : ℕ) (lines : List (List ℕ)) → job ≡ front ++ deck_of lines → All IsWritten lines → All IsCard lines → n + length lines ≤ 20001 → IsCutAs job n (cards_from n (length front) (lines ++ [] ∷ [])) lines
+cut job front n [] e w s few = record { texts = refl; good = All-nil (λ (card : Card). card.fault ≡ None); each = refl }
 cut job front n (line ∷ lines) e w s few =
     let here = All-head IsWritten line lines w in
     let short = All-head IsCard line lines s in
@@ -79,25 +93,30 @@ cut job front n (line ∷ lines) e w s few =
     ap (λ k. card ∷ cards_from (n + 1) k (lines ++ [] ∷ [])) place
     ∙ (ap (λ (t : List ℕ). card_at n (length front) t ∷ cards_from (n + 1) (length front + length line + 1) (lines ++ [] ∷ [])) (sym (kept line here.plain))
     ∙ sym (first_cut n (length front) line lines)) in
-    subst (λ (cs : List Card). IsCutAs job cs (line ∷ lines)) cards
+    let faultless : card.fault ≡ None = good_card n line (omega arith) here short in
+    subst (λ (cs : List Card). IsCutAs job n cs (line ∷ lines)) cards
     (record {
       texts = ap (λ (t : List ℕ). t ∷ map (text_in job) tail) text ∙ ap (λ (ts : List (List ℕ)). line ∷ ts) more.texts;
-      good = All-cons (λ (c : Card). c.fault ≡ None) card tail (good_card n line (omega arith) here short) more.good;
+      good = All-cons (λ (c : Card). c.fault ≡ None) card tail faultless more.good;
+      each = (record { number = refl; kind = refl; fault = faultless; text = text }, more.each);
     })
 
--- all of the deck
-deck_cut : (p : Program) → IsProgram p → AreWords p.words → card_count p ≤ 20000 → IsCutAs (deck_text p) (cards_of (deck_text p)) (deck_cards p)
-unfolding deck_text card_count
-deck_cut p is words few =
-    let job = deck_text p in
-    let lines = deck_cards p in
-    let all = cut job [] 1 lines refl (deck_written p) (deck_cards-short p is words) (omega (arith, few)) in
+-- all of a text of lines
+pub lines_cut : (lines : List (List ℕ)) → All IsWritten lines → All IsCard lines → length lines ≤ 20000 → IsCutAs (deck_of lines) 1 (cards_of (deck_of lines)) lines
+lines_cut lines written short few =
+    let job = deck_of lines in
+    let all = cut job [] 1 lines refl written short (omega (arith, few)) in
     let cards = cards_from 1 0 (lines ++ [] ∷ []) in
     let size : length cards ≤ 20001 =
     let same : length cards ≡ length lines = sym (length-map cards (text_in job)) ∙ ap length all.texts in omega (arith, same, few) in
     let found : cards ≡ cards_of job =
-    sym (take_all 20001 cards size) ∙ ap (λ (ls : List (List ℕ)). take 20001 (cards_from 1 0 ls)) (sym (deck_pieces p)) in
-    subst (λ (cs : List Card). IsCutAs job cs lines) found all
+    sym (take_all 20001 cards size) ∙ ap (λ (ls : List (List ℕ)). take 20001 (cards_from 1 0 ls)) (sym (pieces lines written)) in
+    subst (λ (cs : List Card). IsCutAs job 1 cs lines) found all
+
+-- all of the deck
+deck_cut : (p : Program) → IsProgram p → AreWords p.words → card_count p ≤ 20000 → IsCutAs (deck_text p) 1 (cards_of (deck_text p)) (deck_cards p)
+unfolding deck_text card_count
+deck_cut p is words few = lines_cut (deck_cards p) (deck_written p) (deck_cards-short p is words) few
 
 pub deck_texts : (p : Program) → IsProgram p → AreWords p.words → card_count p ≤ 20000 → map (text_in (deck_text p)) (cards_of (deck_text p)) ≡ deck_cards p
 deck_texts p is words few = (deck_cut p is words few).texts

@@ -65,7 +65,7 @@ statements-short word small =
     (All-cons IsShort r [] (says-short r (half_bits (word % 2 ^ 32)) said_r) (All-nil IsShort)))
     (All-cons IsShort (number_text word) [] (labelled (codes "DD(BU,64),") word (omega arith) small) (All-nil IsShort))
 
-all_statement_cards : (texts : List (List ℕ)) → All IsShort texts → All IsCard (map statement_card texts)
+pub all_statement_cards : (texts : List (List ℕ)) → All IsShort texts → All IsCard (map statement_card texts)
 all_statement_cards [] short = All-nil IsCard
 all_statement_cards (t ∷ ts) short =
     All-cons IsCard (statement_card t) (map statement_card ts) (statement_card-short t (All-head IsShort t ts short))
@@ -104,7 +104,7 @@ word_cards-short w before (x ∷ xs) few words =
     (placed-short w before x (omega arith) (All-head (λ y. y < 2 ^ 64) x xs words))
     (word_cards-short (w + 1) x xs (omega arith) (All-tail (λ y. y < 2 ^ 64) x xs words))
 
-end_text-short : (start : ℕ) → start < 2 ^ 19 → IsShort (end_text start)
+pub end_text-short : (start : ℕ) → start < 2 ^ 19 → IsShort (end_text start)
 end_text-short start small =
     let whole = length-append (codes "END,") (half_address start) in
     let front = length-append (decimal (start / 2)) (codes ".") in
@@ -153,7 +153,7 @@ paired_card : (word : List ℕ) (a b : ℕ) → length word ≤ 20 → a < 2 ^ 6
     IsCard (word ++ decimal a ++ codes " " ++ decimal b)
 paired_card word a b few small_a small_b = let short = paired word a b few small_a small_b in omega (arith, short)
 
-order_cards-short : (a : Asked) → IsWithinLimits a → All IsCard (order_cards a)
+pub order_cards-short : (a : Asked) → IsWithinLimits a → All IsCard (order_cards a)
 order_cards-short a limits =
     let delays : All IsCard (map (λ d. codes "/DELAYS " ++ decimal d) a.delays) =
     mapped_short (λ d. codes "/DELAYS " ++ decimal d) (λ n. is_among 1 255 n ≡ true)
@@ -180,7 +180,7 @@ back_cards-short k few =
       | false ↦ one_card card (labelled (codes "/BACK ") k (omega arith) (omega arith))
     ]
 
-show_cards-short : (a : Asked) → IsWithinLimits a → All IsCard (show_cards a)
+pub show_cards-short : (a : Asked) → IsWithinLimits a → All IsCard (show_cards a)
 show_cards-short a limits =
     let snaps : All IsCard (map (λ t. codes "/SNAP " ++ decimal t) a.snaps) =
     mapped_short (λ t. codes "/SNAP " ++ decimal t) (λ t. is_tick t ≡ true)

@@ -7,3 +7,12 @@ pub mod PlacesRead
 pub mod ControlsRead
 pub mod Printable
 pub mod Cutting
+pub mod Said
+pub mod FormPass
+pub mod DeckCards
+pub mod PlacedWords
+pub mod StatementSteps
+pub mod WordsLead
+pub mod PassesLead
+pub mod ThreePasses
+pub mod AssembledBack

@@ -38,10 +38,10 @@ IsPlain text = is_printable text ≡ true
 abbrev pub is_plain : ℕ → Bool
 is_plain c = nat_le 32 c && nat_le c 126
 
-join : (a b : List ℕ) → IsPlain a → IsPlain b → IsPlain (a ++ b)
+pub join : (a b : List ℕ) → IsPlain a → IsPlain b → IsPlain (a ++ b)
 join a b p q = list_all-append is_plain a b ∙ and_from (list_all is_plain a) (list_all is_plain b) p q
 
-joined : (a b c : List ℕ) → IsPlain a → IsPlain b → IsPlain c → IsPlain (a ++ b ++ c)
+pub joined : (a b c : List ℕ) → IsPlain a → IsPlain b → IsPlain c → IsPlain (a ++ b ++ c)
 joined a b c p q r = join (a ++ b) c (join a b p q) r
 
 chosen : (b : Bool) (x y : List ℕ) → IsPlain x → IsPlain y → IsPlain (if b then x else y)
@@ -60,7 +60,7 @@ onto (suc k) n acc p =
     chosen (n / 10 == 0) (digit_glyph false (n % 10) ∷ acc) (digits_onto k 10 false (n / 10) (digit_glyph false (n % 10) ∷ acc)) more
     (onto k (n / 10) (digit_glyph false (n % 10) ∷ acc) more)
 
-number : (n : ℕ) → IsPlain (decimal n)
+pub number : (n : ℕ) → IsPlain (decimal n)
 unfolding digits
 number n = onto 64 n [] refl
 
@@ -358,16 +358,16 @@ pub record IsWritten (card : List ℕ) : Type 0 where
   pub plain : IsPlain card
   pub column : is_column_1 (first_column card) ≡ true
 
-card_plain : (text : List ℕ) → IsPlain text → IsWritten (statement_card text)
+pub card_plain : (text : List ℕ) → IsPlain text → IsWritten (statement_card text)
 card_plain text p = record { plain = p; column = refl }
 
-control_plain : (text : List ℕ) → IsPlain text → IsWritten (47 ∷ text)
+pub control_plain : (text : List ℕ) → IsPlain text → IsWritten (47 ∷ text)
 control_plain text p = record { plain = p; column = refl }
 
 only : (card : List ℕ) → IsWritten card → All IsWritten (card ∷ [])
 only card p = All-cons IsWritten card [] p (All-nil IsWritten)
 
-cards_plain : (texts : List (List ℕ)) → All IsPlain texts → All IsWritten (map statement_card texts)
+pub cards_plain : (texts : List (List ℕ)) → All IsPlain texts → All IsWritten (map statement_card texts)
 cards_plain [] p = All-nil IsWritten
 cards_plain (t ∷ ts) p =
     All-cons IsWritten (statement_card t) (map statement_card ts) (card_plain t (All-head IsPlain t ts p)) (cards_plain ts (All-tail IsPlain t ts p))
@@ -406,7 +406,7 @@ two_numbers : (word : List ℕ) (a b : ℕ) → IsPlain word → IsPlain (word +
 two_numbers word a b p =
     join (word ++ decimal a ++ codes " ") (decimal b) (joined word (decimal a) (codes " ") p (number a) refl) (number b)
 
-orders_plain : (a : Asked) → All IsWritten (order_cards a)
+pub orders_plain : (a : Asked) → All IsWritten (order_cards a)
 orders_plain a =
     let c1 : List (List ℕ) = (codes "/BUDGET " ++ decimal a.budget) ∷ [] in
     let c2 : List (List ℕ) = map (λ d. codes "/DELAYS " ++ decimal d) a.delays in
@@ -423,7 +423,7 @@ back_plain : (k : ℕ) → All IsWritten (back_cards k)
 back_plain k =
     where_not (k == 0) ((codes "/BACK " ++ decimal k) ∷ []) (only (codes "/BACK " ++ decimal k) (control_plain (codes "BACK " ++ decimal k) (join (codes "BACK ") (decimal k) refl (number k))))
 
-shows_plain : (a : Asked) → All IsWritten (show_cards a)
+pub shows_plain : (a : Asked) → All IsWritten (show_cards a)
 shows_plain a =
     let c5 = marked a.trace (codes "/TRACE") in
     let c6 = marked a.time (codes "/TIME") in
@@ -468,7 +468,7 @@ lacking (c ∷ cs) p =
     let other : not (c == 10) ≡ true = grind (arith, nat_tests, parts.0) in
     and_from (not (c == 10)) (lacks 10 cs) other (lacking cs parts.1)
 
-pieces : (cards : List (List ℕ)) → All IsWritten cards → parted 10 (deck_of cards) ≡ cards ++ [] ∷ []
+pub pieces : (cards : List (List ℕ)) → All IsWritten cards → parted 10 (deck_of cards) ≡ cards ++ [] ∷ []
 pieces [] p = refl
 pieces (card ∷ cards) p =
     ap (λ (s : List ℕ). parted 10 s) (append_assoc card (10 ∷ []) (deck_of cards))

@@ -9,6 +9,7 @@ ghost use Rattle.st_card.specs.Limits.{IsWithinLimits};
 ghost use Rattle.st_strap.specs.Reading.{number_expr};
 ghost use Rattle.st_strap.specs.Saying.{statement_of};
 ghost use Rattle.st_strap.specs.declared.statement.Statement.TheVariants.{SetLocation, End};
+ghost use Rattle.st_asm.specs.Assembly.{Assembly, assembly};
 ghost use Rattle.st_object.specs.Object.{Program, IsProgram, AreWords};
 ghost use Rattle.st_dis.specs.Deck.{
   location_text,
@@ -56,4 +57,12 @@ pub fn decks_are_cut_into_their_cards()
         map (text_in (deck_text p)) (cards_of (deck_text p)) ≡ deck_cards p }
     ensures good { (p : Program) → IsProgram p → AreWords p.words → card_count p ≤ 20000 →
         All (λ card. card.fault ≡ None) (cards_of (deck_text p)) }
+{}
+
+/// The deck of a program assembles to the program: the same words of storage, the same start, and the same that is
+/// asked for.
+pub fn decks_assemble_to_their_program()
+    ensures { (p : Program) → IsProgram p → AreWords p.words → card_count p ≤ 20000 →
+        (a : Assembly) × (assembly (deck_text p) ≡ Ok a) × (a.image ≡ p.words) × (a.start ≡ p.start)
+        × (a.asked ≡ p.controls) }
 {}

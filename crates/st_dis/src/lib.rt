@@ -12,6 +12,6 @@ mod writing;
 
 pub use disassembling::{DisError, disassemble};
 pub use laws::{
-    cards_are_lines, controls_come_back, decks_are_cut_into_their_cards, places_come_back,
-    statements_lay_their_word,
+    cards_are_lines, controls_come_back, decks_are_cut_into_their_cards,
+    decks_assemble_to_their_program, places_come_back, statements_lay_their_word,
 };

@@ -1,12 +1,12 @@
 //! The cards that stand in the card reader.
 
 ghost use Rattle.std.specs.Prelude.{◌≡◌, ◌+◌, ◌^◌, ◌<◌, ◌≤◌, List, [], ◌∷◌, ◌++◌, length, MatchOption, IfOk, OnOk};
-ghost use Rattle.st_card.specs.Cards.{IsCardOf};
+ghost use Rattle.st_card.specs.Cards.{IsCardOf, cards_of};
 ghost use Rattle.st_card.specs.declared.cards.Card.{Card as CardRow};
 ghost use Rattle.st_exch.specs.Reader as spec;
 
 use st_bits::NoMemory;
-use st_card::{Card, CardKind, split};
+use st_card::{Card, CardKind, cards_stand_in_their_job, split};
 use std::alloc::Global;
 use std::collections::VecDeque;
 use std::marker::Model;
@@ -47,8 +47,19 @@ impl Hopper {
         ensures { IfOk result (λ hopper. hopper ≡ spec.reader_cards job.now) }
     {
         let cards = split(alloc, job)?;
+        Hopper::of_cards(alloc, job, cards.as_slice())
+    }
+
+    /// The same reader, of a job whose cards are cut already: `cards` are those of `job`, all of them and in order.
+    ///
+    /// The one error is that memory ran out; no later call takes any.
+    pub fn of_cards(alloc: Global, job: &[u8], cards: &[Card]) -> Result<Hopper, NoMemory>
+        requires { cards.now ≡ cards_of job.now }
+        ensures { IfOk result (λ hopper. hopper ≡ spec.reader_cards job.now) }
+    {
+        cards_stand_in_their_job();
         let mut waiting = VecDeque::new(alloc);
-        for card in &cards {
+        for card in cards {
             stack(&mut waiting, job, *card)?;
         }
         Ok(Hopper {

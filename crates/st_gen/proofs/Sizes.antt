@@ -28,7 +28,7 @@ field_operands-short x =
     let bit_is = held (codes "(BU," ++ field_length 1 x ++ codes ")," ++ word 2 x ++ codes ".") (codes ",") 15 1 (draw 3 64 x) word_is (omega arith) (omega arith) in
     joined (codes "(BU," ++ field_length 1 x ++ codes ")," ++ word 2 x ++ codes "." ++ bit 3 x ++ codes ",") (offset 4 x) 20 4 bit_is (four (draw 4 64 x) (omega arith))
 
-statement-short : (form : Form) (x : ℕ) → length (statement form x) ≤ 30
+pub statement-short : (form : Form) (x : ℕ) → length (statement form x) ≤ 30
 statement-short LoadValue x =
     let index_is = held (codes "LVI,$X") (codes ",") 6 1 (1 + draw 1 7 x) (omega arith) (omega arith) (omega arith) in
     let all = held (codes "LVI,$X" ++ index 1 x ++ codes ",") (codes ".0") 11 2 (4096 + draw 2 256 x) index_is (omega arith) (omega arith) in

@@ -2,3 +2,5 @@ pub mod LaidParts
 pub mod LaidDigits
 pub mod LaidFields
 pub mod AgreementLemmas
+pub mod MadeStatements
+pub mod MadeDecks

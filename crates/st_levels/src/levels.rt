@@ -17,7 +17,7 @@ ghost use Rattle.st_levels.specs.Slots.{register_in};
 
 use crate::filling::fill_all;
 use crate::plans::{Plan, Plans};
-use crate::slots::{changed, missed, operands_of, registers};
+use crate::slots::{change, missed, put_operands, registers};
 use st_exec::complete;
 use st_prep::{Prepared, index_words};
 use st_ring::{Level, SpecRing};
@@ -44,6 +44,8 @@ pub struct Levels<const N: usize> {
     ring: SpecRing<N>,
     plans: Plans,
     x: [u64; 16],
+    // Room for the operands of an entry that is done.
+    operands: [u64; 32],
 }
 
 // Clauses see the levels and the planned rows, oldest first, and the index words.
@@ -68,6 +70,7 @@ impl<const N: usize> Levels<N> {
             ring: SpecRing::new(),
             plans: Plans::new(),
             x,
+            operands: [0; 32],
         }
     }
 
@@ -143,7 +146,7 @@ impl<const N: usize> Levels<N> {
             ((entry i u).serial ≡ true → state.now ≡ u) →
             AreAhead ds n tick t s f (after ds n last (entry i u)) self.new }
     {
-        self.x = changed(self.x, prepared.index);
+        change(&mut self.x, prepared.index);
         self.ring.push(Level {
             prepared,
             p: filled.row.p,
@@ -180,8 +183,8 @@ impl<const N: usize> Levels<N> {
         let level = self.ring.retire();
         self.plans.drop_first();
         let missed = missed(&level.prepared, state);
-        execute_level(&level, state);
-        self.x = index_behind(self.x, level.prepared.serial, state);
+        execute_level(&level, &mut self.operands, state);
+        renew(&mut self.x, level.prepared.serial, state);
         Completed {
             address: level.prepared.place.address,
             p: level.p,
@@ -222,21 +225,23 @@ impl<const N: usize> Levels<N> {
 }
 
 /// Executes the entry of a level, by the operands in its slots.
-fn execute_level(level: &Level, state: &mut State)
+fn execute_level(level: &Level, operands: &mut [u64; 32], state: &mut State)
     requires prepared { IsPrepared level.now.prepared }
     requires operands { HasOperands state.old level.now }
     requires few { state.old.done < 2 ^ 63 }
     ensures { (t : Option ℕ) → level.now.prepared ≡ plan_of state.old t →
         state.new ≡ executed t state.old }
 {
-    let operands = operands_of(level, state);
-    complete(&level.prepared, &operands, state);
+    put_operands(level, operands, state);
+    complete(&level.prepared, operands, state);
 }
 
 /// The index words behind an entry that is done: those of the state where it is done alone, and else as they were.
-fn index_behind(x: [u64; 16], alone: bool, state: &State) -> [u64; 16]
-    ensures alone { alone ≡ true → result ≡ index_words_of state.now }
-    ensures stays { alone ≡ false → result ≡ x }
+fn renew(x: &mut [u64; 16], alone: bool, state: &State)
+    ensures alone { alone ≡ true → x.new ≡ index_words_of state.now }
+    ensures stays { alone ≡ false → x.new ≡ x.old }
 {
-    if alone { index_words(state) } else { x }
+    if alone {
+        *x = index_words(state);
+    }
 }

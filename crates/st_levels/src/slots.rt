@@ -15,15 +15,14 @@ use st_prep::{IndexChange, Prepared};
 use st_ring::Level;
 use st_state::State;
 
-/// The index words after a change.
-pub(crate) fn changed(mut x: [u64; 16], change: Option<IndexChange>) -> [u64; 16]
+/// Makes the change of an index word, if there is one.
+pub(crate) fn change(x: &mut [u64; 16], change: Option<IndexChange>)
     requires { IfSome change IsChange }
-    ensures { result ≡ words_after x change }
+    ensures { x.new ≡ words_after x.old change }
 {
     if let Some(change) = change {
         x[change.number as usize] = change.word;
     }
-    x
 }
 
 /// Whether an instruction is T or SWAP.
@@ -58,19 +57,18 @@ pub(crate) fn registers(p: &Prepared, state: &State) -> [Option<u64>; 2]
     [register(p, 0, state), register(p, 1, state)]
 }
 
-/// The operands of a level, those in its slots or, of T and SWAP, those in storage.
-pub(crate) fn operands_of(level: &Level, state: &State) -> [u64; 32]
+/// Puts the operands of a level at the front, those in its slots or, of T and SWAP, those in storage.
+pub(crate) fn put_operands(level: &Level, operands: &mut [u64; 32], state: &State)
     requires prepared { IsPrepared level.now.prepared }
     requires operands { HasOperands state.now level.now }
-    ensures { AreOperands level.now.prepared.reads result state.now }
+    ensures { AreOperands level.now.prepared.reads operands.new state.now }
 {
     if is_transmission(&level.prepared.instr) {
-        return read_operands(level.prepared.reads, state);
+        *operands = read_operands(level.prepared.reads, state);
+        return;
     }
-    let mut operands = [0; 32];
     operands[0] = level.have[0].unwrap_or(0);
     operands[1] = level.have[1].unwrap_or(0);
-    operands
 }
 
 /// The counter by which what runs ahead of an entry goes on, where the guess of it is wrong.

@@ -233,3 +233,13 @@ take-map_four g ws n a b c d size few ha hb hc hd = rw (sym size) (four ws (few_
     four (v ∷ w ∷ x ∷ []) h pa pb pc pd = let ea = pa (omega arith) in let eb = pb (omega arith) in let ec = pc (omega arith) in cc
     four (v ∷ w ∷ x ∷ y ∷ []) h pa pb pc pd = let ea = pa (omega arith) in let eb = pb (omega arith) in let ec = pc (omega arith) in let ed = pd (omega arith) in cc
     four (v ∷ w ∷ x ∷ y ∷ z ∷ vs) h pa pb pc pd = absurd (omega arith)
+
+-- no content, and one
+pub none-read : (g : ℕ → ℕ) (ws : List ℕ) (n : ℕ) → length ws ≡ n → n ≡ 0 → [] ≡ map g ws
+none-read g [] n size none = refl
+none-read g (v ∷ vs) n size none = absurd (omega (arith, size, none))
+
+pub one-read : (g : ℕ → ℕ) (ws : List ℕ) (n a : ℕ) → length ws ≡ n → n ≡ 1 → a ≡ g (get_or ws 0 0) → a ∷ [] ≡ map g ws
+one-read g [] n a size one is = absurd (omega (arith, size, one))
+one-read g (v ∷ []) n a size one is = ap (λ x. x ∷ []) is
+one-read g (v ∷ w ∷ vs) n a size one is = absurd (omega (arith, size, one))

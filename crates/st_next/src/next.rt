@@ -1,12 +1,13 @@
 //! The entry that is prepared next, as far as it is known.
-ghost use Rattle.std.specs.Prelude.{◌≡◌, ℕ, ◌+◌, ◌-◌, ◌<◌, ◌≤◌, ◌^◌, true, false, max, length, take, map, List, [], ◌++◌, Option, IfSome, get_or, is_none, ◌&&◌, if◌then◌else◌};
+ghost use Rattle.std.specs.Prelude.{◌≡◌, ℕ, ◌+◌, ◌-◌, ◌<◌, ◌≤◌, ◌^◌, true, false, max, length, take, map, List, [], ◌++◌, Option, IfSome, get_or, is_none, option_map, None, ◌&&◌, if◌then◌else◌};
 ghost use Rattle.st_bits.specs.Storage.{words_of_storage};
 ghost use Rattle.st_fetch.specs.Planned.{tick_of};
 ghost use Rattle.st_state.specs.Machine.{Machine, word};
 ghost use Rattle.st_prep.specs.EarlyChange.{words_after};
 ghost use Rattle.st_prep.specs.Fetch.{place_of as place_by};
-ghost use Rattle.st_prep.specs.Plan.{seen, plan as plan_of};
-ghost use Rattle.st_prep.specs.Ranges.{IsPlace, IsFetched, IsChange, IsPrepared};
+ghost use Rattle.st_prep.specs.Plan.{seen, plan as plan_of, prepared as prepared_of, needs as needs_of};
+ghost use Rattle.st_prep.specs.Ranges.{IsPlace, IsFetched, IsFetching, IsChange, IsPrepared, IsNeeds};
+ghost use Rattle.st_prep.specs.Reading.{reading, left_after, given as given_of};
 ghost use Rattle.st_rows.specs.Asked.{word_asked, side_asked};
 ghost use Rattle.st_rows.specs.declared.front.Front.{Front as FrontAt};
 ghost use Rattle.st_rows.specs.Ranges.{IsEntry};
@@ -20,6 +21,7 @@ ghost use Rattle.st_next.specs.Going.{IsFront, IsEarly, GoesOn, AreAskedMore, kn
 
 use st_banks::Delays;
 use st_bits::register::FIRST_STORAGE_WORD;
+use st_format::{Decoded, Instr};
 use st_port::Port;
 use st_prep::{
     Fetched, Fetching as Given, IndexChange, Needs, Place, Prepared, Words, fetch_on, prepare_in,
@@ -88,6 +90,26 @@ impl Next {
         }
     }
 
+    /// The entry at another place behind the front, of which no word is asked for.
+    pub fn restart(&mut self, place: Place, front: &Front)
+        ensures next { (ds : List ℕ) (n : ℕ) (t : Option ℕ) (u : Machine) → place ≡ place_by u t →
+            IsNext ds n t u front.now self.new }
+        ensures rests { (now : ℕ) (t : Option ℕ) (u : Machine) → now ≤ wanted_from front.now →
+            Rests now t u front.now self.new }
+        ensures reads { (ds : List ℕ) → reads_so_far ds front.now self.new ≡ [] }
+        ensures own { self.new.own ≡ record { first = 0; len = 0 } }
+        ensures target { self.new.target ≡ record { first = 0; len = 0 } }
+        ensures words { self.new.words ≡ record { bus = front.now.bus; answered = 0; awaited = 0 } }
+        ensures unplanned { self.new.planned ≡ false }
+        ensures none { known_count self.new ≡ 0 }
+    {
+        self.place = place;
+        self.own = Run::default();
+        self.target = Run::default();
+        self.words = Fetching::new(front.bus);
+        self.planned = false;
+    }
+
     /// The tick from which on its next word is wanted, as far as the words so far tell.
     fn wanted(&self, front: &Front) -> u64
         ensures { result ≡ wanted_next front.now self.now }
@@ -131,7 +153,41 @@ impl Next {
         ]
     }
 
+    /// How far it is fetched by the words so far.
+    #[inline(always)]
+    fn given(&self, x: &[u64; 16], state: &State) -> Given
+        requires place { IsPlace self.now.place }
+        requires words { IsEntry (words_alone self.now.own self.now.target) }
+        ensures value { result ≡ given_of (left_after (reading x.now (word state.now 3) state.now.enabled self.now.place)
+            (map (word state.now) (words_of_run self.now.own ++ words_of_run self.now.target))) }
+        ensures shape { IsFetching result }
+    {
+        let so_far = self.own.len + self.target.len;
+        if so_far == 0 {
+            return fetch_on(&self.place, x, &[], state);
+        }
+        if so_far == 1 {
+            return fetch_on(&self.place, x, &[state.word(self.word_at(0))], state);
+        }
+        self.given_more(x, state)
+    }
+
+    /// The same of any number of words.
+    #[inline(never)]
+    fn given_more(&self, x: &[u64; 16], state: &State) -> Given
+        requires place { IsPlace self.now.place }
+        requires words { IsEntry (words_alone self.now.own self.now.target) }
+        ensures value { result ≡ given_of (left_after (reading x.now (word state.now 3) state.now.enabled self.now.place)
+            (map (word state.now) (words_of_run self.now.own ++ words_of_run self.now.target))) }
+        ensures shape { IsFetching result }
+    {
+        let contents = self.contents(state);
+        let so_far = usize::from(self.own.len + self.target.len);
+        fetch_on(&self.place, x, &contents[..so_far], state)
+    }
+
     /// Asks for an instruction word that is wanted from `from` on, unless it is held.
+    #[inline(always)]
     fn ask(&mut self, w: u32, from: u64, front: &Front, delays: &Delays, port: &mut Port)
         requires room { IsEarly front.now self.old.words }
         requires early { from ≤ 2 ^ 64 - 512 }
@@ -169,6 +225,7 @@ impl Next {
     }
 
     /// Asks for a word of the target of EX, which waits for the entry before.
+    #[inline(never)]
     fn ask_target(&mut self, w: u32, front: &Front, delays: &Delays, port: &mut Port)
         requires words { self.old.target.len ≤ 16 }
         requires room { IsEarly front.now self.old.words }
@@ -190,6 +247,7 @@ impl Next {
 
     /// Reads it on as far as the tick allows: asks for the words that are known by now, and once they all are plans it. Whatever the state
     /// before it is, what is known of it stays so, and nothing more of it can be known before the next tick.
+    #[inline(always)]
     pub fn advance(&mut self, outlook: &Outlook, state: &State, delays: &Delays, port: &mut Port)
         requires known { IsKnown delays.now outlook.now.levels outlook.now.tick
             outlook.now.front.now outlook.now.x.now state.now self.old }
@@ -214,6 +272,7 @@ impl Next {
     }
 
     /// Prepares it for good, at its tick, where it is planned; the index word that it changes is changed in `x`.
+    #[inline(always)]
     pub fn prepare(&self, x: &mut [u64; 16], state: &State) -> Prepared
         requires planned { self.now.planned ≡ true }
         requires ready { IsReady x.old state.now self.now }
@@ -224,11 +283,26 @@ impl Next {
         ensures words { x.new ≡ words_after x.old result.index }
         ensures ranges { IsPrepared result }
     {
-        let mut prepared = self.prepared;
         if self.needs.index_read.is_none() {
-            change_index(prepared.index, x);
-            return prepared;
+            change_index(self.prepared.index, x);
+            return self.prepared;
         }
+        self.prepare_with_side(x, state)
+    }
+
+    /// The same, by what stands in its index-side word now.
+    #[inline(never)]
+    fn prepare_with_side(&self, x: &mut [u64; 16], state: &State) -> Prepared
+        requires planned { self.now.planned ≡ true }
+        requires ready { IsReady x.old state.now self.now }
+        ensures value { (ds : List ℕ) (n now : ℕ) (f : FrontAt) (t : Option ℕ) (u : Machine) →
+            IfSome t (λ i. i < 64) → IsBefore now f.past x.old state.now u →
+            IsNext ds n t u f self.now → now ≡ self.now.formed.p →
+            ((entry_at t u).serial ≡ true → u ≡ state.now) → result ≡ plan_of u t }
+        ensures words { x.new ≡ words_after x.old result.index }
+        ensures ranges { IsPrepared result }
+    {
+        let mut prepared = self.prepared;
         let read = side_word(state, self.place.table, self.needs.index_read);
         prepared.place = self.place;
         prepare_in(&mut prepared, &self.fetched, x, read, state);
@@ -256,9 +330,7 @@ impl Next {
         ensures planned { self.new.planned ≡ true → outlook.now.tick < self.new.formed.a }
     {
         delays.shape();
-        let contents = self.contents(state);
-        let so_far = usize::from(self.own.len + self.target.len);
-        match fetch_on(&self.place, outlook.x, &contents[..so_far], state) {
+        match self.given(outlook.x, state) {
             Given::Next {
                 word,
                 target: false,
@@ -274,7 +346,7 @@ impl Next {
                 true
             }
             Given::Found(fetched) => {
-                self.plan(fetched, outlook, state, delays, port);
+                self.plan(&fetched, outlook, state, delays, port);
                 true
             }
         }
@@ -283,35 +355,129 @@ impl Next {
     /// Plans the entry, of which this is fetched.
     fn plan(
         &mut self,
-        fetched: Fetched,
+        fetched: &Fetched,
         outlook: &Outlook,
         state: &State,
         delays: &Delays,
         port: &mut Port,
     )
         requires place { IsPlace self.old.place }
-        requires fetched { IsFetched fetched }
+        requires fetched { IsFetched fetched.now }
         requires front { IsFront outlook.now.levels outlook.now.front.now }
         requires entry { IsEntry (entry_seen self.old.own self.old.target
-            (seen self.old.place fetched outlook.now.x.now state.now)) }
+            (seen self.old.place fetched.now outlook.now.x.now state.now)) }
         requires words { self.old.words
             ≡ words_so_far delays.now outlook.now.front.now self.old.own self.old.target }
         requires few { length port.old.reads < 40 }
         ensures next { IsPlannedAs delays.now outlook.now.levels outlook.now.front.now
-            (seen self.old.place fetched outlook.now.x.now state.now) self.old self.new }
+            (seen self.old.place fetched.now outlook.now.x.now state.now) self.old self.new }
         ensures reads { port.new.reads ≡ port.old.reads
             ++ side_asked outlook.now.front.now.past self.new.entry.side self.new.formed.a }
         ensures bus { port.new.bus ≡ port.old.bus }
     {
         self.prepared.place = self.place;
-        self.needs = prepare_without_side(&mut self.prepared, &fetched, outlook.x, state);
-        self.entry = entry_of(self.own, self.target, &self.needs, &self.prepared, &fetched);
-        self.fetched = fetched;
+        self.needs = prepare_as(&mut self.prepared, fetched, outlook.x, state);
+        self.entry = entry_of(self.own, self.target, &self.needs, &self.prepared, fetched);
+        self.fetched = *fetched;
         let front = outlook.front;
         self.formed = front.form(delays, outlook.levels, &self.entry, self.words);
         self.planned = true;
         port.ask_side(&front.past, self.entry.side, self.formed.a);
     }
+}
+
+/// Prepares an entry as far as it goes without its index-side word. What follows knows the form of a frequent instruction, so that it is told
+/// apart once.
+#[inline(always)]
+fn prepare_as(p: &mut Prepared, fetched: &Fetched, x: &[u64; 16], state: &State) -> Needs
+    requires place { IsPlace p.old.place }
+    requires fetched { IsFetched fetched.now }
+    ensures value { let v = seen p.old.place fetched.now x.now state.now in
+        p.new ≡ prepared_of v (option_map (λ w. 0) (needs_of v).index_read) }
+    ensures needs { result ≡ needs_of (seen p.old.place fetched.now x.now state.now) }
+    ensures place { p.new.place ≡ p.old.place }
+    ensures ranges { IsPrepared p.new }
+    ensures shape { IsNeeds result }
+{
+    if fetched.target.is_some() {
+        return prepare_any(p, fetched, x, state);
+    }
+    if fetched.fault.is_some() {
+        return prepare_any(p, fetched, x, state);
+    }
+    let halves = fetched.instr.halves;
+    match fetched.instr.instr {
+        Instr::Half { op, address, j, i } => {
+            let instr = Instr::Half { op, address, j, i };
+            prepare_own(p, Decoded { instr, halves }, x, state)
+        }
+        Instr::Branch { op, address, i } => {
+            let instr = Instr::Branch { op, address, i };
+            prepare_own(p, Decoded { instr, halves }, x, state)
+        }
+        Instr::Vfl {
+            op,
+            decimal,
+            unsigned,
+            negated,
+            p: form,
+            length,
+            byte,
+            offset,
+            address,
+            i,
+        } => {
+            let instr = Instr::Vfl {
+                op,
+                decimal,
+                unsigned,
+                negated,
+                p: form,
+                length,
+                byte,
+                offset,
+                address,
+                i,
+            };
+            prepare_own(p, Decoded { instr, halves }, x, state)
+        }
+        _ => prepare_any(p, fetched, x, state),
+    }
+}
+
+/// The same of any entry.
+#[inline(never)]
+fn prepare_any(p: &mut Prepared, fetched: &Fetched, x: &[u64; 16], state: &State) -> Needs
+    requires place { IsPlace p.old.place }
+    requires fetched { IsFetched fetched.now }
+    ensures value { let v = seen p.old.place fetched.now x.now state.now in
+        p.new ≡ prepared_of v (option_map (λ w. 0) (needs_of v).index_read) }
+    ensures needs { result ≡ needs_of (seen p.old.place fetched.now x.now state.now) }
+    ensures place { p.new.place ≡ p.old.place }
+    ensures ranges { IsPrepared p.new }
+    ensures shape { IsNeeds result }
+{
+    prepare_without_side(p, fetched, x, state)
+}
+
+/// The same of an own instruction whose words may be fetched, and which has no target.
+#[inline(always)]
+fn prepare_own(p: &mut Prepared, own: Decoded, x: &[u64; 16], state: &State) -> Needs
+    requires place { IsPlace p.old.place }
+    requires fetched { IsFetched (record { instr = own; target = None; fault = None }) }
+    ensures value { let v = seen p.old.place (record { instr = own; target = None; fault = None }) x.now state.now in
+        p.new ≡ prepared_of v (option_map (λ w. 0) (needs_of v).index_read) }
+    ensures needs { result ≡ needs_of (seen p.old.place (record { instr = own; target = None; fault = None }) x.now state.now) }
+    ensures place { p.new.place ≡ p.old.place }
+    ensures ranges { IsPrepared p.new }
+    ensures shape { IsNeeds result }
+{
+    let fetched = Fetched {
+        instr: own,
+        target: None,
+        fault: None,
+    };
+    prepare_without_side(p, &fetched, x, state)
 }
 
 /// An entry with these instruction words as the timetable sees it.

@@ -1,5 +1,5 @@
 -- What holds of a draft holds of it with a further line.
-use Rattle.std.proofs.Common.{◌≡◌, ◌≤◌, ◌<◌, ◌-◌, ◌^◌, ◌==◌, ◌&&◌, ℕ, Bool, true, false, not, nat_le, nat_lt, List, [], ◌∷◌, ◌++◌, length, get_or, replicate, Option, Some, None, if◌then◌else◌, refl, ap, sym, subst, ◌∙◌, length-append, arith, lit<}
+use Rattle.std.proofs.Common.{Option, IfSome, ◌≡◌, ◌≤◌, ◌<◌, ◌-◌, ◌^◌, ◌==◌, ◌&&◌, ℕ, Bool, true, false, not, nat_le, nat_lt, List, [], ◌∷◌, ◌++◌, length, get_or, replicate, Some, None, if◌then◌else◌, refl, ap, sym, subst, ◌∙◌, length-append, arith, lit<}
 use Rattle.std.proofs.lemmas.Bool.{and_parts as holds_both, leb-true as at_most, ltb-false as not_below, ltb-true as below}
 use Rattle.std.specs.List.{All, AllPass}
 use Rattle.std.proofs.lemmas.List.{length-replicate, get_or_append_left, get_or-append_right, get_or-replicate}
@@ -7,12 +7,15 @@ use Rattle.std.proofs.lemmas.List.Elements.{All-append, All-replicate}
 use Rattle.std.proofs.lemmas.List.Sums.{AllPass-from_list_all}
 use Rattle.std.proofs.lemmas.Bool.Decides.{nat_tests}
 use Rattle.st_bits.specs.Storage.{words_of_storage}
-use Rattle.st_card.specs.Controls.{Asked, with_budget, with_delays, with_signal, with_dump, with_trace, with_time, with_chart, with_snap, with_back}
+use Rattle.st_card.specs.Controls.{Asked, with_keyword}
+use Rattle.st_card.specs.declared.keywords.Keyword.{Keyword}
+use Rattle.st_card.specs.declared.keywords.Keyword.TheVariants as keywords
 use Rattle.st_card.specs.Limits.{is_tick, IsWithinLimits}
 use Rattle.st_card.proofs.LimitLemmas.{budget-kept, delays-kept, signal-kept, dump-kept, trace-kept, time-kept, chart-kept, snap-kept, back-kept}
-use Rattle.st_object.specs.Draft.{Draft, IsDraft, lacks_object, lacks_fin, has_delays, lacks_start, has_start, lacks_budget, has_place, may_hold, with_start, with_word, with_asked, with_value, with_item}
+use Rattle.st_object.specs.Draft.{Draft, IsDraft, has_place, may_hold, with_start, with_word, with_order, with_value, with_item}
 use Rattle.st_object.specs.declared.items.Item.{Item}
 use Rattle.st_object.specs.declared.items.Item.TheVariants.{Object, Start, Word, Budget, Delay, Signal, Dump, Trace, Time, Chart, Snap, Back, Fin}
+use Rattle.st_object.specs.declared.items.Kind.TheVariants as kinds
 use Rattle.st_object.proofs.LineMeanings.{given, mapped, the_one, IsNarrow}
 
 -- a word above the registers leaves them zero
@@ -40,7 +43,7 @@ words_kept xs w x each small =
     (All-append (λ y. y < 2 ^ 64) xs (replicate (w - length xs) 0) each (All-replicate (λ y. y < 2 ^ 64) (w - length xs) 0 (lit< tt)))
     (All-replicate (λ y. y < 2 ^ 64) 1 x small)
 
-kept_with : (d : Draft) (new : Asked) → IsDraft d → IsWithinLimits new → new.list ≡ false → IsDraft (record d { asked = new })
+pub kept_with : (d : Draft) (new : Asked) → IsDraft d → IsWithinLimits new → new.list ≡ false → IsDraft (record d { asked = new })
 kept_with d new draft limits unlisted = record {
   few = draft.few;
   each = draft.each;
@@ -48,6 +51,17 @@ kept_with d new draft limits unlisted = record {
   start = draft.start;
   limits = limits;
   unlisted = unlisted;
+}
+
+pub kept_ends : (d : Draft) (begun ended : Bool) (start : Option ℕ) → IsDraft d → IfSome start (λ h. h < 2 ^ 19) →
+    IsDraft (record d { begun = begun; start = start; ended = ended })
+kept_ends d begun ended start draft small = record {
+  few = draft.few;
+  each = draft.each;
+  registers = draft.registers;
+  start = small;
+  limits = draft.limits;
+  unlisted = draft.unlisted;
 }
 
 kept_word : (d : Draft) (w x : ℕ) → IsDraft d → may_hold (length d.words) w x ≡ true → x < 2 ^ 64 →
@@ -70,12 +84,15 @@ kept_word d w x draft fits small =
     }
 
 -- what is asked for, where it is within its limits
-kept_asked : (d e : Draft) (place : Bool) (asked : Option Asked) → (if place then with_asked d asked else None) ≡ Some e →
-    ((new : Asked) → asked ≡ Some new → IsDraft (record d { asked = new })) → IsDraft e
-kept_asked d e place asked same keeps =
-    let step = given place (with_asked d asked) e same in
-    let parts = mapped (λ (a : Asked). record d { asked = a }) asked e step.1 in
-    subst (λ (x : Draft). IsDraft x) parts.1.1 (keeps parts.0 parts.1.0)
+kept_asked : (d e : Draft) (place : Bool) (keyword : Keyword) (numbers : List ℕ) →
+    (if place then with_order d keyword numbers else None) ≡ Some e →
+    ((new : Asked) → with_keyword keyword d.asked numbers ≡ Some new → IsWithinLimits new) →
+    ((new : Asked) → with_keyword keyword d.asked numbers ≡ Some new → d.asked.list ≡ new.list) → IsDraft d → IsDraft e
+kept_asked d e place keyword numbers same limits unlisted draft =
+    let step = given place (with_order d keyword numbers) e same in
+    let parts = mapped (λ (a : Asked). record d { asked = a }) (with_keyword keyword d.asked numbers) e step.1 in
+    subst (λ (x : Draft). IsDraft x) parts.1.1
+    (kept_with d parts.0 draft (limits parts.0 parts.1.0) (sym (unlisted parts.0 parts.1.0) ∙ draft.unlisted))
 
 unlisted_test : (b : Bool) (new given_new : Asked) → (if b then Some given_new else None) ≡ Some new → given_new.list ≡ new.list
 unlisted_test true new given_new same = ap (λ (a : Asked). a.list) (the_one given_new new same)
@@ -87,61 +104,40 @@ unlisted_mark false new given_new same = ap (λ (a : Asked). a.list) (the_one gi
 
 -- each line that is added keeps what holds of drafts
 pub kept : (d e : Draft) (item : Item) → with_item d item ≡ Some e → IsNarrow item → IsDraft d → IsDraft e
-unfolding has_place with_value
+unfolding with_value
 kept d e Object same narrow draft =
-    let step = given (lacks_object d) (Some (record d { begun = true })) e same in
-    subst (λ (x : Draft). IsDraft x) (the_one _ e step.1) (record {
-      few = draft.few;
-      each = draft.each;
-      registers = draft.registers;
-      start = draft.start;
-      limits = draft.limits;
-      unlisted = draft.unlisted;
-    })
+    let step = given (has_place d kinds.Object) (Some (record d { begun = true })) e same in
+    subst (λ (x : Draft). IsDraft x) (the_one _ e step.1) (kept_ends d true d.ended d.start draft draft.start)
 kept d e (Start h) same narrow draft =
-    let step = given (d.begun && lacks_start d) (with_start d h) e same in
+    let step = given (has_place d kinds.Start) (with_start d h) e same in
     let fits = given (nat_lt h (2 ^ 19)) (Some (record d { start = Some h })) e step.1 in
-    subst (λ (x : Draft). IsDraft x) (the_one _ e fits.1) (record {
-      few = draft.few;
-      each = draft.each;
-      registers = draft.registers;
-      start = below h (2 ^ 19) fits.0;
-      limits = draft.limits;
-      unlisted = draft.unlisted;
-    })
+    subst (λ (x : Draft). IsDraft x) (the_one _ e fits.1) (kept_ends d d.begun d.ended (Some h) draft (below h (2 ^ 19) fits.0))
 kept d e (Word w x) same narrow draft =
-    let step = given (has_start d && lacks_budget d) (with_word d w x) e same in
+    let step = given (has_place d kinds.Word) (with_word d w x) e same in
     let fits = given (may_hold (length d.words) w x)
     (Some (record d { words = d.words ++ replicate (w - length d.words) 0 ++ x ∷ [] })) e step.1 in
     subst (λ (y : Draft). IsDraft y) (the_one _ e fits.1) (kept_word d w x draft fits.0 narrow)
-kept d e (Budget n) same narrow draft = kept_asked d e _ (with_budget d.asked (n ∷ [])) same
-    (λ new fits. kept_with d new draft (budget-kept d.asked new (n ∷ []) fits draft.limits) (sym (unlisted_test _ new _ fits) ∙ draft.unlisted))
-kept d e (Delay n) same narrow draft = kept_asked d e _ (with_delays d.asked (n ∷ [])) same
-    (λ new fits. kept_with d new draft (delays-kept d.asked new (n ∷ []) fits draft.limits) (sym (unlisted_test _ new _ fits) ∙ draft.unlisted))
-kept d e (Signal c i) same narrow draft = kept_asked d e _ (with_signal d.asked (c ∷ i ∷ [])) same
-    (λ new fits. kept_with d new draft (signal-kept d.asked new (c ∷ i ∷ []) fits draft.limits) (sym (unlisted_test _ new _ fits) ∙ draft.unlisted))
-kept d e (Dump f t) same narrow draft = kept_asked d e _ (with_dump d.asked (f ∷ t ∷ [])) same
-    (λ new fits. kept_with d new draft (dump-kept d.asked new (f ∷ t ∷ []) fits draft.limits) (sym (unlisted_test _ new _ fits) ∙ draft.unlisted))
-kept d e Trace same narrow draft = kept_asked d e _ (with_trace d.asked []) same
-    (λ new fits. kept_with d new draft (trace-kept d.asked new [] fits draft.limits) (sym (unlisted_mark _ new _ fits) ∙ draft.unlisted))
-kept d e Time same narrow draft = kept_asked d e _ (with_time d.asked []) same
-    (λ new fits. kept_with d new draft (time-kept d.asked new [] fits draft.limits) (sym (unlisted_mark _ new _ fits) ∙ draft.unlisted))
-kept d e Chart same narrow draft = kept_asked d e _ (with_chart d.asked []) same
-    (λ new fits. kept_with d new draft (chart-kept d.asked new [] fits draft.limits) (sym (unlisted_mark _ new _ fits) ∙ draft.unlisted))
-kept d e (Snap t) same narrow draft = kept_asked d e _ (with_snap d.asked (t ∷ [])) same
-    (λ new fits.
+kept d e (Budget n) same narrow draft = kept_asked d e _ keywords.Budget (n ∷ []) same
+    (λ new fits. budget-kept d.asked new (n ∷ []) fits draft.limits) (λ new fits. unlisted_test _ new _ fits) draft
+kept d e (Delay n) same narrow draft = kept_asked d e _ keywords.Delays (n ∷ []) same
+    (λ new fits. delays-kept d.asked new (n ∷ []) fits draft.limits) (λ new fits. unlisted_test _ new _ fits) draft
+kept d e (Signal c i) same narrow draft = kept_asked d e _ keywords.Signals (c ∷ i ∷ []) same
+    (λ new fits. signal-kept d.asked new (c ∷ i ∷ []) fits draft.limits) (λ new fits. unlisted_test _ new _ fits) draft
+kept d e (Dump f t) same narrow draft = kept_asked d e _ keywords.Dump (f ∷ t ∷ []) same
+    (λ new fits. dump-kept d.asked new (f ∷ t ∷ []) fits draft.limits) (λ new fits. unlisted_test _ new _ fits) draft
+kept d e Trace same narrow draft = kept_asked d e _ keywords.Trace [] same
+    (λ new fits. trace-kept d.asked new [] fits draft.limits) (λ new fits. unlisted_mark _ new _ fits) draft
+kept d e Time same narrow draft = kept_asked d e _ keywords.Time [] same
+    (λ new fits. time-kept d.asked new [] fits draft.limits) (λ new fits. unlisted_mark _ new _ fits) draft
+kept d e Chart same narrow draft = kept_asked d e _ keywords.Chart [] same
+    (λ new fits. chart-kept d.asked new [] fits draft.limits) (λ new fits. unlisted_mark _ new _ fits) draft
+kept d e (Snap t) same narrow draft =
     let tick : is_tick t ≡ true = grind (arith, nat_tests) in
     let short : AllPass is_tick (t ∷ []) = AllPass-from_list_all is_tick (t ∷ []) (ap (λ b. b && true) tick) in
-    kept_with d new draft (snap-kept d.asked new (t ∷ []) short fits draft.limits) (sym (unlisted_test _ new _ fits) ∙ draft.unlisted))
-kept d e (Back k) same narrow draft = kept_asked d e _ (with_back d.asked (k ∷ [])) same
-    (λ new fits. kept_with d new draft (back-kept d.asked new (k ∷ []) fits draft.limits) (sym (unlisted_test _ new _ fits) ∙ draft.unlisted))
+    kept_asked d e _ keywords.Snap (t ∷ []) same
+    (λ new fits. snap-kept d.asked new (t ∷ []) short fits draft.limits) (λ new fits. unlisted_test _ new _ fits) draft
+kept d e (Back k) same narrow draft = kept_asked d e _ keywords.Back (k ∷ []) same
+    (λ new fits. back-kept d.asked new (k ∷ []) fits draft.limits) (λ new fits. unlisted_test _ new _ fits) draft
 kept d e Fin same narrow draft =
-    let step = given (has_delays d && lacks_fin d) (Some (record d { ended = true })) e same in
-    subst (λ (x : Draft). IsDraft x) (the_one _ e step.1) (record {
-      few = draft.few;
-      each = draft.each;
-      registers = draft.registers;
-      start = draft.start;
-      limits = draft.limits;
-      unlisted = draft.unlisted;
-    })
+    let step = given (has_place d kinds.Fin) (Some (record d { ended = true })) e same in
+    subst (λ (x : Draft). IsDraft x) (the_one _ e step.1) (kept_ends d d.begun true d.start draft draft.start)

@@ -8,9 +8,9 @@ use Rattle.st_card.specs.Controls.{good}
 use Rattle.st_card.specs.Tables.{is_same, row_of}
 use Rattle.st_card.specs.declared.numbers.Reading.TheVariants.{Bad, Large, Good}
 use Rattle.st_object.specs.Lines.{spelled}
-use Rattle.st_object.specs.Meaning.{parts_at, number_in, IsShort, hex_digit_in, hex_after, marks, keywords, item_behind, item_loosely, if_spelled, item_in}
+use Rattle.st_object.specs.Meaning.{parts_at, number_in, IsShort, hex_digit_in, hex_after, keywords, item_behind, item_of, item_loosely, if_spelled, item_in}
 use Rattle.st_object.specs.declared.items.Item.{Item}
-use Rattle.st_object.specs.declared.items.Item.TheVariants.{Word, Snap}
+use Rattle.st_object.specs.declared.items.Item.TheVariants.{Object, Word, Trace, Time, Chart, Snap, Fin}
 use Rattle.st_object.specs.declared.items.Kind.{Kind}
 use Rattle.st_object.specs.declared.items.Kind.TheVariants as kinds
 
@@ -57,46 +57,35 @@ short_good false b v n test same = cc
 number_short : (text : List ℕ) (n : ℕ) → number_in text ≡ Some n → IsShort n
 number_short text n same = short_good (is_number text) (nat_le (value text) 999999999999) (value text) n refl same
 
+mapped_narrow : {X : Type 0} (f : X → Item) (o : Option X) (item : Item) → ((x : X) → IsNarrow (f x)) → option_map f o ≡ Some item → IsNarrow item
+mapped_narrow f o item each same = let parts = mapped f o item same in subst (λ (i : Item). IsNarrow i) parts.1.1 (each parts.0)
+
 behind_narrow : (kind : Kind) (text : List ℕ) (item : Item) → item_behind kind text ≡ Some item → IsNarrow item
-behind_narrow kinds.Start text item same =
-    let parts = mapped _ _ item same in subst (λ (i : Item). IsNarrow i) parts.1.1 tt
+behind_narrow kinds.Object text item same = subst (λ (i : Item). IsNarrow i) (the_one Object item same) tt
+behind_narrow kinds.Start text item same = mapped_narrow _ _ item (λ p. tt) same
 behind_narrow kinds.Word text item same =
     let outer = chained _ (parts_at 32 text) item same in
-    let inner = mapped (λ w. Word w (hex_after 0 outer.0.1)) (number_in outer.0.0) item outer.1.1 in
-    subst (λ (i : Item). IsNarrow i) inner.1.1 (hex_after-lt 0 outer.0.1 (omega arith))
-behind_narrow kinds.Budget text item same =
-    let parts = mapped _ _ item same in subst (λ (i : Item). IsNarrow i) parts.1.1 tt
-behind_narrow kinds.Delay text item same =
-    let parts = mapped _ _ item same in subst (λ (i : Item). IsNarrow i) parts.1.1 tt
-behind_narrow kinds.Signal text item same =
-    let parts = mapped _ _ item same in subst (λ (i : Item). IsNarrow i) parts.1.1 tt
-behind_narrow kinds.Dump text item same =
-    let parts = mapped _ _ item same in subst (λ (i : Item). IsNarrow i) parts.1.1 tt
+    mapped_narrow (λ w. Word w (hex_after 0 outer.0.1)) (number_in outer.0.0) item (λ w. hex_after-lt 0 outer.0.1 (omega arith)) outer.1.1
+behind_narrow kinds.Budget text item same = mapped_narrow _ _ item (λ n. tt) same
+behind_narrow kinds.Delay text item same = mapped_narrow _ _ item (λ n. tt) same
+behind_narrow kinds.Signal text item same = mapped_narrow _ _ item (λ p. tt) same
+behind_narrow kinds.Dump text item same = mapped_narrow _ _ item (λ p. tt) same
+behind_narrow kinds.Trace text item same = subst (λ (i : Item). IsNarrow i) (the_one Trace item same) tt
+behind_narrow kinds.Time text item same = subst (λ (i : Item). IsNarrow i) (the_one Time item same) tt
+behind_narrow kinds.Chart text item same = subst (λ (i : Item). IsNarrow i) (the_one Chart item same) tt
+behind_narrow kinds.Fin text item same = subst (λ (i : Item). IsNarrow i) (the_one Fin item same) tt
 behind_narrow kinds.Snap text item same =
     let parts = mapped (λ n. Snap n) (number_in text) item same in
     subst (λ (i : Item). IsNarrow i) parts.1.1 (number_short text parts.0 parts.1.0)
-behind_narrow kinds.Back text item same =
-    let parts = mapped _ _ item same in subst (λ (i : Item). IsNarrow i) parts.1.1 tt
+behind_narrow kinds.Back text item same = mapped_narrow _ _ item (λ n. tt) same
 
-abbrev AreNarrow : List (List ℕ × Item) → Type 0
-AreNarrow [] = Unit {0}
-AreNarrow (row ∷ rows) = IsNarrow row.1 × AreNarrow rows
-
-row_narrow : (line : List ℕ) (rows : List (List ℕ × Item)) (item : Item) → AreNarrow rows → row_of line rows ≡ Some item → IsNarrow item
-row_narrow line [] item narrow same = cc
-row_narrow line (row ∷ rows) item narrow same =
-    let step : (b : Bool) → (if b then Some row.1 else row_of line rows) ≡ Some item → IsNarrow item =
-    λ b. elim b as (λ v. (if v then Some row.1 else row_of line rows) ≡ Some item → IsNarrow item) [
-      | true ↦ λ e. let this : row.1 ≡ item = cc in subst (λ (i : Item). IsNarrow i) this narrow.0
-      | false ↦ λ e. row_narrow line rows item narrow.1 e
-    ] in
-    step (is_same line row.0) same
+item_narrow : (word rest : List ℕ) (item : Item) → item_of word rest ≡ Some item → IsNarrow item
+item_narrow word rest item same =
+    let parts = chained (λ kind. item_behind kind rest) (row_of word keywords) item same in behind_narrow parts.0 rest item parts.1.1
 
 loosely_narrow : (parts : Option (List ℕ × List ℕ)) (line : List ℕ) (item : Item) → item_loosely parts line ≡ Some item → IsNarrow item
-loosely_narrow None line item same = row_narrow line marks item (tt, (tt, (tt, (tt, (tt, tt))))) same
-loosely_narrow (Some p) line item same =
-    let outer = chained _ (row_of p.0 keywords) item same in
-    behind_narrow outer.0 p.1 item outer.1.1
+loosely_narrow None line item same = item_narrow line [] item same
+loosely_narrow (Some p) line item same = item_narrow p.0 p.1 item same
 
 -- what was read spells the line
 pub told : (line : List ℕ) (item : Item) → item_in line ≡ Some item → (spelled item ≡ line) × IsNarrow item

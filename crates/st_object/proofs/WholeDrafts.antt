@@ -1,12 +1,14 @@
 -- A draft that is whole is a program, and its lines are the program's object text.
-use Rattle.std.proofs.Common.{◌≡◌, ◌≤◌, ◌<◌, ◌+◌, ◌-◌, ◌^◌, ◌==◌, ℕ, Bool, true, false, not, nat_lt, List, ◌++◌, length, get_or, replicate, Option, Some, None, is_some, IfSome, unwrap_or, refl, ap, sym, ◌∙◌, length-append, append-nil, arith, lit<}
+use Rattle.std.proofs.Common.{◌≡◌, ◌≤◌, ◌<◌, ◌+◌, ◌-◌, ◌^◌, ◌==◌, ℕ, Bool, true, false, not, nat_lt, List, ◌++◌, length, drop, get_or, replicate, Option, Some, None, is_some, IfSome, unwrap_or, refl, ap, sym, ◌∙◌, length-append, append-nil, arith, lit<}
+use Rattle.std.specs.List.{flat_map}
 use Rattle.std.proofs.lemmas.Bool.{and_parts as holds_both, ltb-false as not_below, ltb-true as below}
 use Rattle.std.proofs.lemmas.List.{length-replicate, get_or_append_left, get_or-append_right, get_or-replicate, get_or_past}
 use Rattle.std.proofs.lemmas.List.Elements.{All-append, All-replicate}
 use Rattle.std.proofs.lemmas.Bool.Decides.{nat_tests}
 use Rattle.st_bits.specs.Storage.{words_of_storage}
 use Rattle.st_object.specs.Lines.{marked, word_lines}
-use Rattle.st_object.specs.Draft.{Draft, IsDraft, is_empty, start_lines, lines_of, lines_from_budget, has_start, has_budget, has_delays, is_whole}
+use Rattle.st_object.specs.Order.{order}
+use Rattle.st_object.specs.Draft.{Draft, IsDraft, is_empty, start_lines, kind_lines, lines_of, is_whole}
 use Rattle.st_object.specs.Object.{IsProgram, AreWords, object_lines, filled_up, program_of}
 use Rattle.st_object.specs.declared.items.Item.{Item}
 use Rattle.st_object.specs.declared.items.Item.TheVariants.{Object}
@@ -22,12 +24,14 @@ pub record HasAll (d : Draft) : Type 0 where
   pub ended : d.ended ≡ true
 
 pub has_all : (d : Draft) → is_whole d ≡ true → HasAll d
+unfolding is_whole
 has_all d whole =
-    let last = holds_both (has_delays d) d.ended whole in
-    let third = holds_both (has_budget d) (not (is_empty d.asked.delays)) last.0 in
-    let second = holds_both (has_start d) (not (d.asked.budget == 0)) third.0 in
-    let first = holds_both d.begun (is_some d.start) second.0 in
-    record { begun = first.0; start = first.1; budget = second.1; delays = third.1; ended = last.1 }
+    let first = holds_both d.begun _ whole in
+    let second = holds_both (is_some d.start) _ first.1 in
+    let third = holds_both (not (d.asked.budget == 0)) _ second.1 in
+    let fourth = holds_both (not (is_empty d.asked.delays)) _ third.1 in
+    let last = holds_both d.ended true fourth.1 in
+    record { begun = first.0; start = second.0; budget = third.0; delays = fourth.0; ended = last.0 }
 
 zeros_past : (n k : ℕ) → get_or (replicate {A = ℕ} n 0) k 0 ≡ 0
 zeros_past n k =
@@ -90,7 +94,7 @@ pub whole_lines_of : (d : Draft) → is_whole d ≡ true → object_lines (progr
 whole_lines_of d whole =
     let all = has_all d whole in
     let lines = λ (b : Bool) (o : Option ℕ) (ws : List Item) (e : Bool).
-    marked b Object ++ (start_lines o ++ (ws ++ lines_from_budget (record d { ended = e }))) in
+    marked b Object ++ (start_lines o ++ (ws ++ flat_map (λ k. kind_lines (record d { ended = e }) k) (drop 3 order))) in
     sym (whole_lines (program_of d))
     ∙ (ap (λ (b : Bool). lines b (Some (unwrap_or d.start 0)) (word_lines 0 (filled_up d.words)) true) (sym all.begun)
     ∙ (ap (λ (o : Option ℕ). lines d.begun o (word_lines 0 (filled_up d.words)) true) (start_given d.start all.start)

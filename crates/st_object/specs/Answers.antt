@@ -5,8 +5,8 @@ use Rattle.st_object.specs.Draft.{Draft}
 use Rattle.st_object.specs.Object.{Program, IsBadLine}
 use Rattle.st_object.specs.declared.reading.ObjectError.{ObjectError}
 use Rattle.st_object.specs.declared.reading.ObjectError.TheVariants.{Refused as ObjectRefused, NoMemory as ObjectNoMemory}
-use Rattle.st_object.specs.declared.drafts.Outcome.{Outcome}
-use Rattle.st_object.specs.declared.drafts.Outcome.TheVariants.{Added, Refused, NoMemory}
+use Rattle.st_card.specs.declared.keywords.Outcome.{Outcome}
+use Rattle.st_card.specs.declared.keywords.Outcome.TheVariants.{Added, Refused, NoMemory}
 
 -- what an outcome says of a draft after a line: it is the one that is wanted, or none is; there may be no memory
 abbrev pub Settles : Draft → Option Draft → Outcome → Type 0

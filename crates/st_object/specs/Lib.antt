@@ -1,4 +1,5 @@
 pub mod Lines
+pub mod Order
 pub mod Draft
 pub mod Meaning
 pub mod Object

@@ -45,34 +45,38 @@ abbrev pub word_in : List ℕ → Option Item
 word_in text = option_and_then
     (λ p. option_map (λ w. Word w (hex_after 0 p.1)) (number_in p.0)) (parts_at blank text)
 
--- the lines that are one word
-abbrev pub marks : List (List ℕ × Item)
-marks =
-    (codes "OBJECT", Object) ∷ (codes "TRACE", Trace) ∷ (codes "TIME", Time) ∷ (codes "CHART", Chart)
-    ∷ (codes "FIN", Fin) ∷ []
-
--- the first words of the other lines
+-- the first words of lines
 abbrev pub keywords : List (List ℕ × Kind)
 keywords =
-    (codes "START", kinds.Start) ∷ (codes "W", kinds.Word) ∷ (codes "BUDGET", kinds.Budget)
+    (codes "OBJECT", kinds.Object) ∷ (codes "START", kinds.Start) ∷ (codes "W", kinds.Word) ∷ (codes "BUDGET", kinds.Budget)
     ∷ (codes "DELAY", kinds.Delay) ∷ (codes "SIGNAL", kinds.Signal) ∷ (codes "DUMP", kinds.Dump)
-    ∷ (codes "SNAP", kinds.Snap) ∷ (codes "BACK", kinds.Back) ∷ []
+    ∷ (codes "TRACE", kinds.Trace) ∷ (codes "TIME", kinds.Time) ∷ (codes "CHART", kinds.Chart)
+    ∷ (codes "SNAP", kinds.Snap) ∷ (codes "BACK", kinds.Back) ∷ (codes "FIN", kinds.Fin) ∷ []
 
 -- what stands behind a first word
 abbrev pub item_behind : Kind → List ℕ → Option Item
+item_behind kinds.Object text = Some Object
 item_behind kinds.Start text = option_map (λ p. Start (2 * p.0 + p.1 / 32)) (numbers_in period text)
 item_behind kinds.Word text = word_in text
 item_behind kinds.Budget text = option_map (λ n. Budget n) (number_in text)
 item_behind kinds.Delay text = option_map (λ n. Delay n) (number_in text)
 item_behind kinds.Signal text = option_map (λ p. Signal p.0 p.1) (numbers_in blank text)
 item_behind kinds.Dump text = option_map (λ p. Dump p.0 p.1) (numbers_in blank text)
+item_behind kinds.Trace text = Some Trace
+item_behind kinds.Time text = Some Time
+item_behind kinds.Chart text = Some Chart
 item_behind kinds.Snap text = option_map (λ n. Snap n) (number_in text)
 item_behind kinds.Back text = option_map (λ n. Back n) (number_in text)
+item_behind kinds.Fin text = Some Fin
 
--- what a line means if it is spelled so: leading zeros and other letters are not looked at here
+-- what a first word says with what stands behind it
+abbrev pub item_of : List ℕ → List ℕ → Option Item
+item_of word rest = option_and_then (λ kind. item_behind kind rest) (row_of word keywords)
+
+-- what a line means if it is spelled so: leading zeros, other letters and what stands in excess are not looked at here
 abbrev pub item_loosely : Option (List ℕ × List ℕ) → List ℕ → Option Item
-item_loosely None line = row_of line marks
-item_loosely (Some p) line = option_and_then (λ kind. item_behind kind p.1) (row_of p.0 keywords)
+item_loosely None line = item_of line []
+item_loosely (Some p) line = item_of p.0 p.1
 
 -- an item, where the line is its spelling
 abbrev pub if_spelled : List ℕ → Item → Option Item

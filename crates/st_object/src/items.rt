@@ -18,15 +18,20 @@ pub(crate) enum Item {
     Fin,
 }
 
-// What the first word of a line says of the numbers behind it.
+// The kinds of lines.
 #[derive(Clone, Copy)]
 pub(crate) enum Kind {
+    Object,
     Start,
     Word,
     Budget,
     Delay,
     Signal,
     Dump,
+    Trace,
+    Time,
+    Chart,
     Snap,
     Back,
+    Fin,
 }

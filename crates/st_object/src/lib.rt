@@ -6,6 +6,7 @@ mod images;
 mod items;
 mod laws;
 mod meaning;
+mod order;
 mod reading;
 mod spelling;
 mod writing;

@@ -11,25 +11,21 @@ use crate::spelling::spelled;
 use st_card::limits::MOST_NUMBER;
 use st_card::{Reading, cut, read_number, row_of};
 
-// The lines that are one word.
-const MARKS: [(&[u8], Item); 5] = [
-    (b"OBJECT", Item::Object),
-    (b"TRACE", Item::Trace),
-    (b"TIME", Item::Time),
-    (b"CHART", Item::Chart),
-    (b"FIN", Item::Fin),
-];
-
-// The first words of the other lines.
-const KEYWORDS: [(&[u8], Kind); 8] = [
+// The first words of lines.
+const KEYWORDS: [(&[u8], Kind); 13] = [
+    (b"OBJECT", Kind::Object),
     (b"START", Kind::Start),
     (b"W", Kind::Word),
     (b"BUDGET", Kind::Budget),
     (b"DELAY", Kind::Delay),
     (b"SIGNAL", Kind::Signal),
     (b"DUMP", Kind::Dump),
+    (b"TRACE", Kind::Trace),
+    (b"TIME", Kind::Time),
+    (b"CHART", Kind::Chart),
     (b"SNAP", Kind::Snap),
     (b"BACK", Kind::Back),
+    (b"FIN", Kind::Fin),
 ];
 
 // What stands before the first byte `at` of a text, and what stands behind it.
@@ -120,15 +116,27 @@ fn item_behind(kind: Kind, text: &[u8]) -> Option<Item>
     ensures { result ≡ spec.item_behind kind text.now }
 {
     match kind {
+        Kind::Object => Some(Item::Object),
         Kind::Start => start_in(text),
         Kind::Word => word_in(text),
         Kind::Budget => Some(Item::Budget(number_in(text)?)),
         Kind::Delay => Some(Item::Delay(number_in(text)?)),
         Kind::Signal => signal_in(text),
         Kind::Dump => dump_in(text),
+        Kind::Trace => Some(Item::Trace),
+        Kind::Time => Some(Item::Time),
+        Kind::Chart => Some(Item::Chart),
         Kind::Snap => Some(Item::Snap(number_in(text)?)),
         Kind::Back => Some(Item::Back(number_in(text)?)),
+        Kind::Fin => Some(Item::Fin),
     }
+}
+
+// What a first word says with what stands behind it.
+fn item_of(word: &[u8], rest: &[u8]) -> Option<Item>
+    ensures { result ≡ spec.item_of word.now rest.now }
+{
+    item_behind(row_of(&KEYWORDS, word)?, rest)
 }
 
 // What a line means if it is spelled so.
@@ -136,8 +144,8 @@ fn item_loosely(line: &[u8]) -> Option<Item>
     ensures { result ≡ spec.item_loosely (spec.parts_at blank line.now) line.now }
 {
     match parts_at(b' ', line) {
-        None => row_of(&MARKS, line),
-        Some((word, rest)) => item_behind(row_of(&KEYWORDS, word)?, rest),
+        None => item_of(line, &[]),
+        Some((word, rest)) => item_of(word, rest),
     }
 }
 

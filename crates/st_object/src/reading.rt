@@ -7,11 +7,11 @@ ghost use Rattle.st_object.specs.Object as spec;
 ghost use Rattle.st_object.specs.Answers.{Settles, Explains, Gives, NamesBadLine};
 ghost use Rattle.st_object.specs.declared.reading.ObjectError.TheVariants as errors;
 
-use crate::drafts::{Draft, Outcome, fill_up};
+use crate::drafts::{Draft, fill_up};
 use crate::images::Image;
 use crate::meaning::item_in;
 use st_bits::WORDS;
-use st_card::{Fault, cut};
+use st_card::{Fault, Outcome, cut};
 use std::alloc::Global;
 
 /// Why a text was not read.

@@ -213,6 +213,7 @@ pub fn prepare_in(
 
 /// Prepares an entry as far as it goes without its index-side word, in whose place 0 stands: all but `index` and `ind` is
 /// final, and these too where no such word is asked for. The result says what is needed. `x` stays.
+#[inline(always)]
 #[tactic(auto, unfolding(crate::specs::Plan::prepared, crate::specs::Plan::needs))]
 pub fn prepare_without_side(
     p: &mut Prepared,

@@ -1,16 +1,17 @@
 -- What comes between two entries, one thing after another: each thing, and two of them.
-use Rattle.std.specs.Prelude.{IfSome, MatchOption, is_none, is_some, nat_lt, nat_le, if◌then◌else◌}
+use Rattle.std.specs.Prelude.{IfSome, is_none, is_some, nat_lt, nat_le, if◌then◌else◌}
+use Rattle.std.proofs.lemmas.Bool.Decides.{nat_tests}
 use Rattle.std.proofs.Common.{◌≡◌, ℕ, ◌≤◌, Bool, true, false, ◌||◌, ◌&&◌, List, [], ◌∷◌, ◌++◌, length, length-append, Option, None, Some, refl, sym, subst, ◌∙◌, ap, arith}
 use Rattle.st_state.specs.Machine.{Machine}
 use Rattle.st_state.specs.Interrupts.{signalled, pending}
 use Rattle.st_state.specs.Orders.{is_due, next_device}
 use Rattle.st_state.specs.declared.devices.Order.{Order}
 use Rattle.st_state.specs.declared.devices.Device.{Device}
+use Rattle.st_state.specs.declared.devices.Device.TheVariants.{Reader, Printer}
 use Rattle.st_prep.specs.BesideOrders.{AreAlikeBesideOrders}
 use Rattle.st_prep.proofs.Choices.{of_choice}
-use Rattle.st_exch.specs.Printer.{printed}
 use Rattle.st_exec.specs.Step.{rests}
-use Rattle.st_exec.specs.Transfer.{words_from, read_in}
+use Rattle.st_exec.specs.Transfer.{read_in}
 use Rattle.st_run.specs.Run.{Signal, Scene, Reached, Happening, with_due_signals, with_signals_at_rest, first_card, cards_after, with_reader, with_printer, nothing, and_then, if_due, with_due_orders, with_device, with_order_at_rest, with_wait, settled}
 use Rattle.st_exec.proofs.BesideEntries.{beside-printed, beside-no_card, beside-signalled, beside-same, beside-then}
 use Rattle.st_ahead.specs.Overlap.{Overlap, interrupt_due}
@@ -18,6 +19,8 @@ use Rattle.st_ahead.specs.Calls.{ended, settled as settled_of, read_in_by, print
 use Rattle.st_ahead.proofs.Settling.{settled-waits}
 use Rattle.st_run.specs.Moments.{has_card, has_waited}
 use Rattle.st_run.specs.Together.{Together, scene_of, moment_of, with_scene, text_told, AreTexts, IsBehind, IsSince, closed_if}
+use Rattle.st_run.specs.Serving.{IsServed, is_card, printed_text, read_answer}
+use Rattle.st_run.specs.declared.serving.Served.{Served}
 use Rattle.st_run.specs.Between.{Came, first_text}
 use Rattle.st_run.proofs.EndedLemmas.{opened, ended-behind, ended-since, ended-state, ended-serves}
 
@@ -125,34 +128,28 @@ came-rest over a b same = came-scene over _ a b same (rest-alike a.machine.state
 abbrev drive : Overlap → List Signal → List (List ℕ) → Together
 drive m xs cards = record { machine = m; signals = xs; cards = cards }
 
-printer-by : (o : Option Order) (over : Bool) (m : Overlap) (xs : List Signal) (cards : List (List ℕ)) (words : List ℕ)
-    → is_none o ≡ false → IfSome o (λ order. words ≡ words_from m.state order.word 8)
-    → Came (with_printer o (scene_of (drive m xs cards))) (Some (printed words)) over over (drive m xs cards) (drive (printed_by m) xs cards)
-printer-by None over m xs cards words some are = absurd (cc some)
-printer-by (Some order) over m xs cards words some are =
-    came-state _ _ over _ _ refl (λ few. ap (λ ws. text_told (Some (printed ws))) are) refl (beside-printed m.state)
+printer-by : (o : Option Order) (over : Bool) (old new : Together) (served : Served)
+    → is_none o ≡ false → IfSome o (λ order. IsServed Printer order old.machine old.cards new.machine new.cards served)
+    → new.signals ≡ old.signals
+    → Came (with_printer o (scene_of old)) (printed_text served) over over old new
+printer-by None over old new served some is signals = absurd (cc some)
+printer-by (Some order) over old new served some is signals =
+    let m = old.machine in
+    let behind : new ≡ drive (printed_by m) old.signals old.cards =
+    ap (λ (x : Overlap). drive x new.signals new.cards) is.0
+    ∙ (ap (λ xs. drive (printed_by m) xs new.cards) signals ∙ ap (λ ys. drive (printed_by m) old.signals ys) is.1) in
+    subst (λ (t : Together). Came (with_printer (Some order) (scene_of old)) (printed_text served) over over old t) (sym behind)
+    (came-state _ _ over _ _ refl (λ few. ap text_told is.2) refl (beside-printed m.state))
 
-pub printer-came : (over : Bool) (old : Together) (m k : Overlap) (xs : List Signal) (cards : List (List ℕ)) (words text : List ℕ)
-    → drive m xs cards ≡ old → is_none old.machine.state.printer ≡ false
-    → IfSome m.state.printer (λ order. words ≡ words_from m.state order.word 8) → text ≡ printed words → k ≡ printed_by m
-    → Came (with_printer old.machine.state.printer (scene_of old)) (Some text) over over old (drive k xs cards)
-printer-came over old m k xs cards words text view some are is after =
-    subst (λ (t : Together). is_none t.machine.state.printer ≡ false → Came (with_printer t.machine.state.printer (scene_of t)) (Some text) over over t (drive k xs cards))
-    view
-    (λ has. subst (λ ws. Came (with_printer m.state.printer (scene_of (drive m xs cards))) (Some ws) over over (drive m xs cards) (drive k xs cards)) (sym is)
-    (subst (λ (x : Overlap). Came (with_printer m.state.printer (scene_of (drive m xs cards))) (Some (printed words)) over over (drive m xs cards) (drive x xs cards)) (sym after)
-    (printer-by m.state.printer over m xs cards words has are)))
-    some
+pub printer-came : (over : Bool) (old new : Together) (served : Served) (text : Option (List ℕ))
+    → is_none old.machine.state.printer ≡ false
+    → IfSome old.machine.state.printer (λ order. IsServed Printer order old.machine old.cards new.machine new.cards served)
+    → new.signals ≡ old.signals → text ≡ printed_text served
+    → Came (with_printer old.machine.state.printer (scene_of old)) text over over old new
+printer-came over old new served text some is signals same =
+    came-text _ _ _ _ _ _ _ (sym same) (printer-by old.machine.state.printer over old new served some is signals)
 
 -- ---- the reader
-
-next_first : (old new : List (List ℕ)) (card : Option (List ℕ)) → MatchOption card ((old ≡ []) × (new ≡ [])) (λ x. old ≡ x ∷ new) → first_card old ≡ card
-next_first old new None h = ap first_card h.0
-next_first old new (Some x) h = ap first_card h
-
-next_after : (old new : List (List ℕ)) (card : Option (List ℕ)) → MatchOption card ((old ≡ []) × (new ≡ [])) (λ x. old ≡ x ∷ new) → cards_after old ≡ new
-next_after old new None h = ap cards_after h.0 ∙ sym h.1
-next_after old new (Some x) h = ap cards_after h
 
 or-none : (over : Bool) → over ≡ (over || false)
 or-none true = refl
@@ -206,17 +203,49 @@ reader-by (Some order) over m k xs cards left card some first rest after =
       serves = λ may. read-serves w card m may;
     })
 
-pub reader-came : (over : Bool) (old : Together) (m k : Overlap) (xs : List Signal) (cards left : List (List ℕ)) (card : Option (List ℕ)) (has_card : Bool)
-    → drive m xs cards ≡ old → is_none old.machine.state.reader ≡ false
-    → MatchOption card ((cards ≡ []) × (left ≡ [])) (λ x. cards ≡ x ∷ left)
-    → IfSome m.state.reader (λ order. k ≡ read_in_by order.word card m) → has_card ≡ is_some card
-    → Came (with_reader old.machine.state.reader (scene_of old)) None over (over || has_card) old (drive k xs left)
-reader-came over old m k xs cards left card has_card view some next after is =
-    subst (λ b. Came (with_reader old.machine.state.reader (scene_of old)) None over (over || b) old (drive k xs left)) (sym is)
-    (subst (λ (t : Together). is_none t.machine.state.reader ≡ false → Came (with_reader t.machine.state.reader (scene_of t)) None over (over || is_some card) t (drive k xs left))
-    view
-    (λ has. reader-by m.state.reader over m k xs cards left card has (next_first cards left card next) (next_after cards left card next) after)
-    some)
+came-card : (card : Option (List ℕ)) (m : Overlap) (served : Served) → served ≡ read_answer card m → is_some card ≡ is_card served
+came-card None m served is = ap is_card (sym is)
+came-card (Some card) m served is = ap is_card (sym is)
+
+served-reader : (o : Option Order) (over : Bool) (old new : Together) (served : Served)
+    → is_none o ≡ false → IfSome o (λ order. IsServed Reader order old.machine old.cards new.machine new.cards served)
+    → new.signals ≡ old.signals
+    → Came (with_reader o (scene_of old)) None over (over || is_card served) old new
+served-reader None over old new served some is signals = absurd (cc some)
+served-reader (Some order) over old new served some is signals =
+    let card = first_card old.cards in
+    let behind : new ≡ drive new.machine old.signals new.cards = ap (λ xs. drive new.machine xs new.cards) signals in
+    subst (λ b. Came (with_reader (Some order) (scene_of old)) None over (over || b) old new) (came-card card old.machine served is.2)
+    (subst (λ (t : Together). Came (with_reader (Some order) (scene_of old)) None over (over || is_some card) old t) (sym behind)
+    (reader-by (Some order) over old.machine new.machine old.signals old.cards new.cards card some refl (sym is.1) is.0))
+
+pub reader-came : (over : Bool) (old new : Together) (served : Served) (has_card : Bool)
+    → is_none old.machine.state.reader ≡ false
+    → IfSome old.machine.state.reader (λ order. IsServed Reader order old.machine old.cards new.machine new.cards served)
+    → new.signals ≡ old.signals → has_card ≡ is_card served
+    → Came (with_reader old.machine.state.reader (scene_of old)) None over (over || has_card) old new
+reader-came over old new served has_card some is signals same =
+    subst (λ b. Came (with_reader old.machine.state.reader (scene_of old)) None over (over || b) old new) (sym same)
+    (served-reader old.machine.state.reader over old new served some is signals)
+
+-- a card came where the reader has one less
+fewer-cards : (cards : List (List ℕ)) → is_some (first_card cards) ≡ nat_lt (length (cards_after cards)) (length cards)
+fewer-cards [] = refl
+fewer-cards (card ∷ cards) = sym (grind (arith, nat_tests))
+
+one-card-less : (o : Option Order) (old new : Together) (served : Served)
+    → is_none o ≡ false → IfSome o (λ order. IsServed Reader order old.machine old.cards new.machine new.cards served)
+    → is_card served ≡ nat_lt (length new.cards) (length old.cards)
+one-card-less None old new served some is = absurd (cc some)
+one-card-less (Some order) old new served some is =
+    sym (came-card (first_card old.cards) old.machine served is.2)
+    ∙ (fewer-cards old.cards ∙ ap (λ (ys : List (List ℕ)). nat_lt (length ys) (length old.cards)) (sym is.1))
+
+pub card-taken : (old new : Together) (served : Served) (has_card : Bool)
+    → is_none old.machine.state.reader ≡ false
+    → IfSome old.machine.state.reader (λ order. IsServed Reader order old.machine old.cards new.machine new.cards served)
+    → has_card ≡ is_card served → has_card ≡ nat_lt (length new.cards) (length old.cards)
+card-taken old new served has_card some is same = same ∙ one-card-less old.machine.state.reader old new served some is
 
 -- ---- orders that are due
 

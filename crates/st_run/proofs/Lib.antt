@@ -26,3 +26,5 @@ pub mod ChoiceLemmas
 pub mod LevelLemmas
 pub mod PartLemmas
 pub mod LastLemmas
+pub mod QuietLemmas
+pub mod ServingLemmas

@@ -1,7 +1,8 @@
 -- What comes between two entries, one thing after another, and the decision how the run goes on.
-use Rattle.std.specs.Prelude.{ℕ, ◌≡◌, ◌≢◌, ◌≤◌, Bool, true, false, ◌||◌, is_some, length, List, Option, None, Some}
+use Rattle.std.specs.Prelude.{ℕ, ◌≡◌, ◌≢◌, ◌≤◌, Bool, true, false, ◌||◌, is_some, length, nat_le, List, [], ◌∷◌, Option, None, Some}
+use Rattle.st_state.specs.Orders.{is_due}
 use Rattle.st_exec.specs.Step.{rests}
-use Rattle.st_run.specs.Run.{Reached}
+use Rattle.st_run.specs.Run.{Reached, Signal}
 use Rattle.st_ahead.specs.Overlap.{Overlap, interrupt_due}
 use Rattle.st_ahead.specs.Calls.{ended, settled, MayServe}
 use Rattle.st_ahead.specs.declared.events.Settled.{Settled}
@@ -39,3 +40,17 @@ choice_of (answers.Interrupt i done ic dropped) over = (true, Some i)
 choice_of (answers.Missed dropped) over = (true, None)
 choice_of answers.Goes over = (over, None)
 choice_of answers.Waits over = (over, None)
+
+-- ---- nothing of it
+
+-- the first signal comes where so many are done
+abbrev pub signal_due : ℕ → List Signal → Bool
+signal_due done [] = false
+signal_due done (x ∷ xs) = nat_le x.count done
+
+-- no order is due, the machine does not wait, and the next decision ends no segment
+pub record IsQuiet (o : Overlap) : Type 0 where
+  pub reader : is_due o.state.done o.state.reader ≡ false
+  pub printer : is_due o.state.done o.state.printer ≡ false
+  pub awake : rests o.state ≡ false
+  pub open_still : (is_some o.behind || is_some (interrupt_due o)) ≡ false

@@ -18,3 +18,7 @@ IsWay Over left m d t = ⊥
 pub record IsDecided (left : ℕ) (m : Moment) (d : Decided) (t : Together) : Type 0 where
   pub text : AreTexts (option_map (λ x. x.bytes) d.text) (settled m.scene).happened
   pub way : IsWay d.turn left m d t
+
+-- where nothing comes and the segment goes on
+abbrev pub nothing_decided : Decided
+nothing_decided = record { ends = false; text = None; taken = None; turn = Before }

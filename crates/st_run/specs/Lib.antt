@@ -3,6 +3,7 @@ pub mod Events
 pub mod Moments
 pub mod TimedRun
 pub mod Scenes
+pub mod Serving
 pub mod Order
 pub mod Told
 pub mod Together

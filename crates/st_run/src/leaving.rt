@@ -1,6 +1,6 @@
 //! What comes between two entries: signals, orders of the reader and the printer, what ends a wait, and the decision
 //! how the run goes on.
-ghost use Rattle.std.specs.Prelude.{◌≡◌, ◌≤◌, ◌||◌, ℕ, List, Bool, true, false, None, nat_lt, is_none, length, map, option_map};
+ghost use Rattle.std.specs.Prelude.{◌≡◌, ◌≤◌, ◌||◌, ℕ, List, Bool, true, false, None, IfSome, IsSome, nat_lt, is_none, length, map, option_map};
 ghost use Rattle.std.specs.List.{AllPass};
 ghost use Rattle.st_card.specs.Limits.{is_signal};
 ghost use Rattle.st_state.specs.Orders.{is_due as is_due_of};
@@ -11,18 +11,21 @@ ghost use Rattle.st_ahead.specs.Calls.{ended, MayServe, MaySignal};
 ghost use Rattle.st_run.specs.Events.{address_of};
 ghost use Rattle.st_run.specs.Moments.{has_card, has_waited};
 ghost use Rattle.st_run.specs.Together.{IsBehind, moment_of, signals_of, scene_of, with_scene};
-ghost use Rattle.st_run.specs.Leaving.{IsDecided};
-ghost use Rattle.st_run.specs.Between.{Came, IsChoice, choice_of, first_text as first_text_of};
+ghost use Rattle.st_run.specs.Leaving.{IsDecided, nothing_decided};
+ghost use Rattle.st_run.specs.Serving.{IsServed, is_card, order_of, printed_text};
+ghost use Rattle.st_run.specs.Between.{Came, IsChoice, IsQuiet, choice_of, signal_due, first_text as first_text_of};
 
 use crate::driven::{Driven, take_due_signals};
+use crate::serving::{Served, serve};
 use crate::turn::Turn;
 use arrayvec::{ArrayString, ArrayVec};
 use st_ahead::{LevelView, Machine, Settled};
 use st_card::Signal;
-use st_exch::print_text;
+use st_exch::Hopper;
 use st_exec::is_at_rest;
 use st_ring::SpecRing;
 use st_state::{Device, State, is_due};
+use std::mem;
 
 /// What was decided between two entries.
 #[derive(Clone, Copy, Debug)]
@@ -105,6 +108,40 @@ fn printer_is_due(state: &State) -> bool
     is_due(state.printer, state.done)
 }
 
+/// Serves a device that has an order.
+fn serve_device<const N: usize>(driven: &mut Driven<N>, device: Device) -> Served
+    requires order { IsSome (order_of device driven.old.machine.state) }
+    requires turn { MayServe driven.old.machine }
+    ensures served { IfSome (order_of device driven.old.machine.state) (λ order. IsServed device order
+        driven.old.machine driven.old.cards driven.new.machine driven.new.cards result) }
+    ensures signals { driven.new.signals ≡ driven.old.signals }
+{
+    let mut cards = mem::replace(&mut driven.cards, Hopper::empty());
+    let served = serve(&mut driven.machine, &mut cards, device);
+    driven.cards = cards;
+    served
+}
+
+/// Whether a card came.
+fn card_came(served: Served) -> bool
+    ensures { result ≡ is_card served }
+{
+    match served {
+        Served::Card { .. } => true,
+        Served::NoCard | Served::Printed { .. } => false,
+    }
+}
+
+/// The text that was printed, if one was.
+fn text_of(served: Served) -> Option<ArrayString<64>>
+    ensures { option_map (λ x. x.bytes) result ≡ printed_text served }
+{
+    match served {
+        Served::Printed { text } => Some(text),
+        Served::Card { .. } | Served::NoCard => None,
+    }
+}
+
 /// The reader's order takes effect, if it has one. The result says whether a card came.
 fn serve_reader<const N: usize>(driven: &mut Driven<N>) -> bool
     requires { MayServe driven.old.machine }
@@ -115,9 +152,7 @@ fn serve_reader<const N: usize>(driven: &mut Driven<N>) -> bool
     if reader_is_free(driven.machine.state()) {
         return false;
     }
-    let card = driven.cards.next();
-    driven.machine.read_in(card);
-    card.is_some()
+    card_came(serve_device(driven, Device::Reader))
 }
 
 /// The printer's order takes effect, if it has one. The result is the text that is printed.
@@ -129,8 +164,7 @@ fn serve_printer<const N: usize>(driven: &mut Driven<N>) -> Option<ArrayString<6
     if printer_is_free(driven.machine.state()) {
         return None;
     }
-    let words = driven.machine.print_out();
-    Some(print_text(&words))
+    text_of(serve_device(driven, Device::Printer))
 }
 
 /// The reader's order takes effect, if it is due. The result says whether a card came.
@@ -333,4 +367,54 @@ pub(crate) fn leave<const N: usize>(driven: &mut Driven<N>, left: u64) -> Decide
 {
     let (over, text) = come(driven);
     decide(driven, left, over, text)
+}
+
+// ---- nothing of it
+
+/// Whether the first of the signals comes where so many instructions are done.
+fn signal_is_due(state: &State, signals: &[Signal]) -> bool
+    ensures { result ≡ signal_due state.now.done (signals_of signals.now) }
+{
+    match signals {
+        [first, ..] => first.count <= state.done,
+        [] => false,
+    }
+}
+
+/// Whether no order is due, the machine does not wait, and the next decision ends no segment.
+fn is_quiet<const N: usize>(machine: &Machine<N>) -> bool
+    ensures { result ≡ true → IsQuiet machine.entry.now }
+{
+    if machine.ends() {
+        return false;
+    }
+    if reader_is_due(machine.state()) {
+        return false;
+    }
+    if printer_is_due(machine.state()) {
+        return false;
+    }
+    !is_at_rest(machine.state())
+}
+
+/// The run goes on at once where nothing comes between two entries and the segment does not end. The result says whether it did; else
+/// nothing changes. So many entries may still be done.
+pub(crate) fn pass_on<const N: usize>(driven: &mut Driven<N>, left: u64) -> bool
+    requires { IsBehind driven.old }
+    ensures decided { result ≡ true → IsDecided left (moment_of driven.old) nothing_decided driven.new }
+    ensures delays { driven.new.machine.delays ≡ driven.old.machine.delays }
+    ensures levels { driven.new.machine.levels ≡ driven.old.machine.levels }
+    ensures stays { result ≡ false → driven.new ≡ driven.old }
+{
+    if left == 0 {
+        return false;
+    }
+    if signal_is_due(driven.machine.state(), driven.signals) {
+        return false;
+    }
+    if !is_quiet(&driven.machine) {
+        return false;
+    }
+    driven.machine.settle();
+    true
 }

@@ -8,6 +8,7 @@ mod leaving;
 mod progress;
 mod run;
 mod seen;
+mod serving;
 #[cfg(test)]
 mod tests;
 mod ticking;
@@ -22,4 +23,5 @@ pub use laws::{
 };
 pub use run::Run;
 pub use seen::Seen;
+pub use serving::{Served, serve};
 pub use told::{Told, What};

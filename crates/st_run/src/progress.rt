@@ -9,7 +9,7 @@ ghost use Rattle.st_run.specs.Telling.{whats, told_at_end, rest_of, told_with, f
 ghost use Rattle.st_run.specs.declared.turn.Turn.TheVariants as turns;
 
 use crate::driven::Driven;
-use crate::leaving::{leave, levels_ahead};
+use crate::leaving::{leave, levels_ahead, pass_on};
 use crate::ticking::run_until;
 use crate::told::{Told, What};
 use crate::turn::Turn;
@@ -93,8 +93,28 @@ fn show<const N: usize>(run: &mut Progress<N>) -> Told
     at_once(&run.driven, run.tick, What::Shown(at))
 }
 
-/// What comes behind an entry that has just been done at a tick waits to be told.
+/// What comes behind an entry that has just been done at a tick waits to be told; mostly that is nothing.
 fn leave_entry<const N: usize>(run: &mut Progress<N>, tick: u64)
+    requires left { IsLeft run.old.left run.old.snaps.now tick run.old.driven }
+    requires turn { run.old.turn ≡ turns.Before }
+    requires waits { (s : Machine) → whats run.old.waiting s ≡ [] }
+    ensures kept { IsRun run.new.turn run.new.left run.new.tick run.new.now run.new.snaps.now run.new.waiting run.new.driven }
+    ensures told { told_events (timed_from run.old.driven.machine.delays run.old.driven.machine.levels run.old.left
+        (moment_of run.old.driven) run.old.snaps.now)
+        ≡ rest_of run.new.turn run.new.left run.new.tick run.new.snaps.now run.new.waiting run.new.driven }
+{
+    if !pass_on(&mut run.driven, run.left) {
+        leave_fully(run, tick);
+        return;
+    }
+    run.tick = tick;
+    run.now = tick + 1;
+    run.left = one_less(run.left);
+}
+
+/// The same, whatever comes.
+#[inline(never)]
+fn leave_fully<const N: usize>(run: &mut Progress<N>, tick: u64)
     requires left { IsLeft run.old.left run.old.snaps.now tick run.old.driven }
     ensures kept { IsRun run.new.turn run.new.left run.new.tick run.new.now run.new.snaps.now run.new.waiting run.new.driven }
     ensures told { told_events (timed_from run.old.driven.machine.delays run.old.driven.machine.levels run.old.left

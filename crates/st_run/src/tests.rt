@@ -17,6 +17,7 @@ use std::process::Abort;
 use std::test::Fail;
 
 mod rows;
+mod served;
 mod table_sum;
 
 /// A job that starts at word 32.

@@ -6,3 +6,4 @@ pub mod FaultLemmas
 pub mod Digits
 pub mod NumberCards
 pub mod PlaceCards
+pub mod OperandCards

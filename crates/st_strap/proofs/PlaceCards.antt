@@ -32,7 +32,7 @@ abbrev pub place_text : ℕ → ℕ → List ℕ
 place_text w b = decimal w ++ 46 ∷ decimal b
 
 -- a place has digits and a point alone
-place-lacks : (at w b : ℕ) → IsOther at → not (46 == at) ≡ true → w < 2 ^ 64 → b < 2 ^ 64 → lacks at (place_text w b) ≡ true
+pub place-lacks : (at w b : ℕ) → IsOther at → not (46 == at) ≡ true → w < 2 ^ 64 → b < 2 ^ 64 → lacks at (place_text w b) ≡ true
 place-lacks at w b other point small_w small_b =
     list_all-append (λ c. not (c == at)) (decimal w) (46 ∷ decimal b)
     ∙ and_true (lacks at (decimal w)) (lacks at (46 ∷ decimal b)) (digits-lack at (decimal w) other (decimal-digits w small_w))
@@ -112,7 +112,7 @@ one_good : (text : List ℕ) (w b : ℕ) → atom_of text ≡ bit_address (Good 
     expr_in ((false, text) ∷ []) ≡ Ok (number_expr (64 * w + b))
 one_good text w b good = rw good
 
-place-expr : (w b : ℕ) → w ≤ 262143 → b ≤ 63 → expr_of (place_text w b) ≡ Ok (number_expr (64 * w + b))
+pub place-expr : (w b : ℕ) → w ≤ 262143 → b ≤ 63 → expr_of (place_text w b) ≡ Ok (number_expr (64 * w + b))
 place-expr w b fits_w fits_b =
     let text = place_text w b in
     let no_plus = place-lacks 43 w b (low_other 43 (omega arith)) refl (omega arith) (omega arith) in
@@ -144,7 +144,7 @@ plain-progressed : (op : Operation) (text : List ℕ) → progressed op default_
 unfolding progressed group_length form_number may_have_form
 plain-progressed op text = ap (λ b. if b then Some default_form else None) (is_end-comma text)
 
-plain-said : (op : Operation) (text : List ℕ) → said op (44 ∷ text) ≡ with_fields op default_form (fields_of (44 ∷ text))
+pub plain-said : (op : Operation) (text : List ℕ) → said op (44 ∷ text) ≡ with_fields op default_form (fields_of (44 ∷ text))
 unfolding said description_in behind_description group_length unclosed forms description_of described formed
 plain-said op text =
     ap (λ (f : Option Form). judged BadProgressive f (λ f. with_fields op f (fields_of (44 ∷ text)))) (plain-progressed op text)

@@ -8,3 +8,4 @@ pub mod Reading
 pub mod Saying
 pub mod Faults
 pub mod WellFormed
+pub mod Spots

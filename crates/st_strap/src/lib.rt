@@ -12,6 +12,9 @@ mod reading;
 mod shapes;
 mod statement;
 
-pub use laws::{numbers_of_words_are_read, places_are_read, the_first_fault_of_the_list_counts};
+pub use laws::{
+    field_operations_are_read, index_operations_are_read, numbers_of_words_are_read,
+    places_are_read, the_first_fault_of_the_list_counts, waits_are_read,
+};
 pub use reading::read_statement;
 pub use statement::{Form, Spot, Statement};

@@ -51,8 +51,11 @@ leave_entry-requires g c =
     let in_time = subst {A = List Told} AreInTime (rest-quiet turns.Before run.left run.tick run.snaps.now run.waiting run.driven c.requires.waits) c.requires.run.in_time in
     let rising = subst {A = ℕ} (λ k. AreRising (k - 1) run.snaps.now) stands.1 stands.2 in (
       omega arith,
-      go-leaves run.left run.tick run.snaps.now run.driven c.run_until.new.driven stands.0 rising in_time
-          c.in-Some.row c.first_of-snap.result c.first_of-snap.ensures c.in-Some.ensures,
+      (
+        go-leaves run.left run.tick run.snaps.now run.driven c.run_until.new.driven stands.0 rising in_time
+            c.in-Some.row c.first_of-snap.result c.first_of-snap.ensures c.in-Some.ensures,
+        (c.requires.turn, c.requires.waits),
+      ),
     )
 
 pub returns-clause-told : goal.returns-clause-told

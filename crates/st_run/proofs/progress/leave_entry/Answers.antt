@@ -1,23 +1,30 @@
-use Rattle.std.proofs.Common.{ℕ, ◌+◌, List, [], sym, ◌∙◌, ap, subst}
-use Rattle.std.specs.Prelude.{if◌then◌else◌}
+use Rattle.std.proofs.Common.{ℕ, ◌+◌, ◌-◌, [], refl, sym, ◌∙◌, ap, subst}
 use Rattle.st_run.specs.Telling.{rest_of, IsRun}
-use Rattle.st_run.proofs.LeftLemmas.{waits_by, left-told, left-keeps}
+use Rattle.st_run.specs.Leaving.{nothing_decided}
+use Rattle.st_run.specs.declared.turn.Turn.{Turn}
+use Rattle.st_run.specs.declared.turn.Turn.TheVariants as turns
+use Rattle.st_run.proofs.QuietLemmas.{quiet-rest, quiet-run}
+use Rattle.st_run.proofs.LeftLemmas.{left-told, left-keeps}
 use Rattle.st_run.proofs.progress.leave_entry.Goals as goal
 
 pub returns-clause-kept : goal.returns-clause-kept
 returns-clause-kept g c =
     let run = c.args.run.now in
-    let decided = c.leave-decided.ensures in
-    let drops = c.clear_unless.ensures ∙ ap {A = List (ℕ × ℕ)} (λ xs. if c.leave-decided.result.ends then xs else []) c.levels_ahead-drops.ensures in
-    subst {A = ℕ} (λ k. IsRun c.leave-decided.result.turn k c.args.tick (c.args.tick + 1) run.snaps.now (waits_by c.clear_unless.new.drops.items c.leave-decided.result) c.leave-decided.new.driven) (sym c.one_less-run.ensures)
-    (left-keeps run.left c.args.tick run.snaps.now run.driven c.leave-decided.new.driven c.leave-decided.result c.clear_unless.new.drops.items
-    c.requires.left decided.decided decided.delays decided.levels drops)
+    let t = c.pass_on.new.driven in
+    let passed = c.pass_on.ensures in
+    let kept = left-keeps run.left c.args.tick run.snaps.now run.driven t nothing_decided []
+    c.requires.left (passed.decided c.if-not-pass_on.false) passed.delays passed.levels refl in
+    let same = subst {A = ℕ} (λ k. IsRun turns.Before k c.args.tick (c.args.tick + 1) run.snaps.now run.waiting t) (sym c.one_less-run.ensures)
+    (quiet-run turns.Before (run.left - 1) c.args.tick (c.args.tick + 1) run.snaps.now run.waiting t c.requires.waits kept) in
+    subst {A = Turn} (λ k. IsRun k c.one_less-run.result c.args.tick (c.args.tick + 1) run.snaps.now run.waiting t) (sym c.requires.turn) same
 
 pub returns-clause-told : goal.returns-clause-told
 returns-clause-told g c =
     let run = c.args.run.now in
-    let decided = c.leave-decided.ensures in
-    let drops = c.clear_unless.ensures ∙ ap {A = List (ℕ × ℕ)} (λ xs. if c.leave-decided.result.ends then xs else []) c.levels_ahead-drops.ensures in
-    left-told run.left c.args.tick run.snaps.now run.driven c.leave-decided.new.driven c.leave-decided.result c.clear_unless.new.drops.items
-    c.requires.left decided.decided decided.delays decided.levels drops
-    ∙ ap {A = ℕ} (λ k. rest_of c.leave-decided.result.turn k c.args.tick run.snaps.now (waits_by c.clear_unless.new.drops.items c.leave-decided.result) c.leave-decided.new.driven) (sym c.one_less-run.ensures)
+    let t = c.pass_on.new.driven in
+    let passed = c.pass_on.ensures in
+    left-told run.left c.args.tick run.snaps.now run.driven t nothing_decided []
+    c.requires.left (passed.decided c.if-not-pass_on.false) passed.delays passed.levels refl
+    ∙ quiet-rest turns.Before (run.left - 1) c.args.tick run.snaps.now run.waiting t c.requires.waits
+    ∙ ap {A = ℕ} (λ k. rest_of turns.Before k c.args.tick run.snaps.now run.waiting t) (sym c.one_less-run.ensures)
+    ∙ ap {A = Turn} (λ k. rest_of k c.one_less-run.result c.args.tick run.snaps.now run.waiting t) (sym c.requires.turn)

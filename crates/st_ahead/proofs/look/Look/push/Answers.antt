@@ -47,7 +47,7 @@ returns-clause-going g c = λ t f given.
     let k = table_behind (count view) t in
     let u = guesses (count view) t s in
     let x = view.next.entry in
-    let new : LookView = record { levels = c.push.new.self; front = c.complete-filled.new.self; port = c.ask_data.new.port; next = c.new-self-inside.result } in
+    let new : LookView = record { levels = c.push.new.self; front = c.complete-filled.new.self; port = c.ask_data.new.port; next = c.restart.new.self } in
     let filled = c.complete-filled.result in
     let same : x ≡ entry k u = becomes.same in
     let serial : (entry k u).serial ≡ true → u ≡ s = λ alone. becomes.alone (ap (λ (e : Entry). e.serial) same ∙ alone) in
@@ -65,8 +65,8 @@ returns-clause-going g c = λ t f given.
     let ahead = subst (λ (h : Front). AreAhead ds n now t s f h new.levels) (ap (after ds n view.front) (sym same) ∙ sym front) pushed in
     going-pushed ds n now t s f view new _ c.prepare-prepared.result is becomes planned due c.push.ensures.ring p_is
     (c.push.ensures.not_done now is.not_done late) ahead front c.complete-filled.ensures.tight c.complete-filled.ensures.bound plan_is
-    (λ i y place. c.new-self-inside.ensures.next ds n i y (c.place_behind.ensures ∙ place))
-    (λ i y from. c.new-self-inside.ensures.rests now i y from)
-    c.new-self-inside.ensures.unplanned c.new-self-inside.ensures.own c.new-self-inside.ensures.target c.new-self-inside.ensures.words
-    (c.new-self-inside.ensures.reads ds) c.new-self-inside.ensures.none
+    (λ i y place. c.restart.ensures.next ds n i y (c.place_behind.ensures ∙ place))
+    (λ i y from. c.restart.ensures.rests now i y from)
+    c.restart.ensures.unplanned c.restart.ensures.own c.restart.ensures.target c.restart.ensures.words
+    (c.restart.ensures.reads ds) c.restart.ensures.none
     c.ask_data.ensures.bus (c.ask_data.ensures.reads ds) c.ask_data.ensures.few (c.guesses_leave_the_rest.ensures.counter (count view) t s)

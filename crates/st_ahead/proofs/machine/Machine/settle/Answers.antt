@@ -2,7 +2,7 @@ use Rattle.std.specs.Prelude.{is_none, if◌then◌else◌}
 use Rattle.std.proofs.Common.{None, refl, ap, sym, ◌∙◌, arith}
 use Rattle.st_exec.specs.Step.{interrupt, rests}
 use Rattle.st_ahead.specs.Calls.{passed}
-use Rattle.st_ahead.proofs.Settling.{ended-rest, answer-waits, settled-waits, answer-missed, settled-missed, answer-goes, settled-goes, none-behind}
+use Rattle.st_ahead.proofs.Settling.{ended-rest, answer-waits, settled-waits, answer-missed, settled-missed, answer-goes, settled-goes, misled}
 use Rattle.st_ahead.proofs.machine.Machine.settle.Goals as goal
 
 pub returns-then-is_resting-clause-answer : goal.returns-then-is_resting-clause-answer
@@ -23,24 +23,32 @@ pass-requires g c =
     ∙ ap (λ s. if is_none m.taken then interrupt s else None) rest.state ∙ sym c.interrupt_due.ensures.value ∙ c.in_default.is in
     (omega arith, (rest.owed ∙ c.requires, (rest.ended, (due, ap (λ s. rests s) rest.state ∙ sym c.is_resting.ensures ∙ c.if-is_resting.false))))
 
-pub returns-then-is_misled-clause-answer : goal.returns-then-is_misled-clause-answer
-returns-then-is_misled-clause-answer g c =
-    answer-missed c.args.self.now c.end-dropped.result c.end-dropped.ensures.dropped (sym c.interrupt_due.ensures.value ∙ c.in_default.is)
-    (sym c.is_resting.ensures ∙ c.if-is_resting.false) (sym c.is_misled.ensures ∙ c.if-is_misled.true)
+pub go_on-requires : goal.go_on-requires
+go_on-requires g c =
+    let yes = c.goes_on.ensures.yes c.if-goes_on.true in
+    (omega arith, (c.requires, (yes.0, (yes.1, yes.2))))
 
-pub returns-then-is_misled-clause-after : goal.returns-then-is_misled-clause-after
-returns-then-is_misled-clause-after g c =
-    settled-missed c.args.self.now c.pass.new.self (sym c.interrupt_due.ensures.value ∙ c.in_default.is)
-    (sym c.is_resting.ensures ∙ c.if-is_resting.false) (sym c.is_misled.ensures ∙ c.if-is_misled.true)
-    (c.pass.ensures ∙ ap (λ m. passed m) c.end-dropped.ensures.after)
+pub returns-then-goes_on-clause-answer : goal.returns-then-goes_on-clause-answer
+returns-then-goes_on-clause-answer g c =
+    let yes = c.goes_on.ensures.yes c.if-goes_on.true in
+    answer-goes c.args.self.now yes.0 yes.1 yes.2
+
+pub returns-then-goes_on-clause-after : goal.returns-then-goes_on-clause-after
+returns-then-goes_on-clause-after g c =
+    let yes = c.goes_on.ensures.yes c.if-goes_on.true in
+    settled-goes c.args.self.now c.go_on.new.self yes.0 yes.1 yes.2 c.go_on.ensures
 
 pub returns-clause-answer : goal.returns-clause-answer
 returns-clause-answer g c =
-    answer-goes c.args.self.now (sym c.interrupt_due.ensures.value ∙ c.in_default.is)
-    (sym c.is_resting.ensures ∙ c.if-is_resting.false) (none-behind c.args.self.now.behind (sym c.is_misled.ensures ∙ c.if-is_misled.false))
+    let due = sym c.interrupt_due.ensures.value ∙ c.in_default.is in
+    let goes = sym c.is_resting.ensures ∙ c.if-is_resting.false in
+    answer-missed c.args.self.now c.end-dropped.result c.end-dropped.ensures.dropped due goes
+    (misled c.args.self.now due goes (c.goes_on.ensures.no c.if-goes_on.false))
 
 pub returns-clause-after : goal.returns-clause-after
 returns-clause-after g c =
-    settled-goes c.args.self.now c.go_on.new.self (sym c.interrupt_due.ensures.value ∙ c.in_default.is)
-    (sym c.is_resting.ensures ∙ c.if-is_resting.false) (none-behind c.args.self.now.behind (sym c.is_misled.ensures ∙ c.if-is_misled.false))
-    c.go_on.ensures
+    let due = sym c.interrupt_due.ensures.value ∙ c.in_default.is in
+    let goes = sym c.is_resting.ensures ∙ c.if-is_resting.false in
+    settled-missed c.args.self.now c.pass.new.self due goes
+    (misled c.args.self.now due goes (c.goes_on.ensures.no c.if-goes_on.false))
+    (c.pass.ensures ∙ ap (λ m. passed m) c.end-dropped.ensures.after)

@@ -37,7 +37,7 @@ returns g c = λ ds n tick t s f last m some h same.
     let level = c.retire-level.result in
     let rest = c.retire-level.new.self in
     let q = c.get.result.now in
-    let y = c.index_behind-self-inside.result in
+    let y = c.renew.new.x in
     let ring : v.ring ≡ level ∷ rest = sym (ap (λ (w : LevelsView). w.ring) c.self.view_is) ∙ c.retire-level.ensures.level in
     let levels = subst (λ (r : List Level). AreLevels ds n tick t s f last r v.plans) ring h.levels in
     let first : slice_get v.plans 0 ≡ Some q = sym (ap (λ (w : LevelsView). slice_get w.plans 0) c.self.view_is) ∙ c.get.ensures in
@@ -52,8 +52,8 @@ returns g c = λ ds n tick t s f last m some h same.
     let plans : c.drop_first.new.self ≡ drop 1 v.plans = c.drop_first.ensures.rows ∙ ap (λ (w : LevelsView). drop 1 w.plans) c.self.view_is in
     let serial = ap (λ (p : Prepared). p.serial) form in
     let ahead = levels-behind ds n tick t s f last level rest v.plans v.x y m some levels before free
-    (λ e. c.index_behind-self-inside.ensures.stays (serial ∙ e) ∙ ap (λ (w : LevelsView). w.x) c.self.view_is)
-    (λ e. c.index_behind-self-inside.ensures.alone (serial ∙ e) ∙ ap index_words (done ∙ sym (guessed-alone (plan s t) s e))) in
+    (λ e. c.renew.ensures.stays (serial ∙ e) ∙ ap (λ (w : LevelsView). w.x) c.self.view_is)
+    (λ e. c.renew.ensures.alone (serial ∙ e) ∙ ap index_words (done ∙ sym (guessed-alone (plan s t) s e))) in
     let P : List Plan → Type 0 = λ rows. AreAhead ds n tick None (guess t s) (after ds n f (entry t s)) last (record { ring = rest; plans = rows; x = y }) in (
       done,
       record {

@@ -30,13 +30,13 @@ returns-clause-ahead g c = λ ds n tick most t s f last are m some h free front 
     let p = c.args.prepared in
     let filled = c.args.filled.now in
     let state = c.args.state.now in
-    let new : LevelsView = record { ring = c.push.new.self; plans = c.push-2.new.self; x = c.changed-self-inside.result } in
+    let new : LevelsView = record { ring = c.push.new.self; plans = c.push-2.new.self; x = c.change.new.x } in
     let ring : new.ring ≡ v.ring ++ pushed_level p filled state ∷ [] = c.push.ensures.levels
     ∙ ap₂ (λ (r : List Level) (have : List (Option ℕ)). r ++ (record { prepared = p; p = filled.row.p; r = filled.row.p; have = have }) ∷ [])
     (ap (λ (w : LevelsView). w.ring) c.self.view_is) c.registers.ensures in
     let plans : new.plans ≡ v.plans ++ pushed_plan c.args.front.now filled ∷ [] = c.push-2.ensures.rows
     ∙ ap (λ (w : LevelsView). w.plans ++ pushed_plan c.args.front.now filled ∷ []) c.self.view_is in
-    let x : new.x ≡ words_after v.x p.index = c.changed-self-inside.ensures
+    let x : new.x ≡ words_after v.x p.index = c.change.ensures
     ∙ ap (λ (w : LevelsView). words_after w.x p.index) c.self.view_is in
     push-ahead ds n tick t s f last v new (pushed_level p filled state) (pushed_plan c.args.front.now filled) p m some h free form
     (pushed-level ds n tick most i u state last p c.args.front.now filled are c.requires.prepared front form numbers ticks now alone)

@@ -1,36 +1,19 @@
-use Rattle.std.proofs.Common.{take, sym, ◌∙◌, ap, arith}
-use Rattle.std.proofs.lemmas.List.{length-take}
+use Rattle.std.proofs.Common.{refl, sym, ◌∙◌, ap, arith}
 use Rattle.st_prep.specs.declared.entries.Fetching.TheVariants.{Next}
 use Rattle.st_rows.proofs.Within.{AreDelays-list}
 use Rattle.st_next.proofs.Steps.{own-goes, target-goes, target-waits, plan-goes}
 use Rattle.st_next.proofs.Asking.{known-words, known-early, known-place, known-seen, own-asks, target-asks, plan-asks, plan-late, more-word, more-side, count-most, count-own, count-target, count-plan}
 use Rattle.st_next.proofs.next.Next.go_on.Goals as goal
 
-pub contents-contents-requires : goal.contents-contents-requires
-contents-contents-requires c = record { words = known-words _ _ _ _ _ _ _ c.requires.unplanned c.requires.due c.requires.known }
+pub given-requires-clause-place : goal.given-requires-clause-place
+given-requires-clause-place c = known-place _ _ _ _ _ _ _ c.requires.unplanned c.requires.due c.requires.known
 
-pub overflow_add-self : goal.overflow_add-self
-overflow_add-self c =
-    let are = known-words _ _ _ _ _ _ _ c.requires.unplanned c.requires.due c.requires.known in
-    omega (arith, are.own_few, are.target_few)
-
-pub slice_bounds-contents-end : goal.slice_bounds-contents-end
-slice_bounds-contents-end c =
-    let are = known-words _ _ _ _ _ _ _ c.requires.unplanned c.requires.due c.requires.known in
-    omega (arith, are.own_few, are.target_few)
-
-pub slice_bounds-fetch_on-end : goal.slice_bounds-fetch_on-end
-slice_bounds-fetch_on-end c =
-    let are = known-words _ _ _ _ _ _ _ c.requires.unplanned c.requires.due c.requires.known in
-    omega (arith, are.own_few, are.target_few, length-take c.from-so_far.result c.contents-contents.result)
-
-pub fetch_on-requires : goal.fetch_on-requires
-fetch_on-requires c = known-place _ _ _ _ _ _ _ c.requires.unplanned c.requires.due c.requires.known
+pub given-requires-clause-words : goal.given-requires-clause-words
+given-requires-clause-words c = known-words _ _ _ _ _ _ _ c.requires.unplanned c.requires.due c.requires.known
 
 pub returns-then-outlook-clause-next : goal.returns-then-outlook-clause-next
 returns-then-outlook-clause-next c =
-    let contents = ap (λ n. take n c.contents-contents.result) c.from-so_far.ensures ∙ c.contents-contents.ensures in
-    target-waits _ _ _ _ _ _ _ c.requires.unplanned c.requires.due _ contents _ (sym c.in-Next-default-true.ensures.value ∙ ap (λ t. Next c.in-Next-default-true.word t) c.in-Next-default-true.target-test) c.if-outlook.true
+    target-waits _ _ _ _ _ _ _ c.requires.unplanned c.requires.due _ refl _ (sym c.in-Next-default-true.ensures.value ∙ ap (λ t. Next c.in-Next-default-true.word t) c.in-Next-default-true.target-test) c.if-outlook.true
 
 pub ask_target-requires-clause-words : goal.ask_target-requires-clause-words
 ask_target-requires-clause-words c =
@@ -63,8 +46,7 @@ plan-requires-clause-place c = known-place _ _ _ _ _ _ _ c.requires.unplanned c.
 
 pub plan-requires-clause-entry : goal.plan-requires-clause-entry
 plan-requires-clause-entry c =
-    let contents = ap (λ n. take n c.contents-contents.result) c.from-so_far.ensures ∙ c.contents-contents.ensures in
-    known-seen _ _ _ _ _ _ _ c.requires.unplanned c.requires.due c.requires.known _ contents _ (sym c.in-Found.ensures.value)
+    known-seen _ _ _ _ _ _ _ c.requires.unplanned c.requires.due c.requires.known _ refl _ (sym c.in-Found.ensures.value)
 
 pub plan-requires-clause-few : goal.plan-requires-clause-few
 plan-requires-clause-few c =
@@ -73,13 +55,11 @@ plan-requires-clause-few c =
 
 pub returns-else-outlook-clause-next : goal.returns-else-outlook-clause-next
 returns-else-outlook-clause-next c =
-    let contents = ap (λ n. take n c.contents-contents.result) c.from-so_far.ensures ∙ c.contents-contents.ensures in
-    target-goes _ _ _ _ _ _ _ c.requires.unplanned c.requires.due _ contents _ _ (sym c.in-Next-default-true.ensures.value ∙ ap (λ t. Next c.in-Next-default-true.word t) c.in-Next-default-true.target-test) c.ask_target.ensures.next
+    target-goes _ _ _ _ _ _ _ c.requires.unplanned c.requires.due _ refl _ _ (sym c.in-Next-default-true.ensures.value ∙ ap (λ t. Next c.in-Next-default-true.word t) c.in-Next-default-true.target-test) c.ask_target.ensures.next
 
 pub returns-else-outlook-clause-reads : goal.returns-else-outlook-clause-reads
 returns-else-outlook-clause-reads c =
-    let contents = ap (λ n. take n c.contents-contents.result) c.from-so_far.ensures ∙ c.contents-contents.ensures in
-    target-asks _ _ _ _ _ _ _ c.requires.unplanned c.requires.due c.requires.known _ contents _ _ _ _ (sym c.in-Next-default-true.ensures.value ∙ ap (λ t. Next c.in-Next-default-true.word t) c.in-Next-default-true.target-test)
+    target-asks _ _ _ _ _ _ _ c.requires.unplanned c.requires.due c.requires.known _ refl _ _ _ _ (sym c.in-Next-default-true.ensures.value ∙ ap (λ t. Next c.in-Next-default-true.word t) c.in-Next-default-true.target-test)
     c.ask_target.ensures.next c.ask_target.ensures.reads
 
 pub returns-else-outlook-clause-more : goal.returns-else-outlook-clause-more
@@ -92,13 +72,11 @@ returns-else-outlook-clause-few c =
 
 pub returns-in-Next-default-false-clause-next : goal.returns-in-Next-default-false-clause-next
 returns-in-Next-default-false-clause-next c =
-    let contents = ap (λ n. take n c.contents-contents.result) c.from-so_far.ensures ∙ c.contents-contents.ensures in
-    own-goes _ _ _ _ _ _ _ c.requires.unplanned c.requires.due _ contents _ _ (sym c.in-Next-default-false.ensures.value ∙ ap (λ t. Next c.in-Next-default-false.word t) c.in-Next-default-false.target-test) c.ask_own.ensures.next
+    own-goes _ _ _ _ _ _ _ c.requires.unplanned c.requires.due _ refl _ _ (sym c.in-Next-default-false.ensures.value ∙ ap (λ t. Next c.in-Next-default-false.word t) c.in-Next-default-false.target-test) c.ask_own.ensures.next
 
 pub returns-in-Next-default-false-clause-reads : goal.returns-in-Next-default-false-clause-reads
 returns-in-Next-default-false-clause-reads c =
-    let contents = ap (λ n. take n c.contents-contents.result) c.from-so_far.ensures ∙ c.contents-contents.ensures in
-    own-asks _ _ _ _ _ _ _ c.requires.unplanned c.requires.due c.requires.known _ contents _ _ _ _ (sym c.in-Next-default-false.ensures.value ∙ ap (λ t. Next c.in-Next-default-false.word t) c.in-Next-default-false.target-test)
+    own-asks _ _ _ _ _ _ _ c.requires.unplanned c.requires.due c.requires.known _ refl _ _ _ _ (sym c.in-Next-default-false.ensures.value ∙ ap (λ t. Next c.in-Next-default-false.word t) c.in-Next-default-false.target-test)
     c.ask_own.ensures.next c.ask_own.ensures.reads
 
 pub returns-in-Next-default-false-clause-more : goal.returns-in-Next-default-false-clause-more
@@ -111,13 +89,11 @@ returns-in-Next-default-false-clause-few c =
 
 pub returns-in-Found-clause-next : goal.returns-in-Found-clause-next
 returns-in-Found-clause-next c =
-    let contents = ap (λ n. take n c.contents-contents.result) c.from-so_far.ensures ∙ c.contents-contents.ensures in
-    plan-goes _ _ _ _ _ _ _ c.requires.unplanned c.requires.due _ contents _ _ _ (sym c.in-Found.ensures.value) c.plan.ensures.next
+    plan-goes _ _ _ _ _ _ _ c.requires.unplanned c.requires.due _ refl _ _ _ (sym c.in-Found.ensures.value) c.plan.ensures.next
 
 pub returns-in-Found-clause-reads : goal.returns-in-Found-clause-reads
 returns-in-Found-clause-reads c =
-    let contents = ap (λ n. take n c.contents-contents.result) c.from-so_far.ensures ∙ c.contents-contents.ensures in
-    plan-asks _ _ _ _ _ _ _ c.requires.unplanned c.requires.due c.requires.known _ contents _ (sym c.in-Found.ensures.value) _ _ _
+    plan-asks _ _ _ _ _ _ _ c.requires.unplanned c.requires.due c.requires.known _ refl _ (sym c.in-Found.ensures.value) _ _ _
     c.plan.ensures.next c.plan.ensures.reads
 
 pub returns-in-Found-clause-more : goal.returns-in-Found-clause-more
@@ -132,8 +108,7 @@ returns-in-Found-clause-few c =
 
 pub returns-in-Found-clause-planned : goal.returns-in-Found-clause-planned
 returns-in-Found-clause-planned c planned =
-    let contents = ap (λ n. take n c.contents-contents.result) c.from-so_far.ensures ∙ c.contents-contents.ensures in
-    plan-late _ _ _ _ _ _ _ c.requires.unplanned c.requires.due c.requires.known _ contents _ (sym c.in-Found.ensures.value) _ c.plan.ensures.next
+    plan-late _ _ _ _ _ _ _ c.requires.unplanned c.requires.due c.requires.known _ refl _ (sym c.in-Found.ensures.value) _ c.plan.ensures.next
 
 pub returns-then-outlook-clause-most : goal.returns-then-outlook-clause-most
 returns-then-outlook-clause-most c = count-most c.args.self.now c.requires.unplanned (known-words _ _ _ _ _ _ _ c.requires.unplanned c.requires.due c.requires.known)

@@ -1,0 +1,278 @@
+-- The cards of a deck are its statements and its control cards, and the form pass reads them all.
+use Rattle.std.proofs.Common.{◌≡◌, ◌<◌, ◌≤◌, ◌+◌, ◌*◌, ◌/◌, ◌%◌, ◌^◌, ◌==◌, ℕ, Bool, true, false, List, [], ◌∷◌, ◌++◌, length, map, Some, None, Result, Ok, Err, is_none, codes, decimal, if◌then◌else◌, refl, sym, ap, subst, ◌∙◌, append_assoc, arith}
+use Rattle.std.specs.List.{All}
+use Rattle.std.proofs.lemmas.List.{map-append}
+use Rattle.std.proofs.lemmas.List.Elements.{All-nil, All-cons, All-head, All-tail, All-append}
+use Rattle.st_card.specs.Cards.{cards_of}
+use Rattle.st_card.specs.Controls.{Asked}
+use Rattle.st_card.specs.declared.faults.Fault.{Fault}
+use Rattle.st_bits.specs.Storage.{words_of_storage_is}
+use Rattle.st_strap.specs.Reading.{number_expr}
+use Rattle.st_strap.specs.Saying.{statement_of}
+use Rattle.st_strap.specs.declared.statement.Statement.{Statement}
+use Rattle.st_strap.specs.declared.statement.Statement.TheVariants.{Half, Sum, Refill, Branch, Floating, Vfl, Connect, Move, BitBranch, IndBranch, StoreCounter, Transfer, Data, IndexWord, Synonym, SetLocation, Reserve, End}
+use Rattle.st_strap.proofs.NumberCards.{word_form, data-read}
+use Rattle.st_asm.specs.Symbols.{accepts_all, is_defined}
+use Rattle.st_asm.specs.Values.{values_of}
+use Rattle.st_asm.specs.Places.{role_of, length_in}
+use Rattle.st_asm.specs.Naming.{unnamed}
+use Rattle.st_asm.specs.Checks.{value_fault}
+use Rattle.st_asm.specs.Laying.{bits_of}
+use Rattle.st_asm.specs.Forming.{form_pass}
+use Rattle.st_asm.specs.Alone.{laid_alone, laid_if_read, laid_by}
+use Rattle.st_asm.specs.declared.alone.LaidBits.{LaidBits}
+use Rattle.st_object.specs.Object.{Program, IsProgram, AreWords}
+use Rattle.st_dis.specs.Spelling.{number_text, statements_of}
+use Rattle.st_dis.specs.Deck.{statement_card, location_text, location_cards, placed, word_cards, end_text, marked, order_cards, back_cards, show_cards, deck_cards, deck_of, deck_text, card_count}
+use Rattle.st_dis.proofs.Spelled.{statements-cases, whole_bits, half_bits}
+use Rattle.st_dis.proofs.WordRead.{says-lays}
+use Rattle.st_dis.proofs.Printable.{IsWritten, deck_written}
+use Rattle.st_dis.proofs.Lengths.{IsCard, deck_cards-short}
+use Rattle.st_dis.proofs.ControlsRead.{controls-read}
+use Rattle.st_dis.proofs.FormPass.{IsOpen, IsControl, IsJob, job_cards, found_in_job, job-formed, read-append}
+use Rattle.st_dis.proofs.PlacesRead.{location-read, start-read}
+use Rattle.st_dis.proofs.Said.{word_statements, statements_from, deck_statements, control_cards, AreRead}
+
+-- ---- the cards
+
+-- the texts of a word, and its cards
+placed-texts : (w before word : ℕ) → placed w before word ≡ map statement_card (word_statements w before word)
+unfolding placed
+placed-texts w before word =
+    let texts = statements_of word in
+    let card = statement_card (location_text w) in
+    let location : (b : Bool) → (if b then card ∷ [] else []) ++ map statement_card texts
+    ≡ map statement_card ((if b then location_text w ∷ [] else []) ++ texts) = λ b.
+    elim b as (λ b. (if b then card ∷ [] else []) ++ map statement_card texts
+    ≡ map statement_card ((if b then location_text w ∷ [] else []) ++ texts)) [
+      | true ↦ refl
+      | false ↦ refl
+    ] in
+    elim (word == 0) as (λ b. (if b then [] else location_cards w before ++ map statement_card texts)
+    ≡ map statement_card (if b then [] else (if before == 0 then location_text w ∷ [] else []) ++ texts)) [
+      | true ↦ refl
+      | false ↦ location (before == 0)
+    ]
+
+word_cards-texts : (w before : ℕ) (xs : List ℕ) → word_cards w before xs ≡ map statement_card (statements_from w before xs)
+word_cards-texts w before [] = refl
+word_cards-texts w before (x ∷ xs) =
+    let rest = word_cards (w + 1) x xs in
+    let texts = word_statements w before x in
+    let more = statements_from (w + 1) x xs in
+    ap (λ (cards : List (List ℕ)). cards ++ rest) (placed-texts w before x)
+    ∙ (ap (λ (cards : List (List ℕ)). map statement_card texts ++ cards) (word_cards-texts (w + 1) x xs)
+    ∙ sym (map-append statement_card texts more))
+
+-- the cards of a deck are those of its statements, and its control cards
+pub deck-cards : (p : Program) → deck_cards p ≡ map statement_card (deck_statements p) ++ control_cards p
+deck-cards p =
+    let texts = statements_from 0 0 p.words in
+    let end = end_text p.start ∷ [] in
+    let orders = order_cards p.controls in
+    let shows = show_cards p.controls in
+    let card : List (List ℕ) = statement_card (end_text p.start) ∷ [] in
+    let words : word_cards 0 0 p.words ++ card ≡ map statement_card (texts ++ end) =
+    ap (λ (cards : List (List ℕ)). cards ++ card) (word_cards-texts 0 0 p.words) ∙ sym (map-append statement_card texts end) in
+    append_assoc (word_cards 0 0 p.words ++ card) orders shows
+    ∙ ap (λ (cards : List (List ℕ)). cards ++ (orders ++ shows)) words
+
+-- ---- the statements
+
+-- texts that are read, none of them as the end
+pub record AreOpen (texts : List (List ℕ)) : Type 0 where
+  pub statements : List Statement
+  pub read : AreRead texts statements
+  pub open_ones : All IsOpen statements
+
+no_texts : AreOpen []
+no_texts = record { statements = []; read = refl; open_ones = All-nil IsOpen }
+
+one_text : (t : List ℕ) (s : Statement) → statement_of [] t ≡ Ok s → IsOpen s → AreOpen (t ∷ [])
+one_text t s read not_end = record { statements = s ∷ []; read = (read, refl); open_ones = All-cons IsOpen s [] not_end (All-nil IsOpen) }
+
+both_texts : (ts us : List (List ℕ)) → AreOpen ts → AreOpen us → AreOpen (ts ++ us)
+both_texts ts us first second = record {
+  statements = first.statements ++ second.statements;
+  read = read-append ts us first.statements second.statements first.read second.read;
+  open_ones = All-append IsOpen first.statements second.statements first.open_ones second.open_ones;
+}
+
+-- what lays bits is not the end
+lays_by : (known faultless : Bool) (length bits : ℕ) (wanted : LaidBits) →
+    (if known then (if faultless then Some (record { length = length; bits = bits }) else None) else None) ≡ Some wanted →
+    length ≡ wanted.length
+lays_by true true length bits wanted lays = cc
+lays_by true false length bits wanted lays = let no : ⊥ = cc in absurd no
+lays_by false faultless length bits wanted lays = let no : ⊥ = cc in absurd no
+
+lays-length : (s : Statement) (wanted : LaidBits) → laid_by [] s ≡ Some wanted → length_in (role_of s) ≡ wanted.length
+unfolding laid_by
+lays-length s wanted lays =
+    lays_by (accepts_all (is_defined []) s) (is_none (value_fault s (values_of [] s) unnamed.location))
+    (length_in (role_of s)) (bits_of s (values_of [] s)) wanted lays
+
+open-length : (s : Statement) → 0 < length_in (role_of s) → IsOpen s
+open-length (Half op j at) lays = refl
+open-length (Sum j listed) lays = refl
+open-length (Refill j) lays = refl
+open-length (Branch op at) lays = refl
+open-length (Floating number at) lays = refl
+open-length (Vfl op negated form at offset) lays = refl
+open-length (Connect kind truth form at offset) lays = refl
+open-length (Move swap at second count) lays = refl
+open-length (BitBranch sense change at second) lays = refl
+open-length (IndBranch sense off at second) lays = refl
+open-length (StoreCounter at second) lays = refl
+open-length (Transfer write at count) lays = refl
+open-length (Data form minus number) lays = refl
+open-length (IndexWord value count refill flags) lays = refl
+open-length (Synonym at) lays = refl
+open-length (SetLocation at) lays = refl
+open-length (Reserve at) lays = refl
+open-length (End at) lays = let no : ⊥ = omega arith in absurd no
+
+-- a text that lays bits is read, and not as the end
+read_by : (t : List ℕ) (answer : Result Statement Fault) (wanted : LaidBits) → 0 < wanted.length → statement_of [] t ≡ answer →
+    laid_if_read [] answer ≡ Some wanted → AreOpen (t ∷ [])
+read_by t (Ok s) wanted some is lays =
+    let same = lays-length s wanted lays in one_text t s is (open-length s (omega (arith, some, same)))
+read_by t (Err fault) wanted some is lays = let no : ⊥ = cc in absurd no
+
+laid-read : (t : List ℕ) (wanted : LaidBits) → 0 < wanted.length → laid_alone [] t ≡ Some wanted → AreOpen (t ∷ [])
+unfolding laid_alone
+laid-read t wanted some lays = read_by t (statement_of [] t) wanted some refl lays
+
+statements-read : (word : ℕ) → word < 2 ^ 64 → AreOpen (statements_of word)
+statements-read word small =
+    statements-cases AreOpen word
+    (λ t said. laid-read t (whole_bits word) (omega arith) (says-lays t (whole_bits word) said))
+    (λ l r said_l said_r. both_texts (l ∷ []) (r ∷ [])
+    (laid-read l (half_bits (word / 2 ^ 32)) (omega arith) (says-lays l (half_bits (word / 2 ^ 32)) said_l))
+    (laid-read r (half_bits (word % 2 ^ 32)) (omega arith) (says-lays r (half_bits (word % 2 ^ 32)) said_r)))
+    (one_text (number_text word) (Data word_form false word) (data-read word small) refl)
+
+word-read : (w before word : ℕ) → w < 98304 → word < 2 ^ 64 → AreOpen (word_statements w before word)
+word-read w before word within small =
+    let texts = statements_of word in
+    let place : AreOpen (location_text w ∷ []) =
+    one_text (location_text w) (SetLocation (number_expr (64 * w))) (location-read w within) refl in
+    let here : (b : Bool) → AreOpen ((if b then location_text w ∷ [] else []) ++ texts) = λ b.
+    elim b as (λ b. AreOpen ((if b then location_text w ∷ [] else []) ++ texts)) [
+      | true ↦ both_texts (location_text w ∷ []) texts place (statements-read word small)
+      | false ↦ statements-read word small
+    ] in
+    elim (word == 0) as (λ b. AreOpen (if b then [] else (if before == 0 then location_text w ∷ [] else []) ++ texts)) [
+      | true ↦ no_texts
+      | false ↦ here (before == 0)
+    ]
+
+words-read : (w before : ℕ) (xs : List ℕ) → w + length xs ≤ 98304 → AreWords xs → AreOpen (statements_from w before xs)
+words-read w before [] few words = no_texts
+words-read w before (x ∷ xs) few words =
+    both_texts (word_statements w before x) (statements_from (w + 1) x xs)
+    (word-read w before x (omega (arith, few)) (All-head (λ y. y < 2 ^ 64) x xs words))
+    (words-read (w + 1) x xs (omega (arith, few)) (All-tail (λ y. y < 2 ^ 64) x xs words))
+
+-- all statements up to the end are read, and none is the end
+pub deck-open : (p : Program) → IsProgram p → AreWords p.words → AreOpen (statements_from 0 0 p.words)
+deck-open p is words =
+    let whole = is.whole in words-read 0 0 p.words (omega (arith, whole, words_of_storage_is)) words
+
+-- the end of a deck
+abbrev pub end_of : Program → Statement
+end_of p = End (number_expr (32 * p.start))
+
+-- ---- the control cards
+
+only : (card : List ℕ) → IsControl card → All IsControl (card ∷ [])
+only card is = All-cons IsControl card [] is (All-nil IsControl)
+
+where_asked : (b : Bool) (card : List ℕ) → IsControl card → All IsControl (marked b card)
+where_asked true card is = only card is
+where_asked false card is = All-nil IsControl
+
+module _ {X : Type 0} where
+  mapped_ones : (f : X → List ℕ) → ((x : X) → IsControl (f x)) → (xs : List X) → All IsControl (map f xs)
+  mapped_ones f each [] = All-nil IsControl
+  mapped_ones f each (x ∷ xs) = All-cons IsControl (f x) (map f xs) (each x) (mapped_ones f each xs)
+
+pub order_cards-kind : (a : Asked) → All IsControl (order_cards a)
+order_cards-kind a =
+    let c1 : List (List ℕ) = (codes "/BUDGET " ++ decimal a.budget) ∷ [] in
+    let c2 : List (List ℕ) = map (λ d. codes "/DELAYS " ++ decimal d) a.delays in
+    let c3 : List (List ℕ) = map (λ s. codes "/SIGNAL " ++ decimal s.count ++ codes " " ++ decimal s.indicator) a.signals in
+    let c4 : List (List ℕ) = map (λ p. codes "/DUMP " ++ decimal p.0 ++ codes " " ++ decimal p.1) a.dumps in
+    All-append IsControl (c1 ++ c2 ++ c3) c4
+    (All-append IsControl (c1 ++ c2) c3
+    (All-append IsControl c1 c2 (only (codes "/BUDGET " ++ decimal a.budget) refl)
+    (mapped_ones (λ d. codes "/DELAYS " ++ decimal d) (λ d. refl) a.delays))
+    (mapped_ones (λ s. codes "/SIGNAL " ++ decimal s.count ++ codes " " ++ decimal s.indicator) (λ s. refl) a.signals))
+    (mapped_ones (λ p. codes "/DUMP " ++ decimal p.0 ++ codes " " ++ decimal p.1) (λ p. refl) a.dumps)
+
+back_cards-kind : (k : ℕ) → All IsControl (back_cards k)
+back_cards-kind k =
+    let card = codes "/BACK " ++ decimal k in
+    elim (k == 0) as (λ b. All IsControl (if b then [] else card ∷ [])) [
+      | true ↦ All-nil IsControl
+      | false ↦ only card refl
+    ]
+
+pub show_cards-kind : (a : Asked) → All IsControl (show_cards a)
+show_cards-kind a =
+    let c5 = marked a.trace (codes "/TRACE") in
+    let c6 = marked a.time (codes "/TIME") in
+    let c7 = marked a.chart (codes "/CHART") in
+    let c8 : List (List ℕ) = map (λ t. codes "/SNAP " ++ decimal t) a.snaps in
+    All-append IsControl (c5 ++ c6 ++ c7 ++ c8) (back_cards a.back)
+    (All-append IsControl (c5 ++ c6 ++ c7) c8
+    (All-append IsControl (c5 ++ c6) c7
+    (All-append IsControl c5 c6 (where_asked a.trace (codes "/TRACE") refl) (where_asked a.time (codes "/TIME") refl))
+    (where_asked a.chart (codes "/CHART") refl))
+    (mapped_ones (λ t. codes "/SNAP " ++ decimal t) (λ t. refl) a.snaps))
+    (back_cards-kind a.back)
+
+control_cards-kind : (p : Program) → All IsControl (control_cards p)
+control_cards-kind p =
+    All-append IsControl (order_cards p.controls) (show_cards p.controls) (order_cards-kind p.controls) (show_cards-kind p.controls)
+
+-- ---- the form pass
+
+-- the job that a deck is: the texts and the end, and what is read
+deck-job : (p : Program) → IsProgram p → (before : List Statement) → AreRead (statements_from 0 0 p.words) before → All IsOpen before →
+    IsJob (statements_from 0 0 p.words) (end_text p.start) (control_cards p) before (end_of p) p.controls
+deck-job p is before read going = record {
+  read = read;
+  going = going;
+  final_read = start-read p.start is.start;
+  ends = refl;
+  marks = control_cards-kind p;
+  leads = controls-read p.controls is.limits is.budget is.unlisted;
+}
+
+-- all statements of a deck are read, and the form pass finds them and what the program asks for
+pub record IsFormed (p : Program) : Type 0 where
+  pub statements : List Statement
+  pub read : AreRead (deck_statements p) statements
+  pub formed : form_pass (deck_text p) (cards_of (deck_text p)) ≡ Ok (found_in_job statements (length (control_cards p)) p.controls)
+
+pub form-passes : (p : Program) → IsProgram p → AreWords p.words → card_count p ≤ 20000 → IsFormed p
+unfolding deck_text card_count
+form-passes p is words few =
+    let texts = statements_from 0 0 p.words in
+    let found = deck-open p is words in
+    let before = found.statements in
+    let all = before ++ end_of p ∷ [] in
+    let controls = control_cards p in
+    let cards = job_cards texts (end_text p.start) controls in
+    let same : deck_cards p ≡ cards = deck-cards p in
+    let written = subst (λ (cs : List (List ℕ)). All IsWritten cs) same (deck_written p) in
+    let short = subst (λ (cs : List (List ℕ)). All IsCard cs) same (deck_cards-short p is words) in
+    let fits = subst (λ (cs : List (List ℕ)). length cs ≤ 20000) same few in
+    let passes = job-formed texts (end_text p.start) controls before (end_of p) p.controls
+    (deck-job p is before found.read found.open_ones) written short fits in record {
+      statements = all;
+      read = read-append texts (end_text p.start ∷ []) before (end_of p ∷ []) found.read (start-read p.start is.start, refl);
+      formed = subst (λ (cs : List (List ℕ)). form_pass (deck_of cs) (cards_of (deck_of cs))
+          ≡ Ok (found_in_job all (length controls) p.controls)) (sym same) passes;
+    }

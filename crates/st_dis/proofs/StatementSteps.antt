@@ -1,0 +1,267 @@
+-- What a statement does to the location, the image and the start, where its names are known and it has no fault.
+use Rattle.std.proofs.Common.{◌≡◌, ℕ, ℤ, ◌≤◌, ◌<◌, ◌+◌, ◌*◌, ◌%◌, ◌^◌, ◌==◌, ◌&&◌, ◌||◌, Bool, true, false, nat_le, nat_lt, not, List, [], ◌∷◌, Option, Some, None, is_none, unwrap_or, Ok, if◌then◌else◌, refl, ap, sym, ◌∙◌, arith}
+use Rattle.std.proofs.lemmas.Bool.{and_from as both_true}
+use Rattle.std.proofs.lemmas.Bool.Decides.{nat_tests}
+use Rattle.st_card.specs.Cards.{first_fault}
+use Rattle.st_card.specs.declared.faults.Fault.{Fault}
+use Rattle.st_card.specs.declared.faults.Fault.TheVariants.{AddressOutOfRange, ValueDoesNotFit, NotOnABoundary, LocationOutOfStorage}
+use Rattle.st_strap.specs.Reading.{number_expr}
+use Rattle.st_strap.specs.Saying.{statement_of}
+use Rattle.st_strap.specs.declared.statement.Statement.{Statement}
+use Rattle.st_strap.specs.declared.statement.Statement.TheVariants.{Half, Sum, Refill, Branch, Floating, Vfl, Connect, Move, BitBranch, IndBranch, StoreCounter, Transfer, Data, IndexWord, Synonym, SetLocation, Reserve, End}
+use Rattle.st_asm.specs.Forming.{is_end}
+use Rattle.st_asm.specs.Symbols.{accepts_all, is_defined}
+use Rattle.st_asm.specs.Values.{values_of, wrapped}
+use Rattle.st_asm.specs.Places.{role_of, length_in, aligned, place_in, behind_in}
+use Rattle.st_asm.specs.Naming.{unnamed, place_of_statement, behind_statement}
+use Rattle.st_asm.specs.Checks.{in_range, fits, on_boundary, extent, in_storage, value_fault}
+use Rattle.st_asm.specs.Laying.{half_word, bits_of}
+use Rattle.st_asm.specs.Valuing.{image_with}
+use Rattle.st_asm.specs.Alone.{laid_if_read, laid_by, laid_alone}
+use Rattle.st_asm.specs.declared.alone.LaidBits.{LaidBits}
+use Rattle.st_dis.proofs.Said.{type_of}
+
+-- the values of the expressions of a statement
+abbrev Values : Type 0
+Values = type_of (values_of [] (Refill 0))
+
+-- the location, the image and the start between two cards
+pub record Stand : Type 0 where
+  pub location : ℕ
+  pub image : List ℕ
+  pub start : ℕ
+
+abbrev pub stand : ℕ → List ℕ → ℕ → Stand
+stand location image start = record { location = location; image = image; start = start }
+
+-- the place of a statement that is met there, where no names are defined
+abbrev pub place_at : Stand → Statement → Option ℕ
+place_at here s = place_of_statement [] here.location s
+
+-- a statement without names and without a fault leads from one to the other
+pub record Steps (s : Statement) (here there : Stand) : Type 0 where
+  pub known : accepts_all (is_defined []) s ≡ true
+  pub faultless : value_fault s (values_of [] s) (unwrap_or (place_at here s) 0) ≡ None
+  pub location : behind_statement [] here.location s ≡ there.location
+  pub image : image_with here.image (unwrap_or (place_at here s) 0) (length_in (role_of s)) (bits_of s (values_of [] s)) ≡ there.image
+  pub start : (if is_end s then half_word (values_of [] s).first else here.start) ≡ there.start
+
+-- what a statement is that lays bits by itself
+record LaysAlone (s : Statement) (wanted : LaidBits) : Type 0 where
+  known : accepts_all (is_defined []) s ≡ true
+  faultless : value_fault s (values_of [] s) unnamed.location ≡ None
+  laid : record { length = length_in (role_of s); bits = bits_of s (values_of [] s) } ≡ wanted
+
+both_hold : (b c : Bool) (x y : LaidBits) → (if b then (if c then Some x else None) else None) ≡ Some y →
+    (b ≡ true) × (c ≡ true) × (x ≡ y)
+both_hold true true x y same = (refl, refl, cc)
+both_hold true false x y same = let no : ⊥ = cc in absurd no
+both_hold false c x y same = let no : ⊥ = cc in absurd no
+
+is-none : (o : Option Fault) → is_none o ≡ true → o ≡ None
+is-none None h = refl
+is-none (Some f) h = let no : ⊥ = cc in absurd no
+
+lays-alone : (t : List ℕ) (s : Statement) (wanted : LaidBits) → statement_of [] t ≡ Ok s → laid_alone [] t ≡ Some wanted →
+    LaysAlone s wanted
+unfolding laid_alone laid_by
+lays-alone t s wanted read lays =
+    let here : laid_by [] s ≡ Some wanted = sym (ap (λ r. laid_if_read [] r) read) ∙ lays in
+    let fault = value_fault s (values_of [] s) unnamed.location in
+    let parts = both_hold (accepts_all (is_defined []) s) (is_none fault)
+    (record { length = length_in (role_of s); bits = bits_of s (values_of [] s) }) wanted here in
+    record { known = parts.0; faultless = is-none fault parts.1; laid = parts.2 }
+
+-- a place where n bits may be laid
+pub record IsPlace (n a : ℕ) : Type 0 where
+  pub some : n ≡ 0 → ⊥
+  pub one : aligned 1 a ≡ a
+  pub half : aligned 32 a ≡ a
+  pub whole : n ≡ 64 → aligned 64 a ≡ a
+  pub behind : 2048 ≤ a
+  pub room : a + n ≤ 6291456
+
+pub word-place : (w : ℕ) → 32 ≤ w → w < 98304 → IsPlace 64 (64 * w)
+word-place w above small = record {
+  some = λ h. omega arith;
+  one = omega arith;
+  half = omega arith;
+  whole = λ h. omega arith;
+  behind = omega arith;
+  room = omega arith;
+}
+
+pub first-place : (w : ℕ) → 32 ≤ w → w < 98304 → IsPlace 32 (64 * w)
+first-place w above small = record {
+  some = λ h. omega arith;
+  one = omega arith;
+  half = omega arith;
+  whole = λ h. omega arith;
+  behind = omega arith;
+  room = omega arith;
+}
+
+pub second-place : (w : ℕ) → 32 ≤ w → w < 98304 → IsPlace 32 (64 * w + 32)
+second-place w above small = record {
+  some = λ h. omega arith;
+  one = omega arith;
+  half = omega arith;
+  whole = λ h. let no : ⊥ = omega arith in absurd no;
+  behind = omega arith;
+  room = omega arith;
+}
+
+-- what n bits at such a place do to the location
+record GoesOn (s : Statement) (n a : ℕ) (v : ℤ) : Type 0 where
+  place : place_in (role_of s) a v ≡ Some a
+  behind : behind_in (role_of s) a v ≡ a + n
+  long : extent (role_of s) v ≡ n
+  no_end : is_end s ≡ false
+
+lays-on : (s : Statement) (u m n a : ℕ) (v : ℤ) → place_in (role_of s) a v ≡ Some (aligned u a) →
+    behind_in (role_of s) a v ≡ (aligned u a + m) % 2 ^ 24 → extent (role_of s) v ≡ m → is_end s ≡ false → m ≡ n → aligned u a ≡ a →
+    IsPlace n a → GoesOn s n a v
+lays-on s u m n a v place behind long no_end same on is =
+    let room = is.room in
+    let next : (aligned u a + m) % 2 ^ 24 ≡ a + n = ap (λ k. (k + m) % 2 ^ 24) on ∙ omega (arith, same, room) in
+    record {
+      place = place ∙ ap (λ k. Some k) on;
+      behind = behind ∙ next;
+      long = long ∙ same;
+      no_end = no_end;
+    }
+
+goes-on : (s : Statement) (n a : ℕ) (v : ℤ) → length_in (role_of s) ≡ n → IsPlace n a → GoesOn s n a v
+goes-on (Half op j at) n a v long is = lays-on (Half op j at) 32 32 n a v refl refl refl refl long is.half is
+goes-on (Sum j listed) n a v long is = lays-on (Sum j listed) 32 32 n a v refl refl refl refl long is.half is
+goes-on (Refill j) n a v long is = lays-on (Refill j) 32 32 n a v refl refl refl refl long is.half is
+goes-on (Branch op at) n a v long is = lays-on (Branch op at) 32 32 n a v refl refl refl refl long is.half is
+goes-on (Floating number at) n a v long is = lays-on (Floating number at) 32 32 n a v refl refl refl refl long is.half is
+goes-on (Vfl op negated form at offset) n a v long is =
+    lays-on (Vfl op negated form at offset) 32 64 n a v refl refl refl refl long is.half is
+goes-on (Connect kind truth form at offset) n a v long is =
+    lays-on (Connect kind truth form at offset) 32 64 n a v refl refl refl refl long is.half is
+goes-on (Move swap at second count) n a v long is = lays-on (Move swap at second count) 32 64 n a v refl refl refl refl long is.half is
+goes-on (BitBranch sense change at second) n a v long is =
+    lays-on (BitBranch sense change at second) 32 64 n a v refl refl refl refl long is.half is
+goes-on (IndBranch sense off at second) n a v long is = lays-on (IndBranch sense off at second) 32 64 n a v refl refl refl refl long is.half is
+goes-on (StoreCounter at second) n a v long is = lays-on (StoreCounter at second) 32 64 n a v refl refl refl refl long is.half is
+goes-on (Transfer write at count) n a v long is = lays-on (Transfer write at count) 32 64 n a v refl refl refl refl long is.half is
+goes-on (Data form minus number) n a v long is =
+    lays-on (Data form minus number) 1 form.length n a v refl refl refl refl long is.one is
+goes-on (IndexWord value count refill flags) n a v long is =
+    lays-on (IndexWord value count refill flags) 64 64 n a v refl refl refl refl long (is.whole (sym long)) is
+goes-on (Synonym at) n a v long is = absurd (is.some (sym long))
+goes-on (SetLocation at) n a v long is = absurd (is.some (sym long))
+goes-on (Reserve at) n a v long is = absurd (is.some (sym long))
+goes-on (End at) n a v long is = absurd (is.some (sym long))
+
+-- the place counts in the last test alone
+fourth_test : (x y z p q : Bool) (f g h i : Fault) → first_fault ((x, f) ∷ (y, g) ∷ (z, h) ∷ (p, i) ∷ []) ≡ None → q ≡ false →
+    first_fault ((x, f) ∷ (y, g) ∷ (z, h) ∷ (q, i) ∷ []) ≡ None
+fourth_test true y z p q f g h i none is = let no : ⊥ = cc in absurd no
+fourth_test false true z p q f g h i none is = let no : ⊥ = cc in absurd no
+fourth_test false false true p q f g h i none is = let no : ⊥ = cc in absurd no
+fourth_test false false false p q f g h i none is = ap (λ b. if b then Some i else None) is
+
+pub faultless-elsewhere : (s : Statement) (v : Values) (a b : ℕ) → value_fault s v a ≡ None →
+    in_storage b (extent (role_of s) v.first) ≡ true → value_fault s v b ≡ None
+unfolding value_fault
+faultless-elsewhere s v a b none there =
+    fourth_test (not (in_range s v)) (not (fits s v)) (not (on_boundary s v)) (not (in_storage a (extent (role_of s) v.first)))
+    (not (in_storage b (extent (role_of s) v.first))) AddressOutOfRange ValueDoesNotFit NotOnABoundary LocationOutOfStorage
+    none (ap not there)
+
+or_true : (a b : Bool) → b ≡ true → (a || b) ≡ true
+or_true true b h = refl
+or_true false b h = h
+
+pub in-storage : (a n : ℕ) → 2048 ≤ a → a + n ≤ 6291456 → in_storage a n ≡ true
+unfolding in_storage
+in-storage a n behind room =
+    let first : nat_le 2048 a ≡ true = grind (arith, nat_tests) in
+    let last : nat_le (a + n) 6291456 ≡ true = grind (arith, nat_tests) in
+    or_true (n == 0) (nat_le 2048 a && nat_le (a + n) 6291456) (both_true (nat_le 2048 a) (nat_le (a + n) 6291456) first last)
+
+-- a statement that lays bits by itself lays them at each such place
+pub lays-steps : (t : List ℕ) (s : Statement) (n bits a start : ℕ) (old new : List ℕ) → statement_of [] t ≡ Ok s →
+    laid_alone [] t ≡ Some (record { length = n; bits = bits }) → IsPlace n a → image_with old a n bits ≡ new →
+    Steps s (stand a old start) (stand (a + n) new start)
+lays-steps t s n bits a start old new read lays is image =
+    let alone = lays-alone t s (record { length = n; bits = bits }) read lays in
+    let long : length_in (role_of s) ≡ n = ap (λ (l : LaidBits). l.length) alone.laid in
+    let number : bits_of s (values_of [] s) ≡ bits = ap (λ (l : LaidBits). l.bits) alone.laid in
+    let v = (values_of [] s).first in
+    let on = goes-on s n a v long is in
+    let place : unwrap_or (place_in (role_of s) a v) 0 ≡ a = ap (λ o. unwrap_or o 0) on.place in
+    let inside : in_storage (unwrap_or (place_in (role_of s) a v) 0) (extent (role_of s) v) ≡ true =
+    ap (λ k. in_storage k (extent (role_of s) v)) place ∙ (ap (λ k. in_storage a k) on.long ∙ in-storage a n is.behind is.room) in
+    record {
+      known = alone.known;
+      faultless = faultless-elsewhere s (values_of [] s) unnamed.location (unwrap_or (place_in (role_of s) a v) 0) alone.faultless inside;
+      location = on.behind;
+      image = ap (λ k. image_with old k (length_in (role_of s)) (bits_of s (values_of [] s))) place
+          ∙ (ap (λ k. image_with old a k (bits_of s (values_of [] s))) long ∙ (ap (λ k. image_with old a n k) number ∙ image));
+      start = ap (λ b. if b then half_word v else start) on.no_end;
+    }
+
+-- the location is set
+set-faultless : (n place : ℕ) → n < 2 ^ 24 →
+    value_fault (SetLocation (number_expr n)) (values_of [] (SetLocation (number_expr n))) place ≡ None
+unfolding value_fault in_range fits on_boundary in_storage values_of
+set-faultless n place small =
+    let below : nat_lt (n + 0) (2 ^ 24) ≡ true = grind (arith, nat_tests) in rw below
+
+set-known : (n : ℕ) → accepts_all (is_defined []) (SetLocation (number_expr n)) ≡ true
+unfolding accepts_all
+set-known n = refl
+
+set-location : (n : ℕ) → n < 2 ^ 24 → wrapped (values_of [] (SetLocation (number_expr n))).first ≡ n
+unfolding values_of wrapped
+set-location n small = omega arith
+
+pub no-bits : (image : List ℕ) (place number : ℕ) → image_with image place 0 number ≡ image
+unfolding image_with
+no-bits image place number = refl
+
+pub set-steps : (n location start : ℕ) (image : List ℕ) → n < 2 ^ 24 →
+    Steps (SetLocation (number_expr n)) (stand location image start) (stand n image start)
+set-steps n location start image small =
+    let s = SetLocation (number_expr n) in
+    let place = wrapped (values_of [] s).first in
+    record {
+      known = set-known n;
+      faultless = set-faultless n place small;
+      location = set-location n small;
+      image = no-bits image place (bits_of s (values_of [] s));
+      start = refl;
+    }
+
+-- the end gives the start
+end-faultless : (start place : ℕ) → start < 2 ^ 19 →
+    value_fault (End (number_expr (32 * start))) (values_of [] (End (number_expr (32 * start)))) place ≡ None
+unfolding value_fault in_range fits on_boundary in_storage values_of
+end-faultless start place small =
+    let below : nat_lt (32 * start + 0) (2 ^ 24) ≡ true = grind (arith, nat_tests) in
+    let rest : (32 * start + 0) % 32 ≡ 0 = omega arith in
+    let even : ((32 * start + 0) % 32 == 0) ≡ true = grind (arith, nat_tests, rest) in
+    rw (below, even)
+
+end-known : (n : ℕ) → accepts_all (is_defined []) (End (number_expr n)) ≡ true
+unfolding accepts_all
+end-known n = refl
+
+end-start : (start : ℕ) → half_word (values_of [] (End (number_expr (32 * start)))).first ≡ start
+unfolding values_of
+end-start start = omega arith
+
+pub end-steps : (start location before : ℕ) (image : List ℕ) → start < 2 ^ 19 →
+    Steps (End (number_expr (32 * start))) (stand location image before) (stand location image start)
+end-steps start location before image small =
+    let s = End (number_expr (32 * start)) in record {
+      known = end-known (32 * start);
+      faultless = end-faultless start 0 small;
+      location = refl;
+      image = no-bits image 0 (bits_of s (values_of [] s));
+      start = end-start start;
+    }

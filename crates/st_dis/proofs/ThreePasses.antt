@@ -1,0 +1,36 @@
+-- A job that goes through the three passes is assembled.
+use Rattle.std.proofs.Common.{◌≡◌, ◌≤◌, ◌==◌, ℕ, Bool, false, List, [], ◌∷◌, length, Result, Ok, if◌then◌else◌, ap, ◌∙◌, arith}
+use Rattle.std.proofs.lemmas.Bool.Decides.{nat_tests}
+use Rattle.st_card.specs.Cards.{cards_of}
+use Rattle.st_card.specs.Controls.{Asked}
+use Rattle.st_asm.specs.Pass.{Refusal, then_for}
+use Rattle.st_asm.specs.Symbols.{table}
+use Rattle.st_asm.specs.Forming.{Found, form_pass}
+use Rattle.st_asm.specs.Naming.{Named, name_pass}
+use Rattle.st_asm.specs.Valuing.{Laid, value_pass}
+use Rattle.st_asm.specs.Assembly.{Assembly, with_defaults, together, assembly}
+
+-- what the passes leave, together
+pub assembled : (job : List ℕ) (found : Found) (named : Named) (laid : Laid) → form_pass job (cards_of job) ≡ Ok found →
+    name_pass found.lines ≡ Ok named → value_pass (table named.symbols) found.lines named.places ≡ Ok laid →
+    assembly job ≡ Ok (together found named laid)
+unfolding assembly
+assembled job found named laid formed names values =
+    let last : Found → Named → Result Laid Refusal → Result Assembly Refusal = λ f n r. then_for (λ l. Ok (together f n l)) r in
+    let middle : Found → Result Named Refusal → Result Assembly Refusal =
+    λ f r. then_for (λ n. last f n (value_pass (table n.symbols) f.lines n.places)) r in
+    ap (λ (r : Result Found Refusal). then_for (λ f. middle f (name_pass f.lines)) r) formed
+    ∙ (ap (λ (r : Result Named Refusal). middle found r) names
+    ∙ ap (λ (r : Result Laid Refusal). last found named r) values)
+
+-- what is asked for stands, where a budget and a delay are
+pub defaults-kept : (asked : Asked) → 1 ≤ asked.budget → 1 ≤ length asked.delays → with_defaults asked ≡ asked
+unfolding with_defaults
+defaults-kept asked some_budget some_delays =
+    let budget : (asked.budget == 0) ≡ false = grind (arith, nat_tests, some_budget) in
+    let delays : (length asked.delays == 0) ≡ false = grind (arith, nat_tests, some_delays) in
+    ap (λ (b : Bool). record asked {
+      budget = if b then 1000 else asked.budget;
+      delays = if length asked.delays == 0 then 1 ∷ [] else asked.delays;
+    }) budget
+    ∙ ap (λ (b : Bool). record asked { budget = asked.budget; delays = if b then 1 ∷ [] else asked.delays }) delays

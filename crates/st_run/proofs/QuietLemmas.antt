@@ -1,0 +1,118 @@
+-- Where nothing comes between two entries.
+use Rattle.std.specs.Prelude.{nat_lt, is_some}
+use Rattle.std.proofs.Common.{◌≡◌, ◌≢◌, ℕ, Bool, true, false, ◌||◌, List, [], ◌∷◌, length, Option, None, Some, refl, sym, subst, ◌∙◌, ap, arith}
+use Rattle.std.proofs.lemmas.Bool.{le-ltb}
+use Rattle.st_state.specs.Machine.{Machine}
+use Rattle.st_state.specs.Orders.{is_due}
+use Rattle.st_ahead.specs.Overlap.{Overlap, interrupt_due}
+use Rattle.st_ahead.specs.Calls.{settled as settled_of}
+use Rattle.st_run.specs.Run.{Scene, Signal, with_due_signals, with_due_orders, settled, nothing}
+use Rattle.st_run.specs.Together.{Together, scene_of, moment_of, with_scene, IsBehind}
+use Rattle.st_run.specs.Between.{Came, IsChoice, IsQuiet, signal_due}
+use Rattle.st_run.specs.Leaving.{IsDecided, nothing_decided}
+use Rattle.st_run.specs.Telling.{Waiting, whats, rest_of, IsRun, AreInTime}
+use Rattle.st_run.specs.Told.{Told}
+use Rattle.st_run.specs.declared.turn.Turn.{Turn}
+use Rattle.st_run.specs.declared.turn.Turn.TheVariants.{Before}
+use Rattle.st_run.proofs.CameLemmas.{came-none, came-is, settled-going, over-going}
+use Rattle.st_run.proofs.ChoiceLemmas.{decided}
+use Rattle.st_run.proofs.PartLemmas.{HasParts, left-parts}
+use Rattle.st_run.proofs.LeftLemmas.{waits}
+use Rattle.st_run.proofs.ProgressLemmas.{Quiet, rest-quiet, quiet-taken}
+
+-- ---- the tests
+
+by-signal : (s : Machine) (xs : List Signal) (cards : List (List ℕ)) → signal_due s.done xs ≡ false
+    → record { machine = s; signals = xs; cards = cards } ≡ with_due_signals s xs cards
+by-signal s [] cards none = refl
+by-signal s (x ∷ xs) cards none = rw none refl
+
+no-signal : (t : Together) → signal_due t.machine.state.done t.signals ≡ false
+    → t ≡ with_scene t (with_due_signals t.machine.state t.signals t.cards)
+no-signal t none = ap (with_scene t) (by-signal t.machine.state t.signals t.cards none)
+
+by-orders : (c : Scene) (reader printer : Bool) → is_due c.machine.done c.machine.reader ≡ reader → is_due c.machine.done c.machine.printer ≡ printer
+    → reader ≡ false → printer ≡ false → nothing c ≡ with_due_orders c
+unfolding with_due_orders
+by-orders c reader printer first second a b = rw (first ∙ a, second ∙ b) refl
+
+no-text : (t : Together) → IsQuiet t.machine → Came (with_due_orders (scene_of t)) None false false t t
+no-text t quiet =
+    came-is (nothing (scene_of t)) (with_due_orders (scene_of t)) None false false t t
+    (by-orders (scene_of t) false false quiet.reader quiet.printer refl refl) (came-none false t)
+
+-- two tests, none of which holds
+neither-first : (behind : Bool) (due : Option ℕ) → (behind || is_some due) ≡ false → None ≡ due
+neither-first true due none = absurd (cc none)
+neither-first false None none = refl
+neither-first false (Some i) none = absurd (cc none)
+
+neither-still : (behind : Bool) (due : Option ℕ) → (behind || is_some due) ≡ false → false ≡ (behind || false || is_some due)
+neither-still true due none = absurd (cc none)
+neither-still false due none = sym none
+
+same-count : (n : ℕ) → false ≡ nat_lt n n
+same-count n = sym (le-ltb n n (omega arith))
+
+-- ---- the decision
+
+module _ (left : ℕ) (b n : Together) (is : IsBehind b) (some : left ≢ 0) (signals : signal_due b.machine.state.done b.signals ≡ false)
+    (quiet : IsQuiet b.machine) (rest : n ≡ record b { machine = n.machine }) (after : n.machine ≡ settled_of b.machine) where
+  came : Came (settled (scene_of b)) None false false b b
+  came = settled-going b b b None false (no-signal b signals) (no-text b quiet) quiet.awake
+
+  choice : IsChoice Before left false b.machine nothing_decided n.machine
+  choice = (
+    some,
+    quiet.awake,
+    after,
+    neither-first (is_some b.machine.behind) (interrupt_due b.machine) quiet.open_still,
+    neither-still (is_some b.machine.behind) (interrupt_due b.machine) quiet.open_still,
+  )
+
+  pub quiet-decided : IsDecided left (moment_of b) nothing_decided n
+  quiet-decided =
+      decided b b None false is came
+      (over-going b b b None false (no-signal b signals) (no-text b quiet) quiet.awake (same-count (length b.cards)))
+      left nothing_decided n rest refl choice
+
+  pub quiet-parts : HasParts b.machine n.machine
+  quiet-parts = left-parts b b n None false left nothing_decided is came choice
+
+-- the same of the parts of a machine with what is to come to it
+module _ (left : ℕ) (old : Together) (m k : Overlap) (xs : List Signal) (cards : List (List ℕ)) (view : record { machine = m; signals = xs; cards = cards } ≡ old)
+    (is : IsBehind old) (some : left ≢ 0) (signals : signal_due m.state.done xs ≡ false) (quiet : IsQuiet m) (after : k ≡ settled_of m) where
+  abbrev b : Together
+  b = record { machine = m; signals = xs; cards = cards }
+
+  abbrev n : Together
+  n = record { machine = k; signals = xs; cards = cards }
+
+  pub passed-decided : IsDecided left (moment_of old) nothing_decided n
+  passed-decided =
+      subst {A = Together} (λ t. IsDecided left (moment_of t) nothing_decided n) view
+      (quiet-decided left b n (subst {A = Together} IsBehind (sym view) is) some signals quiet refl after)
+
+  pub passed-parts : HasParts old.machine k
+  passed-parts =
+      subst {A = Together} (λ t. HasParts t.machine k) view
+      (quiet-parts left b n (subst {A = Together} IsBehind (sym view) is) some signals quiet refl after)
+
+-- ---- what waits is nothing, whichever way
+
+none-quiet : Quiet (waits [] None None)
+unfolding whats
+none-quiet s = refl
+
+pub quiet-rest : (turn : Turn) (left tick : ℕ) (snaps : List ℕ) (w : Waiting) (t : Together) → Quiet w
+    → rest_of turn left tick snaps (waits [] None None) t ≡ rest_of turn left tick snaps w t
+quiet-rest turn left tick snaps w t quiet =
+    rest-quiet turn left tick snaps (waits [] None None) t none-quiet ∙ sym (rest-quiet turn left tick snaps w t quiet)
+
+pub quiet-run : (turn : Turn) (left tick now : ℕ) (snaps : List ℕ) (w : Waiting) (t : Together) → Quiet w
+    → IsRun turn left tick now snaps (waits [] None None) t → IsRun turn left tick now snaps w t
+quiet-run turn left tick now snaps w t quiet is = record {
+  stands = is.stands;
+  taken = quiet-taken w t.machine.state _ quiet;
+  in_time = subst {A = List Told} AreInTime (quiet-rest turn left tick snaps w t quiet) is.in_time;
+}
