@@ -81,8 +81,8 @@ impl<const N: usize> Look<N> {
         dropped
     }
 
-    /// The segment ends at the tick `now`, at most 2^64 - 2,048, at which no entry is done, and nothing is kept of its reads; the next one would
-    /// begin as after `end`, whose index words the levels have. The result is the number of levels dropped.
+    /// The same at a tick `now`, at most 2^64 - 2,048, at which no entry is done: nothing is kept of the reads, and the banks are idle. The result
+    /// is the number of levels dropped.
     pub fn give_up(&mut self, state: &State, table: Option<u8>, now: u64) -> u8
         requires indicator { IfSome table (λ i. i < 64) }
         requires early { now ≤ 2 ^ 64 - 2048 }

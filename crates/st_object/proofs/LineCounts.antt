@@ -1,13 +1,13 @@
 -- How many lines a draft has.
-use Rattle.std.proofs.Common.{◌≡◌, ◌≤◌, ◌<◌, ◌+◌, ◌^◌, ◌==◌, ℕ, suc, Bool, true, false, List, [], ◌∷◌, ◌++◌, length, map, Option, Some, None, if◌then◌else◌, refl, ap, ◌∙◌, length-append, arith}
+use Rattle.std.proofs.Common.{◌≡◌, ◌≤◌, ◌+◌, ◌==◌, ℕ, suc, Bool, true, false, List, [], ◌∷◌, ◌++◌, length, map, Option, Some, None, if◌then◌else◌, ap, ◌∙◌, length-append, arith}
 use Rattle.std.proofs.lemmas.List.{length-map}
-use Rattle.st_bits.specs.Storage.{words_of_storage, words_of_storage_is}
-use Rattle.st_object.specs.Lines.{marked, word_lines, budget_lines, back_lines}
-use Rattle.st_object.specs.Draft.{Draft, IsDraft, start_lines, lines_from_fin, lines_from_back, lines_from_snaps, lines_from_chart, lines_from_time, lines_from_trace, lines_from_dumps, lines_from_signals, lines_from_delays, lines_from_budget, lines_from_words, lines_from_start, lines_of, with_item}
+use Rattle.st_bits.specs.Storage.{words_of_storage_is}
+use Rattle.st_object.specs.Lines.{marked, word_lines}
+use Rattle.st_object.specs.Draft.{Draft, IsDraft, start_lines, lines_of, with_item}
 use Rattle.st_object.specs.Meaning.{item_in}
 use Rattle.st_object.specs.Object.{with_line}
 use Rattle.st_object.specs.declared.items.Item.{Item}
-use Rattle.st_object.specs.declared.items.Item.TheVariants.{Object, Start, Word, Budget, Delay, Signal, Dump, Trace, Time, Chart, Snap, Back, Fin}
+use Rattle.st_object.specs.declared.items.Item.TheVariants.{Object, Word, Budget, Delay, Signal, Dump, Trace, Time, Chart, Snap, Back, Fin}
 use Rattle.st_object.proofs.LineMeanings.{chained}
 use Rattle.st_object.proofs.FurtherLines.{grown}
 
@@ -21,6 +21,9 @@ line_more d e line good =
 -- parts of a or b lines at most
 few_of : (a b : ℕ) (part rest : List Item) → length part ≤ a → length rest ≤ b → length (part ++ rest) ≤ a + b
 few_of a b part rest first later = omega (arith, length-append part rest)
+
+few_at_end : (items : List Item) → length items ≤ 1 → length (items ++ []) ≤ 1
+few_at_end items few = omega (arith, length-append items [])
 
 few_marked : (b : Bool) (item : Item) → length (marked b item) ≤ 1
 few_marked true item = omega arith
@@ -61,4 +64,5 @@ few_lines d is =
     (few_of _ _ _ _ (few_marked d.asked.time Time)
     (few_of _ _ _ _ (few_marked d.asked.chart Chart)
     (few_of _ _ _ _ (few_mapped (λ t. Snap t) d.asked.snaps _ is.limits.snaps.few)
-    (few_of _ _ _ _ (few_or (d.asked.back == 0) (Back d.asked.back)) (few_marked d.ended Fin))))))))))))
+    (few_of _ _ _ _ (few_or (d.asked.back == 0) (Back d.asked.back))
+    (few_at_end _ (few_marked d.ended Fin)))))))))))))

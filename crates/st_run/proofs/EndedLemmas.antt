@@ -104,7 +104,7 @@ missed-below m is some = missed-by _ (plan m.state m.taken).following (plan-prep
 abbrev pub opened : Overlap → Machine → Overlap
 opened o s = record o {
   state = s;
-  front = opening (banks_left o o.closing) (o.now + 1 + length (levels_of o));
+  front = opening (banks_left o.closing) (o.now + 1 + length (levels_of o));
   ended = true;
 }
 
@@ -117,10 +117,6 @@ levels-alike t u is alike =
     (sym (count-alike o.delays o.levels o.now o.levels (with_counter o.behind o.state) (with_counter o.behind u) o.front
     (counted-machine o.behind o.state is.scene.machine is.counter) (counted-alike o.behind o.state u alike) (omega (arith, is.last))))
 
-banks-same : (o : Overlap) (u : Machine) (c : Option LastAnswers) → banks_left (record o { state = u }) c ≡ banks_left o c
-banks-same o u None = refl
-banks-same o u (Some banks) = refl
-
 ended-first : (t : Together) (u : Machine) → IsBehind t → AreAlikeBesideOrders t.machine.state u
     → ended (record t.machine { state = u }) ≡ opened t.machine u
 unfolding ended
@@ -128,9 +124,7 @@ ended-first t u is alike =
     let o = t.machine in
     let v = record o { state = u } in
     ap (λ b. if b then v else opened v u) is.going
-    ∙ (ap (λ (b : LastAnswers). record o { state = u; front = opening b (o.now + 1 + length (levels_of (record o { state = u }))); ended = true })
-    (banks-same o u o.closing)
-    ∙ ap (λ k. record o { state = u; front = opening (banks_left o o.closing) (o.now + 1 + k); ended = true }) (levels-alike t u is alike))
+    ∙ ap (λ k. record o { state = u; front = opening (banks_left o.closing) (o.now + 1 + k); ended = true }) (levels-alike t u is alike)
 
 pub ended-behind : (t : Together) → IsBehind t → ended t.machine ≡ opened t.machine t.machine.state
 unfolding ended
@@ -189,4 +183,4 @@ opening-none ds n (suc k) t s banks start now early =
 
 pub opened-none : (o : Overlap) (s : Machine) → levels_of (opened o s) ≡ []
 unfolding levels_of seen
-opened-none o s = opening-none o.delays o.levels o.levels o.taken s (banks_left o o.closing) (o.now + 1 + length (levels_of o)) o.now (omega arith)
+opened-none o s = opening-none o.delays o.levels o.levels o.taken s (banks_left o.closing) (o.now + 1 + length (levels_of o)) o.now (omega arith)

@@ -25,7 +25,7 @@ ended-parts : (o : Overlap) → HasParts o (ended o)
 unfolding ended
 ended-parts o =
     of_choice (λ (q : Overlap). HasParts o q) o.ended o
-    (record o { front = opening (banks_left o o.closing) (o.now + 1 + length (levels_of o)); ended = true })
+    (record o { front = opening (banks_left o.closing) (o.now + 1 + length (levels_of o)); ended = true })
     (record { delays = refl; levels = refl }) (record { delays = refl; levels = refl })
 
 settled-parts : (due : Option ℕ) (waits : Bool) (behind : Option ℕ) (o : Overlap) → HasParts o (settled_by due waits behind o)

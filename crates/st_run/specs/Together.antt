@@ -73,7 +73,7 @@ moment_of t = record {
   front = t.machine.front;
   missed = is_some t.machine.behind;
   dropped = levels_of t.machine;
-  banks = banks_left t.machine t.machine.closing;
+  banks = banks_left t.machine.closing;
 }
 
 -- ---- what comes between two entries has come in part
