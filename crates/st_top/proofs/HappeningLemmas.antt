@@ -4,7 +4,6 @@ use Rattle.std.proofs.lemmas.List.{map-append, append-nil}
 use Rattle.std.proofs.lemmas.Grind.{flat_map-append}
 use Rattle.std.specs.List.{flat_map}
 use Rattle.st_card.specs.Controls.{Asked}
-use Rattle.st_state.specs.Machine.{Machine}
 use Rattle.st_state.specs.Orders.{next_device}
 use Rattle.st_state.specs.declared.devices.Order.{Order}
 use Rattle.st_state.specs.declared.devices.Device.{Device}
@@ -14,9 +13,9 @@ use Rattle.st_exec.specs.Step.{rests, interrupt}
 use Rattle.st_run.specs.Run.{Scene, Happening, Prints, Interrupts, Executes, Ends, settled, with_due_signals, with_due_orders, with_reader, with_printer, if_due, with_device, with_order_at_rest, with_wait, interrupts_by, nothing}
 use Rattle.st_report.specs.Line.{prt_line, trc_line, row_line, drop_line, int_line, time_line, end_line, done_line, ticks_line}
 use Rattle.st_run.specs.Events.{Event, Timed, Completes, Drops, Shows, Happens, plain as plain_event, untimed, drop_of, snapshot}
-use Rattle.st_run.specs.Moments.{Moment, Standing, start, next_state, standing, next_moment, ends_segment}
+use Rattle.st_run.specs.Moments.{Moment, Standing, next_state, standing, next_moment, ends_segment}
 use Rattle.st_run.specs.TimedRun.{at, ticks_before, ticks_from, drops, drops_if_ends, happening_at, between, snapshot_at, completion, until_done, last_snapshot_at, last_events, timed_from}
-use Rattle.st_run.specs.Told.{Told, told, told_of, what_of}
+use Rattle.st_run.specs.Told.{told, told_of, what_of}
 use Rattle.st_run.proofs.DoneLemmas.{settled-done}
 use Rattle.st_top.specs.Marks.{Marked, marked, plain, unmarked, marked_lines, marked_report}
 use Rattle.st_top.specs.Report.{line_if, block, snapshot_lines}

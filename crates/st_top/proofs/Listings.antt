@@ -1,17 +1,29 @@
 -- Writing the listing, line after line.
 use Rattle.std.proofs.Common.{◌≡◌, ℕ, ◌+◌, ◌<◌, List, [], ◌∷◌, ◌++◌, true, false, length, get_or, drop, sym, ◌∙◌, ap, subst, arith, if◌then◌else◌}
 use Rattle.std.proofs.lemmas.List.{drop_more}
-use Rattle.std.specs.Prelude.{Result, Ok, Err, IsErr}
-use Rattle.st_card.specs.Cards.{cards_of}
+use Rattle.std.specs.Prelude.{Result, Ok, Err, IsErr, All, None}
+use Rattle.st_card.specs.Cards.{cards_of, IsCardOf}
 use Rattle.st_card.specs.declared.cards.Card.{Card}
 use Rattle.st_asm.specs.Assembly.{Assembly}
+use Rattle.st_asm.specs.Sound.{IsRow}
 use Rattle.st_asm.specs.declared.naming.Symbol.{Symbol}
 use Rattle.st_asm.specs.declared.valuing.Listed.{Listed}
 use Rattle.st_io.specs.Output.{OutputState}
 use Rattle.st_io.specs.declared.Failed.{Failed}
 use Rattle.st_io.specs.Lines.{WritesLines}
 use Rattle.st_io.proofs.Progress.{LinesSoFar, lines_more, lines_failed}
-use Rattle.st_top.specs.Listing.{row_line, rows_lines, symbols_lines, listing}
+use Rattle.st_top.specs.Listing.{HasCards, row_line, rows_lines, symbols_lines, listing}
+
+-- the cards of a job that is assembled
+pub has_cards : (job : List ℕ) (rows : List Listed) (cards : List Card) → cards ≡ cards_of job → All (IsCardOf job) (cards_of job)
+    → All (λ (card : Card). card.fault ≡ None) (cards_of job) → All IsRow rows → length rows ≡ length (cards_of job) → HasCards job rows cards
+has_cards job rows cards are texts good fit same = record {
+  cards_are = are;
+  texts = subst (λ (cs : List Card). All (IsCardOf job) cs) (sym are) texts;
+  good = subst (λ (cs : List Card). All (λ (card : Card). card.fault ≡ None) cs) (sym are) good;
+  rows_fit = fit;
+  same = same ∙ ap (λ (cs : List Card). length cs) (sym are);
+}
 
 -- where the rows from the k-th on are left, the k-th comes next
 rows_next : (s t : OutputState) (all : List (List ℕ)) (job : List ℕ) (rows : List Listed) (cards : List Card) (k : ℕ) (d : Listed) (e : Card) → k < length rows → length rows ≡ length cards → LinesSoFar s t all (rows_lines job (drop k rows) (drop k cards)) → LinesSoFar s t all ((row_line job (get_or rows k d) (get_or cards k e) ∷ []) ++ rows_lines job (drop (k + 1) rows) (drop (k + 1) cards))

@@ -1,6 +1,6 @@
 -- Lines with marks: all of them, and those that are not marked.
-use Rattle.std.proofs.Common.{◌≡◌, ℕ, Bool, true, false, if◌then◌else◌, List, [], ◌∷◌, ◌++◌, length, drop, map, refl, sym, ◌∙◌, ap, append_assoc}
-use Rattle.std.proofs.lemmas.List.{map-append, append-nil}
+use Rattle.std.proofs.Common.{◌≡◌, ℕ, Bool, true, false, if◌then◌else◌, List, [], ◌∷◌, ◌++◌, length, drop, refl, sym, ◌∙◌, ap}
+use Rattle.std.proofs.lemmas.List.{map-append}
 use Rattle.std.specs.Prelude.{Result, Ok, Err}
 use Rattle.st_card.specs.Cards.{cards_of}
 use Rattle.st_card.specs.Controls.{Asked}
@@ -10,13 +10,13 @@ use Rattle.st_asm.specs.Pass.{Refusal}
 use Rattle.st_asm.specs.declared.valuing.Listed.{Listed}
 use Rattle.st_exch.specs.Reader.{has_statement, behind_statements}
 use Rattle.st_run.specs.Run.{Scene}
-use Rattle.st_io.specs.Event.{Event, lines_of, at_moment}
+use Rattle.st_io.specs.Event.{lines_of, at_moment}
 use Rattle.st_io.proofs.Writing.{lines_of-append, lines_of-at_moment}
 use Rattle.st_object.specs.Object.{Program, read_text}
 use Rattle.st_report.specs.Line.{trc_line, row_line, drop_line, int_line, time_line, end_line, done_line, ticks_line}
 use Rattle.st_run.specs.Told.{What, Done, Dropped, Printed, Interrupted, Shown, Ended, Told, told}
 use Rattle.st_top.specs.Listing.{rows_lines, row_line as card_line, symbols_lines, listing}
-use Rattle.st_top.specs.Marks.{Marked, marked, plain, all_lines, unmarked, marked_at, marked_lines, marked_report, marked_run, up_to_end, end_card, listed_lines, marked_listing, marked_by, marked_load, marked_output}
+use Rattle.st_top.specs.Marks.{Marked, marked, plain, all_lines, marked_at, marked_lines, marked_report, marked_run, up_to_end, end_card, listed_lines, marked_listing, marked_by, marked_load, marked_output}
 use Rattle.st_top.specs.Output.{output_of, start_of, loaded_start}
 use Rattle.st_top.specs.Report.{line_if, block, snapshot_lines, lines_at, lines_told, report}
 use Rattle.st_top.specs.StepsBack.{timed, end_of, last_state, states, back_lines, run_report}

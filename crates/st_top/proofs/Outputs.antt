@@ -6,14 +6,12 @@ use Rattle.st_io.specs.declared.Failed.{Failed}
 use Rattle.st_io.specs.Lines.{text}
 use Rattle.st_io.specs.Event.{StoppedAt}
 use Rattle.st_io.proofs.Writing.{wrote_at_moment}
-use Rattle.st_asm.specs.Assembly.{Assembly}
-use Rattle.st_state.specs.Machine.{Machine, opening}
+use Rattle.st_state.specs.Machine.{opening}
 use Rattle.st_top.specs.declared.moment.Moment.{Moment}
-use Rattle.st_exch.specs.Reader.{reader_cards}
-use Rattle.st_run.specs.Run.{Signal, Scene}
-use Rattle.st_top.specs.Signals.{signals_of}
+use Rattle.st_run.specs.Run.{Scene}
+use Rattle.st_run.specs.Together.{signals_of}
 use Rattle.st_object.specs.Object.{Program}
-use Rattle.st_top.specs.Output.{Output, lines_alone, output_of_run, ran_by, scene_of, start_of, loaded_by, loaded_start}
+use Rattle.st_top.specs.Output.{Output, lines_alone, output_of_run, scene_of, loaded_by, loaded_start}
 use Rattle.st_top.proofs.Besides.{no_cards}
 use Rattle.st_top.specs.Answers.{WroteAll, Writes}
 use Rattle.st_top.specs.Running.{WritesEvents}

@@ -1,12 +1,11 @@
 -- Writing the report of a run: what is told, one thing after another, and the lines before and behind it.
 use Rattle.std.proofs.Common.{◌≡◌, ℕ, List, [], ◌∷◌, ◌++◌, refl, sym, ◌∙◌, ap, subst}
-use Rattle.std.proofs.lemmas.List.{append-nil}
 use Rattle.std.specs.Prelude.{Result, Ok, Err, IsErr}
 use Rattle.st_card.specs.Controls.{Asked}
-use Rattle.st_io.specs.Output.{OutputState, Wrote}
+use Rattle.st_io.specs.Output.{OutputState}
 use Rattle.st_io.specs.declared.Failed.{Failed}
-use Rattle.st_io.specs.Lines.{text, WritesLines}
-use Rattle.st_io.specs.Event.{Event, lines_of, at_moment, StoppedAt}
+use Rattle.st_io.specs.Lines.{WritesLines}
+use Rattle.st_io.specs.Event.{Event, at_moment, StoppedAt}
 use Rattle.st_io.proofs.Writing.{wrote_at_moment, stopped_at_moment, wrote_events, events_before, events_after}
 use Rattle.st_io.proofs.Progress.{EventsSoFar, events_none, events_more, events_stopped, events_whole}
 use Rattle.st_run.specs.Told.{Told}

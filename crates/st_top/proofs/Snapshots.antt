@@ -1,6 +1,6 @@
 -- The lines of a snapshot, from the levels that the machine shows.
 use Rattle.std.proofs.Common.{◌≡◌, ℕ, zero, suc, ◌-◌, List, [], ◌∷◌, ◌++◌, length, refl, sym, ◌∙◌, ap, subst}
-use Rattle.std.specs.Prelude.{Bool, Option, None, Some, option_map, map, replicate, Result, Ok, Err, IsErr}
+use Rattle.std.specs.Prelude.{Option, None, Some, option_map, map, replicate, Result, Ok, Err, IsErr}
 use Rattle.std.specs.List.{AllZip}
 use Rattle.st_io.specs.Output.{OutputState}
 use Rattle.st_io.specs.declared.Failed.{Failed}

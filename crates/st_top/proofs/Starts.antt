@@ -9,7 +9,6 @@ use Rattle.st_exch.specs.Reader.{reader_cards}
 use Rattle.st_run.specs.Scenes.{IsCard, IsScene}
 use Rattle.st_run.specs.TimedRun.{timed_run}
 use Rattle.st_run.specs.Told.{Told, told}
-use Rattle.st_top.specs.Signals.{signals_of}
 use Rattle.st_top.specs.StepsBack.{timed}
 use Rattle.st_top.specs.Output.{scene_of}
 use Rattle.st_top.specs.declared.reporting.TheConstants.{LEVELS}

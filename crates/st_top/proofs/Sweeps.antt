@@ -18,7 +18,7 @@ use Rattle.st_run.specs.Scenes.{IsCard, IsScene}
 use Rattle.st_sweep.specs.Sweep.{without_cards}
 use Rattle.st_sweep.specs.SideBySide.{swept}
 use Rattle.st_sweep.specs.declared.sweeping.Swept.{Swept}
-use Rattle.st_top.specs.Signals.{signals_of}
+use Rattle.st_run.specs.Together.{signals_of}
 use Rattle.st_top.specs.Sweep.{levels_lines, sweep_lines, sweep_start, sweep_of}
 use Rattle.st_top.specs.Output.{output_of_sweep}
 use Rattle.st_top.specs.Answers.{WroteAll, Writes}

@@ -1,6 +1,5 @@
 pub mod Command
 pub mod CommandLine
-pub mod Signals
 pub mod Report
 pub mod StepsBack
 pub mod Beside

@@ -9,7 +9,7 @@ use Rattle.st_exch.specs.Reader.{reader_cards}
 use Rattle.st_run.specs.Run.{Scene}
 use Rattle.st_io.specs.Event.{Event, at_moment}
 use Rattle.st_report.specs.Line.{fault_line}
-use Rattle.st_top.specs.Signals.{signals_of}
+use Rattle.st_run.specs.Together.{signals_of}
 use Rattle.st_top.specs.Listing.{front}
 use Rattle.st_top.specs.StepsBack.{end_of, run_report}
 use Rattle.st_top.specs.Sweep.{sweep_lines, sweep_of}

@@ -7,7 +7,7 @@ use Rattle.st_report.specs.Line.{levels_line, calm_line}
 use Rattle.st_sweep.specs.Sweep.{without_cards}
 use Rattle.st_sweep.specs.SideBySide.{swept}
 use Rattle.st_sweep.specs.declared.sweeping.Swept.{Swept}
-use Rattle.st_top.specs.Signals.{signals_of}
+use Rattle.st_run.specs.Together.{signals_of}
 
 -- the lines of machines with n levels, n + 1 levels and so on, by their ticks
 unfoldable pub levels_lines : ℕ → List ℕ → List (List ℕ)

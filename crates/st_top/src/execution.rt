@@ -49,7 +49,7 @@ use st_asm::Assembled;
 use st_back::Back;
 use st_banks::Delays;
 use st_bits::NoMemory;
-use st_card::{Card, Controls, Signal, split};
+use st_card::{Card, Controls, Signal, cards_stand_in_their_job};
 use st_exch::Hopper;
 use st_io::{Failed, Sink};
 use st_object::Image;
@@ -142,24 +142,25 @@ fn opened(alloc: Global, image: &[u64], start: u32) -> Result<State, NoMemory>
     Ok(state)
 }
 
-/// The reader of a job, whose cards have eight words.
-fn reader(alloc: Global, job: &[u8]) -> Result<Hopper, NoMemory>
-    requires { length job.now < 2 ^ 32 }
-    ensures value { IfOk result (λ cards. cards ≡ reader_cards job.now) }
+/// The reader of a job with these cards; its cards have eight words.
+fn reader(alloc: Global, job: &[u8], cards: &[Card]) -> Result<Hopper, NoMemory>
+    requires { cards.now ≡ cards_of job.now }
+    ensures value { IfOk result (λ hopper. hopper ≡ reader_cards job.now) }
     ensures shape { IfOk result (All IsCard) }
 {
-    Hopper::new(alloc, job)
+    Hopper::of_cards(alloc, job, cards)
 }
 
 /// The machine beside a run, where steps back are asked for. It reads the cards of the same job.
 fn beside<'a>(
     alloc: Global,
     job: &[u8],
+    cards: &[Card],
     image: &[u64],
     start: u32,
     controls: &'a Controls,
 ) -> Result<Option<Past<'a>>, NoMemory>
-    requires short { length job.now < 2 ^ 32 }
+    requires cards { cards.now ≡ cards_of job.now }
     requires whole { length image.now ≡ words_of_storage }
     requires registers { (w : ℕ) → w < FIRST_STORAGE_WORD → slice_index image.now w ≡ 0 }
     requires counter { start < 2 ^ 19 }
@@ -174,23 +175,24 @@ fn beside<'a>(
         return Ok(None);
     }
     let machine = State::new(alloc, image, start)?;
-    let cards = Hopper::new(alloc, job)?;
+    let hopper = Hopper::of_cards(alloc, job, cards)?;
     let steps = Back::new(alloc, depth)?;
-    Ok(Some((Scene::new(machine, signals(controls), cards), steps)))
+    Ok(Some((Scene::new(machine, signals(controls), hopper), steps)))
 }
 
 /// A run that is ready to be told, and the machine beside it, where steps back are asked for.
 type Prepared<'a> = (Run<'a, LEVELS>, Option<Past<'a>>);
 
-/// Takes all memory of a run: that of an image, a start and controls, with the reader's cards of a job.
+/// Takes all memory of a run: that of an image, a start and controls, with the reader's cards of a job, whose cards these are.
 fn prepare<'a>(
     alloc: Global,
     job: &[u8],
+    cards: &[Card],
     image: &[u64],
     start: u32,
     controls: &'a Controls,
 ) -> Result<Prepared<'a>, NoMemory>
-    requires short { length job.now < 2 ^ 32 }
+    requires cards { cards.now ≡ cards_of job.now }
     requires whole { length image.now ≡ words_of_storage }
     requires registers { (w : ℕ) → w < FIRST_STORAGE_WORD → slice_index image.now w ≡ 0 }
     requires counter { start < 2 ^ 19 }
@@ -206,14 +208,14 @@ fn prepare<'a>(
     ensures scene { IfOk result (λ run. IsScene (scene_of image.now start controls.now job.now)) }
 {
     let state = opened(alloc, image, start)?;
-    let cards = reader(alloc, job)?;
+    let hopper = reader(alloc, job, cards)?;
     let delays = delays(alloc, controls)?;
-    let past = beside(alloc, job, image, start, controls)?;
+    let past = beside(alloc, job, cards, image, start, controls)?;
     let run = Run::new(
         state,
         delays,
         signals(controls),
-        cards,
+        hopper,
         snaps(controls),
         budget(controls),
     );
@@ -247,39 +249,30 @@ fn answer_run<K: Sink>(
 }
 
 /// Runs a job that is assembled from its start, and writes its report. A deck that is made has its seed and its number of
-/// cards in `made`, and begins with their line.
+/// cards in `made`, and begins with their line. `cards` are the cards of the job.
 #[tactic(auto, using(st_bits::specs::Storage::words_of_storage_is, crate::proofs::Times::keeps_still))]
 pub fn execute<K: Sink>(
     alloc: Global,
     made: Option<(u64, u32)>,
     job: &[u8],
+    cards: &[Card],
     program: &Assembled,
     out: &mut K,
 ) -> Answer
-    requires short { length job.now < 2 ^ 32 }
+    requires cards { cards.now ≡ cards_of job.now }
     requires sound { IsSound (length (cards_of job.now)) (shown program.now) }
     requires good { All (λ card. card.fault ≡ None) (cards_of job.now) }
     ensures writes { Writes result.status (K.output out.old) (K.output out.new)
         (ran_by made job.now (Ok (shown program.now))) result }
     ensures in_time { KeepsTime program.now.controls.delays result }
 {
+    cards_stand_in_their_job();
     let words = program.image.as_slice();
-    let Ok(cards) = split(alloc, job) else {
+    let start = program.start;
+    let Ok((mut run, mut past)) = prepare(alloc, job, cards, words, start, &program.controls) else {
         return Answer::without_run(Status::NoMemory);
     };
-    let Ok((mut run, mut past)) = prepare(alloc, job, words, program.start, &program.controls)
-    else {
-        return Answer::without_run(Status::NoMemory);
-    };
-    answer_run(
-        out,
-        made,
-        job,
-        cards.as_slice(),
-        program,
-        &mut run,
-        &mut past,
-    )
+    answer_run(out, made, job, cards, program, &mut run, &mut past)
 }
 
 /// Writes the report of the run of a program that was loaded, and answers.
@@ -312,8 +305,8 @@ pub fn execute_loaded<K: Sink>(alloc: Global, program: &Image, out: &mut K) -> A
     ensures in_time { KeepsTime program.now.controls.delays result }
 {
     let words = program.words.as_slice();
-    let Ok((mut run, mut past)) = prepare(alloc, b"", words, program.start, &program.controls)
-    else {
+    let start = program.start;
+    let Ok((mut run, mut past)) = prepare(alloc, b"", &[], words, start, &program.controls) else {
         return Answer::without_run(Status::NoMemory);
     };
     answer_loaded(out, &mut run, &mut past, &program.controls)

@@ -2,10 +2,11 @@
 ghost use Rattle.std.specs.Prelude.{◌≡◌, ◌<◌, ◌≤◌, ◌^◌, None, false, map, length};
 ghost use Rattle.std.specs.List.{list_all};
 ghost use Rattle.std.specs.String.{string_bytes};
+ghost use Rattle.st_asm.specs.Assembly.{assembly};
 ghost use Rattle.st_top.specs.Command.{command_of, IsWithinCards};
 ghost use Rattle.st_top.specs.CommandLine.{is_plain};
-ghost use Rattle.st_top.specs.declared.command.Command.TheVariants.{Run, Assemble, Load, Disassemble, Sweep};
-ghost use Rattle.st_top.specs.Output.{output_of, delays_of, soaked, soaked_delays};
+ghost use Rattle.st_top.specs.declared.command.Command.TheVariants.{Assemble, Load, Disassemble, Sweep};
+ghost use Rattle.st_top.specs.Output.{output_of, delays_of, ran_by, assembled_delays, soaked, soaked_delays};
 ghost use Rattle.st_top.specs.Answers.{Did, Acted, IsAnswer, Writes, KeepsTime};
 ghost use Rattle.st_top.specs.Layers.{Ends, Tries};
 
@@ -16,7 +17,8 @@ use crate::layer_error::LayerError;
 use crate::objects::{answer_deck, answer_object, image_of};
 use crate::refusal::refuse;
 use crate::sweeping::execute_sweep;
-use st_asm::assemble;
+use st_asm::{assemble, assemble_cards};
+use st_card::split;
 use st_gen::make_deck;
 use st_io::{Sink, Source, read_all};
 use st_object::read_object;
@@ -25,14 +27,23 @@ use std::alloc::Global;
 /// The longest job, in bytes.
 const JOB_LIMIT: u32 = 2_000_000;
 
-/// Assembles a job and runs it.
-#[tactic(auto, unfolding(crate::specs::Output::output_of, crate::specs::Output::delays_of))]
-fn run_job<K: Sink>(alloc: Global, job: &[u8], out: &mut K) -> Result<Answer, LayerError>
+/// Assembles a job, made by a seed with a number of cards or not, and runs it. Its cards are cut once.
+fn run_job<K: Sink>(
+    alloc: Global,
+    made: Option<(u64, u32)>,
+    job: &[u8],
+    out: &mut K,
+) -> Result<Answer, LayerError>
     requires { length job.now < 2 ^ 32 }
-    ensures { Ends (K.output out.old) (K.output out.new) (output_of Run job.now) (delays_of Run job.now) result }
+    ensures { Ends (K.output out.old) (K.output out.new) (ran_by made job.now (assembly job.now))
+        (assembled_delays (assembly job.now)) result }
 {
-    let program = assemble(alloc, job)?;
-    Ok(execute(alloc, None, job, &program, out))
+    let Ok(cards) = split(alloc, job) else {
+        return Err(LayerError::NoMemory);
+    };
+    let deck = cards.as_slice();
+    let program = assemble_cards(alloc, job, deck)?;
+    Ok(execute(alloc, made, job, deck, &program, out))
 }
 
 /// Assembles a job and writes its object text.
@@ -90,9 +101,7 @@ fn run_made<K: Sink>(
         return Err(LayerError::NoMemory);
     };
     let made = Some((number, cards));
-    let job = deck.as_slice();
-    let program = assemble(alloc, job)?;
-    Ok(execute(alloc, made, job, &program, out))
+    run_job(alloc, made, deck.as_slice(), out)
 }
 
 /// Does what a command asks for on a job that was read, as far as no layer refuses it. `soak` does not look at the job.
@@ -109,7 +118,7 @@ fn try_job<K: Sink>(
         (delays_of command job.now) result }
 {
     match command {
-        Command::Run => run_job(alloc, job, out),
+        Command::Run => run_job(alloc, None, job, out),
         Command::Assemble => assemble_job(alloc, job, out),
         Command::Load => load_job(alloc, job, out),
         Command::Disassemble => disassemble_text(alloc, job, out),

@@ -4,7 +4,7 @@ ghost use Rattle.std.specs.List.{AllPass};
 ghost use Rattle.st_card.specs.Limits.{is_signal};
 ghost use Rattle.st_state.specs.Orders.{is_due as is_due_of};
 ghost use Rattle.st_run.specs.Run as run;
-ghost use Rattle.st_top.specs.Signals.{signals_of};
+ghost use Rattle.st_run.specs.Together.{signals_of};
 
 use st_card::Signal;
 use st_exch::Hopper;
@@ -24,7 +24,7 @@ impl<'a> Model for Scene<'a> {
     ghost use Rattle.std.specs.List.{AllPass};
     ghost use Rattle.st_card.specs.Limits.{is_signal};
     ghost use Rattle.st_run.specs.Run as run;
-    ghost use Rattle.st_top.specs.Signals.{signals_of};
+    ghost use Rattle.st_run.specs.Together.{signals_of};
 
     ghost Value = { run.Scene };
 
@@ -40,7 +40,7 @@ impl<'a> Model for Scene<'a> {
 impl<'a> Scene<'a> {
     ghost use Rattle.std.specs.List.{AllPass};
     ghost use Rattle.st_card.specs.Limits.{is_signal};
-    ghost use Rattle.st_top.specs.Signals.{signals_of};
+    ghost use Rattle.st_run.specs.Together.{signals_of};
 
     /// A run at its start.
     pub fn new(machine: State, signals: &'a [Signal], cards: Hopper) -> Scene<'a>

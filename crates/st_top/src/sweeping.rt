@@ -1,5 +1,5 @@
 //! A job on machines of one to eight levels, and what is written of it.
-ghost use Rattle.std.specs.Prelude.{◌≡◌, ◌+◌, ◌≤◌, ◌<◌, ◌^◌, ℕ, Ok, None, [], ◌∷◌, All, IfOk, IfSome, MatchOption, length, slice_index};
+ghost use Rattle.std.specs.Prelude.{◌≡◌, ◌+◌, ◌≤◌, ◌<◌, ◌^◌, ℕ, Ok, None, [], ◌∷◌, IfOk, IfSome, MatchOption, length, slice_index};
 ghost use Rattle.st_bits.specs.Storage.{words_of_storage};
 ghost use Rattle.st_bits.specs.declared.register.TheConstants.{FIRST_STORAGE_WORD};
 ghost use Rattle.st_asm.specs.Assembly.{shown};

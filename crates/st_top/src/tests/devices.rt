@@ -4,12 +4,25 @@ ghost use Rattle.st_io.specs.Memory.{memory_output};
 
 use super::decks::cards::{LISTED, LISTING, LOAD, LOADED, TRACE, TRACED};
 use super::decks::runs::{PRINTED, PRINTS, TABLE_SUM, TABLE_SUMMED};
-use super::{answered, run_failing};
+use super::{answered, check, run_failing};
 use crate::{Answer, Status};
 use st_io::{Failed, MemSink, MemSource, Sink, SureSource, read_all};
 use std::alloc::Global;
-use std::process::Abort;
 use std::test::Fail;
+
+/// Whether words mean nothing, and touch neither the job nor the report.
+fn is_untouched(alloc: Global, line: &[&str]) -> Result<bool, Fail> {
+    // The first read fails.
+    let bytes = LOAD.as_bytes().to_vec(alloc)?;
+    let mut job = MemSource::new(bytes, [1].to_vec(alloc)?);
+    let mut out = MemSink::new(Vec::with_capacity(alloc, 9)?, Vec::new(alloc));
+    let answer = answered(alloc, line, &mut job, &mut out)?;
+    Ok(
+        answer == Answer::without_run(Status::Usage)
+            && out.bytes().is_empty()
+            && read_all(alloc, &mut job, 99).is_err(),
+    )
+}
 
 #[test]
 fn words_that_mean_nothing_touch_neither_job_nor_report(rt: HostRuntime) -> Result<(), Fail> {
@@ -37,17 +50,7 @@ fn words_that_mean_nothing_touch_neither_job_nor_report(rt: HostRuntime) -> Resu
         &["sweep", "8"],
     ];
     for line in lines {
-        let bytes = LOAD.as_bytes().to_vec(rt.alloc())?;
-        let mut job = MemSource::new(bytes, [1].to_vec(rt.alloc())?);
-        let mut out = MemSink::new(Vec::with_capacity(rt.alloc(), 9)?, Vec::new(rt.alloc()));
-        let answer = answered(rt.alloc(), line, &mut job, &mut out)?;
-        assert_eq!(rt; answer, Answer::without_run(Status::Usage), "at {line:?}");
-        assert_eq!(rt; out.bytes(), b"".as_slice(), "at {line:?}");
-        // The first read fails, and it was not made before.
-        assert!(rt;
-            read_all(rt.alloc(), &mut job, 99).is_err(),
-            "read at {line:?}"
-        );
+        check(is_untouched(rt.alloc(), line)?, "a bad command line")?;
     }
     Ok(())
 }
@@ -62,19 +65,30 @@ fn behind_comments(alloc: Global, comments: u32, job: &str) -> Result<Vec<u8>, F
     Ok(bytes)
 }
 
+/// Whether nothing is written where this read of a job behind comment cards fails.
+fn fails_at_read(alloc: Global, comments: u32, job: &str, read: u32) -> Result<bool, Fail> {
+    let job = behind_comments(alloc, comments, job)?;
+    let (answer, out) = run_failing(alloc, job, read, 0)?;
+    Ok(answer == Answer::without_run(Status::ReadFault) && out.bytes().is_empty())
+}
+
+/// Whether a job behind comment cards is done where this read would fail.
+fn is_read_before(alloc: Global, comments: u32, job: &str, read: u32) -> Result<bool, Fail> {
+    let job = behind_comments(alloc, comments, job)?;
+    let (answer, _) = run_failing(alloc, job, read, 0)?;
+    Ok(answer.status == Status::Done)
+}
+
 #[test]
 fn each_read_that_fails_leaves_nothing_written(rt: HostRuntime) -> Result<(), Fail> {
     // A read takes 4096 bytes at most, and the last one finds the end.
     for (comments, job, reads) in [(0, LOAD, 2), (0, TABLE_SUM, 2), (19_997, LOAD, 11)] {
         for read in 1..reads + 1 {
-            let job = behind_comments(rt.alloc(), comments, job)?;
-            let (answer, out) = run_failing(rt.alloc(), job, read, 0)?;
-            assert_eq!(rt; answer, Answer::without_run(Status::ReadFault), "at {read}");
-            assert_eq!(rt; out.bytes(), b"".as_slice(), "at {read}");
+            let fails = fails_at_read(rt.alloc(), comments, job, read)?;
+            check(fails, "a read that fails")?;
         }
-        let job = behind_comments(rt.alloc(), comments, job)?;
-        let (answer, _) = run_failing(rt.alloc(), job, reads + 1, 0)?;
-        assert_eq!(rt; answer.status, Status::Done, "of {reads}");
+        let done = is_read_before(rt.alloc(), comments, job, reads + 1)?;
+        check(done, "a read that is not made")?;
     }
     Ok(())
 }
@@ -83,9 +97,8 @@ fn each_read_that_fails_leaves_nothing_written(rt: HostRuntime) -> Result<(), Fa
 fn a_job_of_one_byte_more_than_the_longest_is_told(rt: HostRuntime) -> Result<(), Fail> {
     let job = behind_comments(rt.alloc(), 1_000_000, "*")?;
     let (answer, out) = run_failing(rt.alloc(), job, 0, 0)?;
-    assert_eq!(rt; answer, Answer::without_run(Status::JobTooLong));
-    assert_eq!(rt; out.bytes(), b"".as_slice());
-    Ok(())
+    let told = answer == Answer::without_run(Status::JobTooLong) && out.bytes().is_empty();
+    check(told, "a job that is too long")
 }
 
 /// A job and its report, and for groups of lines the number of instructions done when they are written: each
@@ -153,30 +166,23 @@ fn first_lines(alloc: Global, report: &str, lines: u32) -> Result<Vec<u8>, Fail>
     Ok(front)
 }
 
-/// Lets the write of this line fail, counted from 0. Says whether there is such a line.
-fn fails_at_line(rt: &(impl Abort + AllocGlobal), run: &Written, line: u32) -> Result<bool, Fail>
+/// Lets the write of this line fail, counted from 0: the lines before it are written, or where there is none the whole
+/// report. Says whether there is such a line.
+fn fails_at_line(alloc: Global, run: &Written, line: u32) -> Result<bool, Fail>
     requires { line < 100 }
 {
-    let job = run.job.as_bytes().to_vec(rt.alloc())?;
-    let (answer, out) = run_failing(rt.alloc(), job, 0, line + 1)?;
+    let job = run.job.as_bytes().to_vec(alloc)?;
+    let (answer, out) = run_failing(alloc, job, 0, line + 1)?;
     let Some(done) = done_at(run.groups, line) else {
-        assert_eq!(rt;
-            answer.status,
-            Status::Done,
-            "behind the report on {}",
-            run.job
-        );
-        assert_eq!(rt; out.bytes(), run.report.as_bytes());
+        let whole = answer.status == Status::Done && out.bytes() == run.report.as_bytes();
+        check(whole, run.job)?;
         return Ok(false);
     };
-    assert_eq!(rt;
-        (answer.status, answer.done),
-        (Status::WriteFault, done),
-        "at line {line} of the report on {}",
-        run.job
-    );
-    let front = first_lines(rt.alloc(), run.report, line)?;
-    assert_eq!(rt; out.bytes(), front.as_slice(), "at line {line}");
+    let front = first_lines(alloc, run.report, line)?;
+    let cut = answer.status == Status::WriteFault
+        && answer.done == done
+        && out.bytes() == front.as_slice();
+    check(cut, run.job)?;
     Ok(true)
 }
 
@@ -184,7 +190,7 @@ fn fails_at_line(rt: &(impl Abort + AllocGlobal), run: &Written, line: u32) -> R
 fn each_write_that_fails_leaves_the_lines_before_it(rt: HostRuntime) -> Result<(), Fail> {
     for run in &WRITTEN {
         for line in 0..100 {
-            if !fails_at_line(&rt, run, line)? {
+            if !fails_at_line(rt.alloc(), run, line)? {
                 break;
             }
         }
@@ -195,24 +201,23 @@ fn each_write_that_fails_leaves_the_lines_before_it(rt: HostRuntime) -> Result<(
 #[test]
 fn the_line_that_refuses_may_fail(rt: HostRuntime) -> Result<(), Fail> {
     let (answer, out) = run_failing(rt.alloc(), Vec::new(rt.alloc()), 0, 1)?;
-    assert_eq!(rt; answer, Answer::without_run(Status::WriteFault));
-    assert_eq!(rt; out.bytes(), b"".as_slice());
-    Ok(())
+    let told = answer == Answer::without_run(Status::WriteFault) && out.bytes().is_empty();
+    check(told, "a refusal that is not written")
+}
+
+/// Whether a sink with so much room holds a front of the report of one load.
+fn holds_front(alloc: Global, room: usize) -> Result<bool, Fail> {
+    let mut job = SureSource::new(LOAD.as_bytes().to_vec(alloc)?);
+    let mut out = MemSink::new(Vec::with_capacity(alloc, room)?, Vec::new(alloc));
+    let answer = answered(alloc, &["run"], &mut job, &mut out)?;
+    let front = LOADED.as_bytes().get(..room).ok_or("no such front")?;
+    Ok(answer.status == Status::WriteFault && answer.done == 2 && out.bytes() == front)
 }
 
 #[test]
 fn a_sink_that_is_full_holds_a_front_of_the_report(rt: HostRuntime) -> Result<(), Fail> {
     for room in 0..LOADED.len() {
-        let mut job = SureSource::new(LOAD.as_bytes().to_vec(rt.alloc())?);
-        let mut out = MemSink::new(Vec::with_capacity(rt.alloc(), room)?, Vec::new(rt.alloc()));
-        let answer = answered(rt.alloc(), &["run"], &mut job, &mut out)?;
-        assert_eq!(rt;
-            (answer.status, answer.done),
-            (Status::WriteFault, 2),
-            "room {room}"
-        );
-        let front = LOADED.as_bytes().get(..room).ok_or("no such front")?;
-        assert_eq!(rt; out.bytes(), front, "room {room}");
+        check(holds_front(rt.alloc(), room)?, "a sink that is full")?;
     }
     Ok(())
 }
@@ -232,21 +237,30 @@ impl Sink for Slow {
     }
 }
 
+/// Whether this write of five bytes fails so.
+fn fails_within(alloc: Global, write: u32, written: &str) -> Result<bool, Fail> {
+    let buffer = Vec::with_capacity(alloc, 1000)?;
+    let mut out = Slow {
+        sink: MemSink::new(buffer, [write].to_vec(alloc)?),
+    };
+    let mut job = SureSource::new(LOAD.as_bytes().to_vec(alloc)?);
+    let answer = answered(alloc, &["run"], &mut job, &mut out)?;
+    Ok(
+        answer.status == Status::WriteFault
+            && answer.done == 2
+            && out.sink.bytes() == written.as_bytes(),
+    )
+}
+
 #[test]
 fn a_write_may_fail_within_a_line(rt: HostRuntime) -> Result<(), Fail> {
-    for (write, status, written) in [
-        (2, Status::WriteFault, "END W"),
-        (4, Status::WriteFault, "END WAIT\nDONE "),
-        (5, Status::WriteFault, "END WAIT\nDONE 2\n"),
+    for (write, written) in [
+        (2, "END W"),
+        (4, "END WAIT\nDONE "),
+        (5, "END WAIT\nDONE 2\n"),
     ] {
-        let buffer = Vec::with_capacity(rt.alloc(), 1000)?;
-        let mut out = Slow {
-            sink: MemSink::new(buffer, [write].to_vec(rt.alloc())?),
-        };
-        let mut job = SureSource::new(LOAD.as_bytes().to_vec(rt.alloc())?);
-        let answer = answered(rt.alloc(), &["run"], &mut job, &mut out)?;
-        assert_eq!(rt; (answer.status, answer.done), (status, 2));
-        assert_eq!(rt; out.sink.bytes(), written.as_bytes());
+        let cut = fails_within(rt.alloc(), write, written)?;
+        check(cut, written)?;
     }
     Ok(())
 }

@@ -1,6 +1,7 @@
 //! The object text of a job, and what is refused instead.
 use super::decks::Case;
-use super::{Answer, Status, answer_to};
+use super::{answer_case, check};
+use crate::{Answer, Status};
 use std::test::Fail;
 
 /// The deck of one load and a wait, and its object text.
@@ -27,45 +28,32 @@ const REFUSED: [Case; 2] = [
     },
 ];
 
-#[test]
-fn a_job_is_assembled_to_its_object_text_and_does_not_run(rt: HostRuntime) -> Result<(), Fail> {
-    let (answer, written) = answer_to(rt.alloc(), "assemble", LOAD.as_bytes().to_vec(rt.alloc())?)?;
-    assert_eq!(rt; answer, Answer::without_run(Status::Done));
-    let written = written.ok_or("no room")?;
-    assert_eq!(rt; written.as_slice(), OBJECT.as_bytes());
-    Ok(())
-}
+/// The object text of that deck, and its report.
+const ASSEMBLED: Case = Case {
+    shows: "a job is assembled and does not run",
+    job: LOAD,
+    report: OBJECT,
+};
+
+const RUN: Case = Case {
+    shows: "an object text gives the report of its job",
+    job: OBJECT,
+    report: REPORT,
+};
 
 #[test]
-fn an_object_text_gives_the_report_of_its_job(rt: HostRuntime) -> Result<(), Fail> {
-    let (answer, written) = answer_to(rt.alloc(), "load", OBJECT.as_bytes().to_vec(rt.alloc())?)?;
-    assert_eq!(rt; (answer.status, answer.done), (Status::Done, 2));
-    let written = written.ok_or("no room")?;
-    assert_eq!(rt; written.as_slice(), REPORT.as_bytes());
-    Ok(())
+fn a_job_is_assembled_to_its_object_text_which_is_run(rt: HostRuntime) -> Result<(), Fail> {
+    let answer = answer_case(rt.alloc(), "assemble", &ASSEMBLED, Status::Done)?;
+    check(answer == Answer::without_run(Status::Done), ASSEMBLED.shows)?;
+    let answer = answer_case(rt.alloc(), "load", &RUN, Status::Done)?;
+    check(answer.done == 2, RUN.shows)
 }
 
 #[test]
 fn a_bad_object_text_is_refused_at_its_first_bad_line(rt: HostRuntime) -> Result<(), Fail> {
-    for case in REFUSED {
-        let (answer, written) = answer_to(
-            rt.alloc(),
-            "load",
-            case.job.as_bytes().to_vec(rt.alloc())?,
-        )?;
-        assert_eq!(rt;
-            answer,
-            Answer::without_run(Status::Refused),
-            "{}",
-            case.shows
-        );
-        let written = written.ok_or("no room")?;
-        assert_eq!(rt;
-            written.as_slice(),
-            case.report.as_bytes(),
-            "{}",
-            case.shows
-        );
+    for case in &REFUSED {
+        let answer = answer_case(rt.alloc(), "load", case, Status::Refused)?;
+        check(answer == Answer::without_run(Status::Refused), case.shows)?;
     }
     Ok(())
 }

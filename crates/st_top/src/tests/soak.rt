@@ -1,40 +1,47 @@
 //! Decks that are made.
-use super::{answer_to, answered};
+ghost use Rattle.std.specs.Prelude.{◌≤◌};
+
+use super::{answer_to, answered, check};
 use crate::{Answer, Status};
 use st_gen::make_deck;
 use st_io::{MemSource, SureSink, read_all};
+use std::alloc::Global;
 use std::test::Fail;
+
+/// Whether a made deck is run behind its line as a job is, and no job is read.
+fn is_run_behind(
+    alloc: Global,
+    words: &[&str],
+    number: u64,
+    cards: u32,
+    line: &str,
+) -> Result<bool, Fail>
+    requires { cards ≤ 4000 }
+{
+    // The first read fails.
+    let mut job = MemSource::new(Vec::new(alloc), [1].to_vec(alloc)?);
+    let mut out = SureSink::new(Vec::with_capacity(alloc, 4000)?);
+    let answer = answered(alloc, words, &mut job, &mut out)?;
+    let (alone, report) = answer_to(alloc, "run", make_deck(alloc, number, cards)?)?;
+    let mut wanted = line.as_bytes().to_vec(alloc)?;
+    wanted.extend_from_slice(report.ok_or("no room")?.as_slice())?;
+    let lines = out.into_bytes().ok_or("no room")?;
+    Ok(
+        answer.status == Status::Done
+            && answer == alone
+            && lines.as_slice() == wanted.as_slice()
+            && read_all(alloc, &mut job, 99).is_err(),
+    )
+}
 
 #[test]
 fn a_made_deck_is_run_behind_its_line(rt: HostRuntime) -> Result<(), Fail> {
-    let alloc = rt.alloc();
-    let cases: [(&[&str], u64, u32, &str); 2] = [
-        (&["soak", "49", "9"], 49, 9, "SOAK 49 9\n"),
-        (
-            &["soak", "18446744073709551615", "00000000000000000001"],
-            u64::MAX,
-            1,
-            "SOAK 18446744073709551615 1\n",
-        ),
-    ];
-    for (words, number, cards, line) in cases {
-        let mut job = MemSource::new(Vec::new(alloc), [1].to_vec(alloc)?);
-        let mut out = SureSink::new(Vec::with_capacity(alloc, 4000)?);
-        let answer = answered(alloc, words, &mut job, &mut out)?;
-        assert_eq!(rt; answer.status, Status::Done, "{line}");
-        let (alone, report) = answer_to(alloc, "run", make_deck(alloc, number, cards)?)?;
-        assert_eq!(rt; answer, alone, "{line}");
-        let mut wanted = line.as_bytes().to_vec(alloc)?;
-        wanted.extend_from_slice(report.ok_or("no room")?.as_slice())?;
-        assert_eq!(rt;
-            out.into_bytes().ok_or("no room")?.as_slice(),
-            wanted.as_slice(),
-            "{line}"
-        );
-        // The first read fails, and it was not made before.
-        assert!(rt; read_all(alloc, &mut job, 99).is_err(), "read for {line}");
-    }
-    Ok(())
+    let short = is_run_behind(rt.alloc(), &["soak", "49", "9"], 49, 9, "SOAK 49 9\n")?;
+    check(short, "SOAK 49 9")?;
+    let words = ["soak", "18446744073709551615", "00000000000000000001"];
+    let line = "SOAK 18446744073709551615 1\n";
+    let last = is_run_behind(rt.alloc(), &words, u64::MAX, 1, line)?;
+    check(last, "the last seed")
 }
 
 #[test]
@@ -48,9 +55,9 @@ fn the_longest_deck_is_run_to_its_end(rt: HostRuntime) -> Result<(), Fail> {
         done: 4001,
         ticks: 40_840,
     };
-    assert_eq!(rt; answer, wanted);
+    check(answer == wanted, "the answer")?;
     let lines = out.into_bytes().ok_or("no room")?;
     let text = str::from_utf8(lines.as_slice()).ok().ok_or("not text")?;
-    assert!(rt; text.starts_with("SOAK 7030 4000\nEND WAIT\nDONE 4001\nTICKS 40840\n"));
-    Ok(())
+    let front = "SOAK 7030 4000\nEND WAIT\nDONE 4001\nTICKS 40840\n";
+    check(text.starts_with(front), "the first lines")
 }

@@ -1,8 +1,8 @@
 //! A job on machines of one to eight levels.
-use super::{answer_to, answered};
+use super::decks::Case;
+use super::{answer_case, answered, check};
 use crate::{Answer, Status};
 use st_io::{MemSink, SureSource};
-use std::process::Abort;
 use std::test::Fail;
 
 /// Four early index changes, one behind the other.
@@ -26,6 +26,7 @@ const MISSED: &str = "         *(BU,64),100.0
 /TIME
 ";
 
+/// The ticks of both.
 const CALM_LINES: &str = "LEVELS 1 TICKS 27
 LEVELS 2 TICKS 25
 LEVELS 3 TICKS 23
@@ -37,27 +38,45 @@ LEVELS 8 TICKS 23
 CALM 1
 ";
 
-/// Sweeps a job: the answer, and what was written.
-fn swept(rt: &(impl Abort + AllocGlobal), job: &str) -> Result<(Answer, Vec<u8>), Fail> {
-    let bytes = job.as_bytes().to_vec(rt.alloc())?;
-    let (answer, out) = answer_to(rt.alloc(), "sweep", bytes)?;
-    Ok((answer, out.ok_or("no room")?))
-}
+const MISSED_LINES: &str = "LEVELS 1 TICKS 23
+LEVELS 2 TICKS 22
+LEVELS 3 TICKS 23
+LEVELS 4 TICKS 24
+LEVELS 5 TICKS 24
+LEVELS 6 TICKS 24
+LEVELS 7 TICKS 24
+LEVELS 8 TICKS 24
+CALM 0
+";
+
+/// The jobs with their lines, and the numbers of the run on eight levels.
+const SWEPT: [(Case, u64, u64); 2] = [
+    (
+        Case {
+            shows: "early changes are calm",
+            job: CALM,
+            report: CALM_LINES,
+        },
+        6,
+        23,
+    ),
+    (
+        Case {
+            shows: "a wrong guess is not calm, and the timetable that is asked for not written",
+            job: MISSED,
+            report: MISSED_LINES,
+        },
+        5,
+        24,
+    ),
+];
 
 #[test]
 fn the_ticks_of_eight_machines_are_told(rt: HostRuntime) -> Result<(), Fail> {
-    let (answer, lines) = swept(&rt, CALM)?;
-    assert_eq!(rt; lines.as_slice(), CALM_LINES.as_bytes());
-    let wanted = Answer {
-        status: Status::Done,
-        done: 6,
-        ticks: 23,
-    };
-    assert_eq!(rt; answer, wanted);
-    let (_, lines) = swept(&rt, MISSED)?;
-    let text = str::from_utf8(lines.as_slice()).ok().ok_or("not text")?;
-    assert!(rt; text.contains("LEVELS 4 TICKS 24\n"));
-    assert!(rt; text.ends_with("CALM 0\n"));
+    for (case, done, ticks) in &SWEPT {
+        let answer = answer_case(rt.alloc(), "sweep", case, Status::Done)?;
+        check(answer.done == *done && answer.ticks == *ticks, case.shows)?;
+    }
     Ok(())
 }
 
@@ -74,6 +93,5 @@ fn a_sweep_whose_write_fails_has_done_nothing(rt: HostRuntime) -> Result<(), Fai
         done: 0,
         ticks: 0,
     };
-    assert_eq!(rt; answer, wanted);
-    Ok(())
+    check(answer == wanted, "nothing was done")
 }

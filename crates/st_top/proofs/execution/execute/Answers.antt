@@ -1,18 +1,23 @@
 use Rattle.std.proofs.Common.{List, ℕ, ap}
 use Rattle.st_asm.specs.Assembly.{shown}
-use Rattle.st_run.specs.Run.{Scene}
 use Rattle.st_top.specs.Listing.{front}
 use Rattle.st_top.specs.Output.{scene_of, output_of_run}
+use Rattle.st_top.proofs.Listings.{has_cards}
 use Rattle.st_top.proofs.Outputs.{writes_output}
 use Rattle.st_top.proofs.Times.{keeps_time}
 use Rattle.st_top.proofs.execution.execute.Goals as goal
+
+pub answer_run-requires-clause-cards : goal.answer_run-requires-clause-cards
+answer_run-requires-clause-cards g c =
+    has_cards c.args.job.now c.args.program.now.listing.items c.args.cards.now c.requires.cards (c.cards_stand_in_their_job.ensures c.args.job.now)
+    c.requires.good c.requires.sound.rows c.requires.sound.row_count
 
 pub returns-clause-writes : goal.returns-clause-writes
 returns-clause-writes g c =
     let job = c.args.job.now in
     let a = shown c.args.program.now in
     let start = scene_of c.as_slice-words.result.now a.start a.asked job in
-    let ready = c.in-Ok-prepare.ensures in
+    let ready = c.in-Ok.ensures in
     writes_output _ _ _ _ _ (ap (λ (image : List ℕ). output_of_run (front c.args.made job a) a.asked (scene_of image a.start a.asked job)) c.as_slice-words.ensures.value)
     (c.answer_run.ensures start ready.rest ready.beside)
 
@@ -21,6 +26,6 @@ returns-clause-in_time g c =
     let job = c.args.job.now in
     let a = shown c.args.program.now in
     let start = scene_of c.as_slice-words.result.now a.start a.asked job in
-    let ready = c.in-Ok-prepare.ensures in
+    let ready = c.in-Ok.ensures in
     keeps_time a.asked start _ _ (front c.args.made job a) _ c.requires.sound.delays c.requires.sound.limits.delays.each ready.scene
     (c.answer_run.ensures start ready.rest ready.beside)

@@ -6,4 +6,4 @@ use Rattle.st_top.proofs.execution.reader.Goals as goal
 pub returns-clause-shape : goal.returns-clause-shape
 returns-clause-shape c =
     let job = c.args.job.now in
-    read_cards job c.new.result (All-from_get_or (λ x. x < 256) job 0 (λ i few. omega (arith, c.type_inv.job i))) c.new.ensures
+    read_cards job c.of_cards.result (All-from_get_or (λ x. x < 256) job 0 (λ i few. omega (arith, c.type_inv.job i))) c.of_cards.ensures

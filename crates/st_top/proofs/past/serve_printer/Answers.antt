@@ -3,7 +3,7 @@ use Rattle.std.specs.Prelude.{is_none}
 use Rattle.st_state.specs.Machine.{Machine, IsMachine}
 use Rattle.st_exec.specs.Transfer.{printed_out}
 use Rattle.st_run.specs.Run.{Scene}
-use Rattle.st_top.specs.Signals.{signals_of}
+use Rattle.st_run.specs.Together.{signals_of}
 use Rattle.st_top.proofs.Besides.{printer_moved}
 use Rattle.st_top.proofs.past.serve_printer.Goals as goal
 

@@ -2,7 +2,7 @@ use Rattle.std.proofs.Common.{◌≡◌, ℕ, List, length}
 use Rattle.std.specs.List.{AllPass}
 use Rattle.st_card.specs.Limits.{is_signal}
 use Rattle.st_run.specs.Run.{with_signals_at_rest}
-use Rattle.st_top.specs.Signals.{signals_of}
+use Rattle.st_run.specs.Together.{signals_of}
 use Rattle.st_top.proofs.scene.signals_at_rest.Given as goal
 
 abbrev pub invariant-signals : goal.invariant-signals

@@ -1,4 +1,3 @@
-use Rattle.std.proofs.Common.{refl}
 use Rattle.st_top.proofs.Runs.{told_begins, told_more, told_stops, told_all}
 use Rattle.st_top.proofs.telling.write_run.Goals as goal
 
