@@ -1,2 +1,4 @@
 pub mod Joins
 pub mod MemoryLemmas
+pub mod Writing
+pub mod Progress

@@ -3,3 +3,5 @@ pub mod Input
 pub mod Output
 pub mod Memory
 pub mod Devices
+pub mod Lines
+pub mod Event

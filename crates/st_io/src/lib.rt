@@ -6,6 +6,7 @@ ghost use Rattle.std.specs.Prelude.{◌≡◌};
 ghost use Rattle.st_io.specs.Count.{counted};
 
 mod buffer;
+mod lines;
 mod mem;
 mod sink;
 mod source;
@@ -14,6 +15,7 @@ mod sure;
 #[cfg(test)]
 mod tests;
 
+pub use lines::write_line;
 pub use mem::{MemSink, MemSource};
 pub use sink::{Sink, write_all};
 pub use source::{ReadError, Source, read_all};

@@ -6,7 +6,7 @@ ghost use Rattle.st_io.specs.Memory.{sure_input, sure_output};
 
 use crate::{
     Failed, MemSink, MemSource, ReadError, Sink, Source, StdSink, StdSource, SureSink, SureSource,
-    read_all, write_all,
+    read_all, write_all, write_line,
 };
 use std::alloc::Global;
 use std::io;
@@ -184,5 +184,20 @@ fn an_error_of_a_device_is_a_fault(rt: HostRuntime) -> Result<(), Fail> {
     let mut sink = StdSink::new(short.as_mut_slice());
     assert_eq!(rt; sink.write(b""), Ok(0));
     assert_eq!(rt; write_all(&mut sink, b"ABC"), Err(Failed));
+    Ok(())
+}
+
+#[test]
+fn a_line_is_written_whole_or_its_front(rt: HostRuntime) -> Result<(), Fail> {
+    for (room, fails, result, written) in [
+        (9, 2, Ok(()), "END WAIT\n"),
+        (9, 1, Err(Failed), ""),
+        (8, 3, Err(Failed), "END WAIT"),
+    ] {
+        let buffer = Vec::with_capacity(rt.alloc(), room)?;
+        let mut out = MemSink::new(buffer, [fails].to_vec(rt.alloc())?);
+        assert_eq!(rt; write_line(&mut out, b"END WAIT\n"), result);
+        assert_eq!(rt; out.bytes(), written.as_bytes(), "with room for {room}");
+    }
     Ok(())
 }

@@ -2,7 +2,7 @@
 use Rattle.std.proofs.Common.{ℕ, ◌+◌, ◌<◌, List, ◌++◌, length, get_or, drop, ap, subst}
 use Rattle.std.proofs.lemmas.List.{drop_more}
 use Rattle.st_io.specs.Output.{OutputState}
-use Rattle.st_lines.proofs.Progress.{LinesSoFar}
+use Rattle.st_io.proofs.Progress.{LinesSoFar}
 use Rattle.st_state.specs.Machine.{Machine}
 use Rattle.st_top.specs.Report.{dump_lines, dumps_lines}
 

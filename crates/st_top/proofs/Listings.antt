@@ -9,8 +9,8 @@ use Rattle.st_asm.specs.declared.naming.Symbol.{Symbol}
 use Rattle.st_asm.specs.declared.valuing.Listed.{Listed}
 use Rattle.st_io.specs.Output.{OutputState}
 use Rattle.st_io.specs.declared.Failed.{Failed}
-use Rattle.st_lines.specs.Lines.{WritesLines}
-use Rattle.st_lines.proofs.Progress.{LinesSoFar, lines_more, lines_failed}
+use Rattle.st_io.specs.Lines.{WritesLines}
+use Rattle.st_io.proofs.Progress.{LinesSoFar, lines_more, lines_failed}
 use Rattle.st_top.specs.Listing.{row_line, rows_lines, symbols_lines, listing}
 
 -- where the rows from the k-th on are left, the k-th comes next

@@ -10,8 +10,8 @@ use Rattle.st_asm.specs.Pass.{Refusal}
 use Rattle.st_asm.specs.declared.valuing.Listed.{Listed}
 use Rattle.st_exch.specs.Reader.{has_statement, behind_statements}
 use Rattle.st_run.specs.Run.{Scene}
-use Rattle.st_lines.specs.Event.{Event, lines_of, at_moment}
-use Rattle.st_lines.proofs.Writing.{lines_of-append, lines_of-at_moment}
+use Rattle.st_io.specs.Event.{Event, lines_of, at_moment}
+use Rattle.st_io.proofs.Writing.{lines_of-append, lines_of-at_moment}
 use Rattle.st_object.specs.Object.{Program, read_text}
 use Rattle.st_report.specs.Line.{trc_line, row_line, drop_line, int_line, time_line, end_line, done_line, ticks_line}
 use Rattle.st_run.specs.Told.{What, Done, Dropped, Printed, Interrupted, Shown, Ended, Told, told}

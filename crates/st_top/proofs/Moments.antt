@@ -4,8 +4,8 @@ use Rattle.std.specs.Prelude.{Result, Ok, Err, IsErr}
 use Rattle.st_card.specs.Controls.{Asked}
 use Rattle.st_io.specs.Output.{OutputState}
 use Rattle.st_io.specs.declared.Failed.{Failed}
-use Rattle.st_lines.specs.Lines.{WritesLines}
-use Rattle.st_lines.specs.Event.{at_moment}
+use Rattle.st_io.specs.Lines.{WritesLines}
+use Rattle.st_io.specs.Event.{at_moment}
 use Rattle.st_run.specs.Run.{Scene, run}
 use Rattle.st_run.specs.Events.{Timed}
 use Rattle.st_run.specs.Order.{last_tick}

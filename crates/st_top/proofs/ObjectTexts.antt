@@ -4,8 +4,8 @@ use Rattle.std.proofs.lemmas.List.{take_at, length_push}
 use Rattle.std.specs.Prelude.{Ok}
 use Rattle.std.specs.List.{flat_map}
 use Rattle.st_io.specs.Output.{OutputState}
-use Rattle.st_lines.specs.Lines.{text}
-use Rattle.st_lines.proofs.Progress.{LinesSoFar}
+use Rattle.st_io.specs.Lines.{text}
+use Rattle.st_io.proofs.Progress.{LinesSoFar}
 use Rattle.st_report.specs.Line.{lf}
 use Rattle.st_card.specs.Pieces.{parted, onto_first}
 use Rattle.st_object.specs.Lines.{spelled}

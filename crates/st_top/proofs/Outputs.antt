@@ -3,9 +3,9 @@ use Rattle.std.proofs.Common.{◌≡◌, ℕ, List, [], sym, ◌∙◌, ap, subs
 use Rattle.std.specs.Prelude.{Result, Ok, Err, OnOk, OnErr}
 use Rattle.st_io.specs.Output.{OutputState, Wrote}
 use Rattle.st_io.specs.declared.Failed.{Failed}
-use Rattle.st_lines.specs.Lines.{text}
-use Rattle.st_lines.specs.Event.{StoppedAt}
-use Rattle.st_lines.proofs.Writing.{wrote_at_moment}
+use Rattle.st_io.specs.Lines.{text}
+use Rattle.st_io.specs.Event.{StoppedAt}
+use Rattle.st_io.proofs.Writing.{wrote_at_moment}
 use Rattle.st_asm.specs.Assembly.{Assembly}
 use Rattle.st_state.specs.Machine.{Machine, opening}
 use Rattle.st_top.specs.declared.moment.Moment.{Moment}

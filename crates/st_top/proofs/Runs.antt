@@ -5,10 +5,10 @@ use Rattle.std.specs.Prelude.{Result, Ok, Err, IsErr}
 use Rattle.st_card.specs.Controls.{Asked}
 use Rattle.st_io.specs.Output.{OutputState, Wrote}
 use Rattle.st_io.specs.declared.Failed.{Failed}
-use Rattle.st_lines.specs.Lines.{text, WritesLines}
-use Rattle.st_lines.specs.Event.{Event, lines_of, at_moment, StoppedAt}
-use Rattle.st_lines.proofs.Writing.{wrote_at_moment, stopped_at_moment, wrote_events, events_before, events_after}
-use Rattle.st_lines.proofs.Progress.{EventsSoFar, events_none, events_more, events_stopped, events_whole}
+use Rattle.st_io.specs.Lines.{text, WritesLines}
+use Rattle.st_io.specs.Event.{Event, lines_of, at_moment, StoppedAt}
+use Rattle.st_io.proofs.Writing.{wrote_at_moment, stopped_at_moment, wrote_events, events_before, events_after}
+use Rattle.st_io.proofs.Progress.{EventsSoFar, events_none, events_more, events_stopped, events_whole}
 use Rattle.st_run.specs.Told.{Told}
 use Rattle.st_top.specs.Report.{report, lines_at, lines_told}
 use Rattle.st_top.specs.Running.{WritesEvents, moment_of, last_moment}

@@ -6,8 +6,8 @@ use Rattle.st_io.specs.Output.{OutputState}
 use Rattle.st_io.specs.declared.Failed.{Failed}
 use Rattle.st_card.specs.Controls.{Asked}
 use Rattle.st_state.specs.Machine.{Machine}
-use Rattle.st_lines.specs.Lines.{WritesLines}
-use Rattle.st_lines.proofs.Progress.{lines_then, lines_cut}
+use Rattle.st_io.specs.Lines.{WritesLines}
+use Rattle.st_io.proofs.Progress.{lines_then, lines_cut}
 use Rattle.st_report.specs.Line.{lev_line, snap_line}
 use Rattle.st_ahead.specs.declared.events.LevelView.{LevelView}
 use Rattle.st_time.specs.Shown.{standing, change_of}

@@ -6,8 +6,8 @@ use Rattle.std.specs.Prelude.{Result, Ok, Err, IfOk, slice_index}
 use Rattle.std.specs.List.{AllPass}
 use Rattle.st_bits.specs.Storage.{words_of_storage}
 use Rattle.st_io.specs.Output.{OutputState, Wrote}
-use Rattle.st_lines.specs.Lines.{text}
-use Rattle.st_lines.proofs.Writing.{wrote_at_moment}
+use Rattle.st_io.specs.Lines.{text}
+use Rattle.st_io.proofs.Writing.{wrote_at_moment}
 use Rattle.st_card.specs.Controls.{Asked, is_among}
 use Rattle.st_card.specs.declared.limits.TheConstants.{MOST_DELAY}
 use Rattle.st_card.specs.declared.control_cards.Signal.{Signal as SignalCard}

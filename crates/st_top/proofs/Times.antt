@@ -5,7 +5,7 @@ use Rattle.std.proofs.lemmas.List.Elements.{All-nil, All-cons, All-head, All-tai
 use Rattle.std.specs.List.{AllPass}
 use Rattle.std.specs.Prelude.{slice_index}
 use Rattle.st_io.specs.Output.{OutputState}
-use Rattle.st_lines.specs.Event.{Event, at_moment, StoppedAt}
+use Rattle.st_io.specs.Event.{Event, at_moment, StoppedAt}
 use Rattle.st_card.specs.Controls.{Asked, is_among}
 use Rattle.st_card.specs.declared.limits.TheConstants.{MOST_DELAY}
 use Rattle.st_run.specs.Run.{Scene}

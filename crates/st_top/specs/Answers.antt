@@ -3,8 +3,8 @@ use Rattle.std.specs.Prelude.{◌≡◌, ℕ, ◌+◌, ◌*◌, ◌≤◌, List,
 use Rattle.st_io.specs.Count.{HasRisen}
 use Rattle.st_io.specs.Input.{InputState, CameWhole, CameWithin, CamePast}
 use Rattle.st_io.specs.Output.{OutputState, Wrote}
-use Rattle.st_lines.specs.Lines.{text}
-use Rattle.st_lines.specs.Event.{lines_of, StoppedAt}
+use Rattle.st_io.specs.Lines.{text}
+use Rattle.st_io.specs.Event.{lines_of, StoppedAt}
 use Rattle.st_top.specs.Output.{Output, output_of, delays_of, soaked, soaked_delays}
 use Rattle.st_top.specs.declared.answer.Answer.{Answer}
 use Rattle.st_top.specs.declared.answer.Status.{Status}

@@ -8,7 +8,7 @@ use Rattle.st_asm.specs.Pass.{Refusal}
 use Rattle.st_asm.specs.Assembly.{Assembly, assembly}
 use Rattle.st_exch.specs.Reader.{has_statement, behind_statements, reader_cards}
 use Rattle.st_run.specs.Run.{Scene}
-use Rattle.st_lines.specs.Event.{lines_of}
+use Rattle.st_io.specs.Event.{lines_of}
 use Rattle.st_object.specs.Object.{Program, read_text}
 use Rattle.st_report.specs.Line.{prt_line, trc_line, row_line, drop_line, int_line, time_line, end_line, done_line, ticks_line}
 use Rattle.st_run.specs.Told.{What, Done, Dropped, Printed, Interrupted, Shown, Ended, Told, told}

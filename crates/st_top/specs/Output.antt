@@ -7,7 +7,7 @@ use Rattle.st_asm.specs.Assembly.{Assembly, assembly}
 use Rattle.st_state.specs.Machine.{opening}
 use Rattle.st_exch.specs.Reader.{reader_cards}
 use Rattle.st_run.specs.Run.{Scene}
-use Rattle.st_lines.specs.Event.{Event, at_moment}
+use Rattle.st_io.specs.Event.{Event, at_moment}
 use Rattle.st_report.specs.Line.{fault_line}
 use Rattle.st_top.specs.Signals.{signals_of}
 use Rattle.st_top.specs.Listing.{front}

@@ -3,8 +3,8 @@
 use Rattle.std.specs.Prelude.{ℕ, ◌+◌, ◌-◌, ◌==◌, Bool, if◌then◌else◌, List, [], ◌∷◌, ◌++◌, length, map, option_map}
 use Rattle.st_card.specs.Controls.{Asked}
 use Rattle.st_state.specs.Machine.{Machine, word}
-use Rattle.st_lines.specs.Lines.{lines_for}
-use Rattle.st_lines.specs.Event.{Event, at_moment}
+use Rattle.st_io.specs.Lines.{lines_for}
+use Rattle.st_io.specs.Event.{Event, at_moment}
 use Rattle.st_report.specs.Line.{prt_line, trc_line, row_line, drop_line, int_line, time_line, snap_line, lev_line, end_line, done_line, ticks_line, ic_line, en_line, reg_line, dump_line, mem_line}
 use Rattle.st_run.specs.Events.{Level}
 use Rattle.st_run.specs.Told.{What, Done, Dropped, Printed, Interrupted, Shown, Ended, Told}

@@ -2,8 +2,8 @@
 use Rattle.std.specs.Prelude.{◌≡◌, ℕ, List, [], ◌∷◌, Option, None, Some, Result, OnOk, OnErr}
 use Rattle.st_io.specs.Output.{OutputState, Wrote}
 use Rattle.st_io.specs.declared.Failed.{Failed}
-use Rattle.st_lines.specs.Lines.{text}
-use Rattle.st_lines.specs.Event.{Event, lines_of, StoppedAt}
+use Rattle.st_io.specs.Lines.{text}
+use Rattle.st_io.specs.Event.{Event, lines_of, StoppedAt}
 use Rattle.st_report.specs.Line.{lev_line}
 use Rattle.st_ahead.specs.declared.events.LevelView.{LevelView}
 use Rattle.st_time.specs.Shown.{change_of}

@@ -4,7 +4,7 @@ use Rattle.st_card.specs.Controls.{Asked}
 use Rattle.st_state.specs.Machine.{Machine}
 use Rattle.st_exec.specs.Step.{rests}
 use Rattle.st_run.specs.Run.{Scene, settled, stepped, run}
-use Rattle.st_lines.specs.Event.{Event, at_moment}
+use Rattle.st_io.specs.Event.{Event, at_moment}
 use Rattle.st_report.specs.Line.{back_line}
 use Rattle.st_run.specs.Events.{Timed}
 use Rattle.st_run.specs.Order.{last_tick}

@@ -4,12 +4,11 @@ ghost use Rattle.std.specs.List.{AllPass};
 ghost use Rattle.st_bits.specs.declared.limits.TheConstants.{WORDS};
 ghost use Rattle.st_bits.specs.declared.register.TheConstants.{FIRST_STORAGE_WORD};
 ghost use Rattle.st_card.specs.Limits.{is_part};
-ghost use Rattle.st_lines.specs.Lines.{WritesLines, lines_for};
+ghost use Rattle.st_io.specs.Lines.{WritesLines, lines_for};
 ghost use Rattle.st_report.specs.Line.{ic_line, en_line, dump_line};
 ghost use Rattle.st_top.specs.Report.{block, register_lines, memory_lines, dump_lines, dumps_lines};
 
-use st_io::{Failed, Sink};
-use st_lines::write_line;
+use st_io::{Failed, Sink, write_line};
 use st_report::{Line, line_dump, line_en, line_ic, line_mem, line_reg};
 use st_run::Seen;
 
@@ -21,7 +20,7 @@ pub fn put<K: Sink>(out: &mut K, line: &Line) -> Result<(), Failed>
 }
 
 /// Writes the line of register `w`, where it is not zero.
-#[tactic(auto, using(st_lines::proofs::Progress::wrote_nothing, st_bits::specs::Storage::words_of_storage_is))]
+#[tactic(auto, using(st_io::proofs::Progress::wrote_nothing, st_bits::specs::Storage::words_of_storage_is))]
 fn write_register<K: Sink>(out: &mut K, seen: &Seen<'_>, w: u8) -> Result<(), Failed>
     requires { w < FIRST_STORAGE_WORD }
     ensures { WritesLines (K.output out.old) (K.output out.new)
@@ -46,7 +45,7 @@ fn write_registers<K: Sink>(out: &mut K, seen: &Seen<'_>) -> Result<(), Failed>
 }
 
 /// Writes the line of the word at `w`, where it is not zero.
-#[tactic(auto, using(st_lines::proofs::Progress::wrote_nothing, st_bits::specs::Storage::words_of_storage_is))]
+#[tactic(auto, using(st_io::proofs::Progress::wrote_nothing, st_bits::specs::Storage::words_of_storage_is))]
 fn write_memory<K: Sink>(out: &mut K, seen: &Seen<'_>, w: u32) -> Result<(), Failed>
     requires { w < WORDS }
     ensures { WritesLines (K.output out.old) (K.output out.new) (memory_lines seen.now w) result }

@@ -3,7 +3,7 @@ ghost use Rattle.std.specs.Prelude.{◌≡◌, ℕ, Bool, List, Ok};
 ghost use Rattle.st_card.specs.Controls.{Asked};
 ghost use Rattle.st_asm.specs.Assembly.{Assembly, assembly};
 ghost use Rattle.st_run.specs.Run.{Scene};
-ghost use Rattle.st_lines.specs.Event.{lines_of};
+ghost use Rattle.st_io.specs.Event.{lines_of};
 ghost use Rattle.st_object.specs.Object.{Program, read_text};
 ghost use Rattle.st_top.specs.Marks.{all_lines, unmarked, marked_run, marked_output, DifferInDelays};
 ghost use Rattle.st_top.specs.Output.{output_of};

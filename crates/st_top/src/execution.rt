@@ -29,7 +29,7 @@ ghost use Rattle.st_exch.specs.Reader.{reader_cards};
 ghost use Rattle.st_run.specs.Scenes.{IsCard, IsScene};
 ghost use Rattle.st_state.specs.Machine.{IsMachine, opening};
 ghost use Rattle.st_run.specs.Run.{Scene as SceneOf};
-ghost use Rattle.st_lines.specs.Event.{at_moment};
+ghost use Rattle.st_io.specs.Event.{at_moment};
 ghost use Rattle.st_object.specs.Object.{IsProgram};
 ghost use Rattle.st_run.specs.Told.{told};
 ghost use Rattle.st_top.specs.Listing.{HasCards, front};

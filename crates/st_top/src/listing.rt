@@ -3,7 +3,7 @@ ghost use Rattle.std.specs.Prelude.{◌≡◌, [], ◌∷◌, ◌++◌, All, Non
 ghost use Rattle.st_asm.specs.Assembly.{shown};
 ghost use Rattle.st_asm.specs.Sound.{IsRow, IsSymbol};
 ghost use Rattle.st_card.specs.Cards.{IsCardOf};
-ghost use Rattle.st_lines.specs.Lines.{WritesLines};
+ghost use Rattle.st_io.specs.Lines.{WritesLines};
 ghost use Rattle.st_top.specs.Listing.{HasCards, row_line, rows_lines, symbols_lines, listing, made_lines, front};
 
 use crate::block::put;

@@ -2,7 +2,7 @@
 ghost use Rattle.std.specs.Prelude.{◌≡◌, ◌+◌, ◌≤◌, [], Ok, length, take};
 ghost use Rattle.st_asm.specs.Assembly.{shown};
 ghost use Rattle.st_card.specs.Pieces.{parted};
-ghost use Rattle.st_lines.specs.Lines.{WritesLines, text};
+ghost use Rattle.st_io.specs.Lines.{WritesLines, text};
 ghost use Rattle.st_dis.specs.Deck.{deck_text};
 ghost use Rattle.st_object.specs.Object.{Program, IsProgram, object_text};
 ghost use Rattle.st_top.specs.Answers.{Writes};
@@ -16,8 +16,7 @@ use crate::layer_error::LayerError;
 use st_asm::Assembled;
 use st_card::cut;
 use st_dis::disassemble;
-use st_io::{Failed, Sink};
-use st_lines::write_line;
+use st_io::{Failed, Sink, write_line};
 use st_object::{Image, write_object};
 use std::alloc::Global;
 

@@ -19,6 +19,7 @@ ghost use Rattle.std.specs.Prelude.{
 ghost use Rattle.st_bits.specs.Storage.{words_of_storage};
 ghost use Rattle.st_bits.specs.declared.limits.TheConstants.{MOST_INSTRUCTIONS};
 ghost use Rattle.st_run.specs.Run as run;
+ghost use Rattle.st_exec.specs.Transfer.{all_stored, read_in as read_in_of};
 ghost use Rattle.st_exec.specs.Step.{rests};
 ghost use Rattle.st_back.specs.Steps.{states_before};
 ghost use Rattle.st_top.specs.Beside.{IsFresh, IsReady, IsMoved, IsStepped, IsBeside, HasRun, StandsAtStart, StandsAtEnd};
@@ -39,7 +40,7 @@ fn put_card(steps: &mut Back, machine: &mut State, w: u32, card: &[u64; 8])
     requires above { 32 ≤ w }
     requires inside { w + 8 ≤ words_of_storage }
     requires fresh { IsFresh steps.old.kept }
-    ensures state { machine.new ≡ run.all_stored machine.old w card.now }
+    ensures state { machine.new ≡ all_stored machine.old w card.now }
     ensures depth { steps.new.depth ≡ steps.old.depth }
     ensures states { states_before steps.new.kept machine.new
         ≡ states_before steps.old.kept machine.old }
@@ -54,7 +55,7 @@ fn read_noted(steps: &mut Back, machine: &mut State, card: Option<[u64; 8]>)
     requires order { IsSome machine.old.reader }
     requires fresh { IsFresh steps.old.kept }
     ensures state { IfSome machine.old.reader
-        (λ order. machine.new ≡ run.read_in machine.old order.word card) }
+        (λ order. machine.new ≡ read_in_of machine.old order.word card) }
     ensures depth { steps.new.depth ≡ steps.old.depth }
     ensures states { states_before steps.new.kept machine.new
         ≡ states_before steps.old.kept machine.old }

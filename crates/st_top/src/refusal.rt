@@ -1,7 +1,7 @@
 //! The one line of a job that is refused.
 ghost use Rattle.std.specs.Prelude.{◌≡◌, [], ◌∷◌};
 ghost use Rattle.st_card.specs.Faults.{name_of};
-ghost use Rattle.st_lines.specs.Lines.{WritesLines};
+ghost use Rattle.st_io.specs.Lines.{WritesLines};
 ghost use Rattle.st_report.specs.Line.{fault_line};
 ghost use Rattle.st_top.specs.Answers.{Writes};
 ghost use Rattle.st_top.specs.Output.{refused};

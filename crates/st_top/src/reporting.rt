@@ -4,7 +4,7 @@ ghost use Rattle.std.specs.List.{AllPass};
 ghost use Rattle.st_bits.specs.declared.limits.TheConstants.{MOST_INSTRUCTIONS};
 ghost use Rattle.st_card.specs.Limits.{is_part};
 ghost use Rattle.st_run.specs.Run.{Scene as SceneOf};
-ghost use Rattle.st_lines.specs.Lines.{WritesLines};
+ghost use Rattle.st_io.specs.Lines.{WritesLines};
 ghost use Rattle.st_report.specs.Line.{back_line};
 ghost use Rattle.st_run.specs.Told.{told};
 ghost use Rattle.st_top.specs.Report.{block};
@@ -48,7 +48,7 @@ fn write_before<K: Sink>(
 }
 
 /// Writes the state before the end to which the machine beside a run steps back, where there is one.
-#[tactic(auto, using(st_lines::proofs::Progress::wrote_nothing))]
+#[tactic(auto, using(st_io::proofs::Progress::wrote_nothing))]
 fn write_back<K: Sink>(
     out: &mut K,
     past: &mut Option<Past>,

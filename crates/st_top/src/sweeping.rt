@@ -5,7 +5,7 @@ ghost use Rattle.st_bits.specs.declared.register.TheConstants.{FIRST_STORAGE_WOR
 ghost use Rattle.st_asm.specs.Assembly.{shown};
 ghost use Rattle.st_asm.specs.Sound.{IsImage};
 ghost use Rattle.st_card.specs.Limits.{IsWithinLimits};
-ghost use Rattle.st_lines.specs.Lines.{WritesLines};
+ghost use Rattle.st_io.specs.Lines.{WritesLines};
 ghost use Rattle.st_report.specs.Line.{calm_line};
 ghost use Rattle.st_run.specs.Scenes.{IsScene};
 ghost use Rattle.st_top.specs.Sweep.{levels_lines, sweep_lines, sweep_start, sweep_of};
@@ -36,7 +36,7 @@ fn first_ticks(ticks: &[u64]) -> Option<(u64, &[u64])>
 }
 
 /// Writes the lines of machines with `n` levels, `n + 1` levels and so on, by their ticks.
-#[tactic(auto, using(st_lines::proofs::Progress::wrote_nothing))]
+#[tactic(auto, using(st_io::proofs::Progress::wrote_nothing))]
 fn write_levels<K: Sink>(out: &mut K, n: u8, ticks: &[u64]) -> Result<(), Failed>
     requires { n + length ticks.now ≤ 9 }
     ensures { WritesLines (K.output out.old) (K.output out.new) (levels_lines n ticks.now) result }

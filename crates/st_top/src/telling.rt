@@ -2,7 +2,7 @@
 ghost use Rattle.std.specs.Prelude.{◌≡◌, ◌<◌, [], ◌∷◌, List, length, MatchOption, IfSome};
 ghost use Rattle.std.specs.List.{AllPass};
 ghost use Rattle.st_card.specs.Limits.{is_part};
-ghost use Rattle.st_lines.specs.Lines.{WritesLines};
+ghost use Rattle.st_io.specs.Lines.{WritesLines};
 ghost use Rattle.st_report.specs.Line.{trc_line, row_line, drop_line, prt_line, int_line, time_line, snap_line as snap_line_of, lev_line, end_line, done_line, ticks_line};
 ghost use Rattle.st_time.specs.Shown.{standing, change_of};
 ghost use Rattle.st_run.specs.Events.{Level};
@@ -53,7 +53,7 @@ fn is_timed(controls: &Controls) -> bool
 }
 
 /// Writes the line of an instruction that is done, where a trace is asked for.
-#[tactic(auto, using(st_lines::proofs::Progress::wrote_nothing))]
+#[tactic(auto, using(st_io::proofs::Progress::wrote_nothing))]
 fn write_trace<K: Sink>(
     out: &mut K,
     done: u64,
@@ -70,7 +70,7 @@ fn write_trace<K: Sink>(
 }
 
 /// Writes the line of a row, where the timetable is asked for.
-#[tactic(auto, using(st_lines::proofs::Progress::wrote_nothing))]
+#[tactic(auto, using(st_io::proofs::Progress::wrote_nothing))]
 fn write_row<K: Sink>(out: &mut K, done: u64, row: Row, controls: &Controls) -> Result<(), Failed>
     ensures { WritesLines (K.output out.old) (K.output out.new)
         (line_if controls.now.chart (row_line done row.address row.p row.r row.c)) result }
@@ -95,7 +95,7 @@ fn write_done<K: Sink>(out: &mut K, done: u64, row: Row, controls: &Controls) ->
 }
 
 /// Writes the line of an entry that is dropped, where the timetable is asked for.
-#[tactic(auto, using(st_lines::proofs::Progress::wrote_nothing))]
+#[tactic(auto, using(st_io::proofs::Progress::wrote_nothing))]
 fn write_dropped<K: Sink>(
     out: &mut K,
     address: u32,
@@ -127,7 +127,7 @@ fn write_taken<K: Sink>(out: &mut K, i: u8, done: u64) -> Result<(), Failed>
 }
 
 /// Writes the line of the tick of an interrupt, where ticks are asked for.
-#[tactic(auto, using(st_lines::proofs::Progress::wrote_nothing))]
+#[tactic(auto, using(st_io::proofs::Progress::wrote_nothing))]
 fn write_time<K: Sink>(out: &mut K, tick: u64, controls: &Controls) -> Result<(), Failed>
     ensures { WritesLines (K.output out.old) (K.output out.new)
         (line_if controls.now.time (time_line tick)) result }
@@ -182,7 +182,7 @@ fn first_level(levels: &[Option<LevelView>]) -> Option<(LevelView, &[Option<Leve
 }
 
 /// Writes the lines of the levels at the front.
-#[tactic(auto, using(st_lines::proofs::Progress::wrote_nothing))]
+#[tactic(auto, using(st_io::proofs::Progress::wrote_nothing))]
 fn write_levels<K: Sink>(out: &mut K, levels: &[Option<LevelView>]) -> Result<(), Failed>
     ensures { WritesLines (K.output out.old) (K.output out.new) (views_lines levels.now) result }
 {
@@ -227,7 +227,7 @@ fn write_count<K: Sink>(out: &mut K, done: u64) -> Result<(), Failed>
 }
 
 /// Writes the line of the tick of the last completion, where ticks are asked for.
-#[tactic(auto, using(st_lines::proofs::Progress::wrote_nothing))]
+#[tactic(auto, using(st_io::proofs::Progress::wrote_nothing))]
 fn write_ticks<K: Sink>(out: &mut K, tick: u64, controls: &Controls) -> Result<(), Failed>
     ensures { WritesLines (K.output out.old) (K.output out.new)
         (line_if controls.now.time (ticks_line tick)) result }

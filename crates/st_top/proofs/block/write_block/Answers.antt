@@ -1,6 +1,6 @@
 use Rattle.std.proofs.Common.{ℕ, List, [], ◌∷◌, ◌++◌}
-use Rattle.st_lines.specs.Lines.{lines_for}
-use Rattle.st_lines.proofs.Progress.{lines_then, lines_cut}
+use Rattle.st_io.specs.Lines.{lines_for}
+use Rattle.st_io.proofs.Progress.{lines_then, lines_cut}
 use Rattle.st_report.specs.Line.{ic_line, en_line}
 use Rattle.st_state.specs.Machine.{Machine}
 use Rattle.st_top.specs.Report.{block, register_lines, dumps_lines}

@@ -1,6 +1,6 @@
 use Rattle.std.proofs.Common.{◌+◌, ◌-◌, [], ◌∷◌}
-use Rattle.st_lines.specs.Lines.{lines_for}
-use Rattle.st_lines.proofs.Progress.{lines_then, lines_cut}
+use Rattle.st_io.specs.Lines.{lines_for}
+use Rattle.st_io.proofs.Progress.{lines_then, lines_cut}
 use Rattle.st_report.specs.Line.{dump_line}
 use Rattle.st_top.specs.Report.{dump_lines, memory_lines}
 use Rattle.st_top.proofs.block.write_dump.Goals as goal

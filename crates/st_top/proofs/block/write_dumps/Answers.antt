@@ -1,4 +1,4 @@
-use Rattle.st_lines.proofs.Progress.{lines_more, lines_failed}
+use Rattle.st_io.proofs.Progress.{lines_more, lines_failed}
 use Rattle.st_top.proofs.Dumps.{dumps_next}
 use Rattle.st_top.proofs.block.write_dumps.Goals as goal
 

@@ -1,4 +1,4 @@
-use Rattle.st_lines.proofs.Progress.{lines_more, lines_failed, lines_for_next, lines_for_whole}
+use Rattle.st_io.proofs.Progress.{lines_more, lines_failed, lines_for_next, lines_for_whole}
 use Rattle.st_top.specs.Report.{register_lines}
 use Rattle.st_top.proofs.block.write_registers.Goals as goal
 

@@ -1,5 +1,5 @@
 use Rattle.std.proofs.Common.{◌+◌}
-use Rattle.st_lines.proofs.Progress.{lines_more, lines_failed, lines_for_next, lines_for_whole}
+use Rattle.st_io.proofs.Progress.{lines_more, lines_failed, lines_for_next, lines_for_whole}
 use Rattle.st_top.specs.Report.{memory_lines}
 use Rattle.st_top.proofs.block.write_words.Goals as goal
 

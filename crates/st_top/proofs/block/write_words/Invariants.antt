@@ -1,6 +1,6 @@
 use Rattle.std.proofs.Common.{◌+◌, ◌-◌}
-use Rattle.st_lines.specs.Lines.{lines_for}
-use Rattle.st_lines.proofs.Progress.{LinesSoFar}
+use Rattle.st_io.specs.Lines.{lines_for}
+use Rattle.st_io.proofs.Progress.{LinesSoFar}
 use Rattle.st_top.specs.Report.{memory_lines}
 use Rattle.st_top.proofs.block.write_words.Given as goal
 

@@ -1,4 +1,4 @@
-use Rattle.st_lines.proofs.Progress.{lines_then, lines_cut}
+use Rattle.st_io.proofs.Progress.{lines_then, lines_cut}
 use Rattle.st_top.specs.Listing.{rows_lines, symbols_lines}
 use Rattle.st_top.proofs.listing.write_both.Goals as goal
 

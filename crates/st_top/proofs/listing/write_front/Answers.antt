@@ -1,5 +1,5 @@
 use Rattle.st_asm.specs.Assembly.{shown}
-use Rattle.st_lines.proofs.Progress.{lines_then, lines_cut}
+use Rattle.st_io.proofs.Progress.{lines_then, lines_cut}
 use Rattle.st_top.specs.Listing.{listing, made_lines}
 use Rattle.st_top.proofs.listing.write_front.Goals as goal
 

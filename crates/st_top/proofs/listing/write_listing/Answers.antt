@@ -1,5 +1,5 @@
 use Rattle.std.proofs.Common.{◌++◌, sym, ◌∙◌, ap}
-use Rattle.st_lines.proofs.Progress.{wrote_nothing}
+use Rattle.st_io.proofs.Progress.{wrote_nothing}
 use Rattle.st_asm.specs.Assembly.{shown}
 use Rattle.st_top.specs.Listing.{rows_lines, symbols_lines}
 use Rattle.st_top.proofs.Listings.{listing_none, listing_some, lines_are}

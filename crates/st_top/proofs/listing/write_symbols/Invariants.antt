@@ -1,5 +1,5 @@
 use Rattle.std.proofs.Common.{drop}
-use Rattle.st_lines.proofs.Progress.{LinesSoFar}
+use Rattle.st_io.proofs.Progress.{LinesSoFar}
 use Rattle.st_top.specs.Listing.{symbols_lines}
 use Rattle.st_top.proofs.listing.write_symbols.Given as goal
 

@@ -1,5 +1,5 @@
 use Rattle.std.proofs.Common.{[], ◌∷◌}
-use Rattle.st_lines.proofs.Progress.{lines_more, lines_failed}
+use Rattle.st_io.proofs.Progress.{lines_more, lines_failed}
 use Rattle.st_top.proofs.ObjectTexts.{ended_next}
 use Rattle.st_top.proofs.objects.write_ended.Goals as goal
 

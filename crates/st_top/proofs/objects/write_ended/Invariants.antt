@@ -1,6 +1,6 @@
 use Rattle.std.proofs.Common.{length}
 use Rattle.st_card.specs.Pieces.{parted}
-use Rattle.st_lines.proofs.Progress.{LinesSoFar}
+use Rattle.st_io.proofs.Progress.{LinesSoFar}
 use Rattle.st_top.specs.ObjectText.{ended_lines}
 use Rattle.st_top.proofs.objects.write_ended.Given as goal
 

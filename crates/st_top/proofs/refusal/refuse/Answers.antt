@@ -1,6 +1,6 @@
 use Rattle.std.proofs.Common.{[], ◌∷◌}
 use Rattle.st_card.specs.Faults.{name_of}
-use Rattle.st_lines.proofs.Writing.{stopped_at_moment}
+use Rattle.st_io.proofs.Writing.{stopped_at_moment}
 use Rattle.st_report.specs.Line.{fault_line}
 use Rattle.st_top.proofs.refusal.refuse.Goals as goal
 

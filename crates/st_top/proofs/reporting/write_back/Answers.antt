@@ -1,7 +1,7 @@
 use Rattle.std.proofs.Common.{List, ℕ, ◌∷◌, sym, ◌∙◌, ap, subst}
 use Rattle.st_state.specs.Machine.{Machine}
 use Rattle.st_run.specs.Run.{Scene}
-use Rattle.st_lines.specs.Lines.{WritesLines}
+use Rattle.st_io.specs.Lines.{WritesLines}
 use Rattle.st_report.specs.Line.{back_line}
 use Rattle.st_top.specs.Report.{block}
 use Rattle.st_top.specs.Beside.{StandsAtEnd}

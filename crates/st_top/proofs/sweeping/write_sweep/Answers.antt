@@ -1,5 +1,5 @@
 use Rattle.std.proofs.Common.{[], ◌∷◌}
-use Rattle.st_lines.proofs.Progress.{lines_then, lines_cut}
+use Rattle.st_io.proofs.Progress.{lines_then, lines_cut}
 use Rattle.st_report.specs.Line.{calm_line}
 use Rattle.st_top.specs.Sweep.{levels_lines}
 use Rattle.st_top.proofs.sweeping.write_sweep.Goals as goal

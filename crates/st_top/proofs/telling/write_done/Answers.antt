@@ -1,4 +1,4 @@
-use Rattle.st_lines.proofs.Progress.{lines_then, lines_cut}
+use Rattle.st_io.proofs.Progress.{lines_then, lines_cut}
 use Rattle.st_report.specs.Line.{trc_line, row_line}
 use Rattle.st_top.specs.Report.{line_if}
 use Rattle.st_top.proofs.telling.write_done.Goals as goal

@@ -1,5 +1,5 @@
 use Rattle.std.proofs.Common.{[], ◌∷◌, ◌++◌}
-use Rattle.st_lines.proofs.Progress.{lines_then, lines_cut}
+use Rattle.st_io.proofs.Progress.{lines_then, lines_cut}
 use Rattle.st_report.specs.Line.{int_line, time_line}
 use Rattle.st_top.specs.Report.{block, line_if}
 use Rattle.st_top.proofs.telling.write_interrupt.Goals as goal

@@ -5,9 +5,9 @@ use Rattle.std.specs.Prelude.{Result, Ok, Err, IsErr}
 use Rattle.st_io.specs.declared.Failed.{Failed}
 use Rattle.st_io.specs.Output.{OutputState, Wrote}
 use Rattle.st_io.proofs.Joins.{Appends_none}
-use Rattle.st_lines.specs.Lines.{text, lines_for, StoppedIn, WritesLines}
-use Rattle.st_lines.specs.Event.{Event, lines_of, StoppedAt}
-use Rattle.st_lines.proofs.Writing.{wrote_more, stopped_before, stopped_after, wrote_events, events_before, events_after}
+use Rattle.st_io.specs.Lines.{text, lines_for, StoppedIn, WritesLines}
+use Rattle.st_io.specs.Event.{Event, lines_of, StoppedAt}
+use Rattle.st_io.proofs.Writing.{wrote_more, stopped_before, stopped_after, wrote_events, events_before, events_after}
 
 -- of all the lines the first ones are written, and the rest is left
 pub record LinesSoFar (s t : OutputState) (all rest : List (List ℕ)) : Type 0 where

@@ -2,7 +2,7 @@
 use Rattle.std.specs.Prelude.{◌≡◌, ◌≢◌, ℕ, List, [], ◌∷◌, ◌++◌}
 use Rattle.st_io.specs.Count.{HasRisen}
 use Rattle.st_io.specs.Output.{OutputState, Appends}
-use Rattle.st_lines.specs.Lines.{text}
+use Rattle.st_io.specs.Lines.{text}
 
 -- a line, and how many instructions were done and ticks gone by when it is written
 pub record Event : Type 0 where

@@ -6,8 +6,8 @@ use Rattle.st_io.specs.Count.{HasRisen}
 use Rattle.st_io.specs.Output.{OutputState, Appends, Wrote, WroteFront}
 use Rattle.st_io.specs.declared.Failed.{Failed}
 use Rattle.st_io.proofs.Joins.{Appends-join, Wrote_join}
-use Rattle.st_lines.specs.Lines.{text, StoppedIn, WritesLines}
-use Rattle.st_lines.specs.Event.{Event, lines_of, at_moment, StoppedAt}
+use Rattle.st_io.specs.Lines.{text, StoppedIn, WritesLines}
+use Rattle.st_io.specs.Event.{Event, lines_of, at_moment, StoppedAt}
 
 pub text-append : (xs ys : List (List ℕ)) → text (xs ++ ys) ≡ text xs ++ text ys
 text-append [] ys = refl
