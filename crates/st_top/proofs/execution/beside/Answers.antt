@@ -13,8 +13,8 @@ returns-clause-start c =
     let deep : c.controls.inside.back ≡ back = ap (λ (a : Asked). a.back) c.controls.view_is in
     let other : back ≢ 0 = λ none. c.if-depth-eq0.false (deep ∙ none) in
     let some : 1 ≤ back = omega (arith, other) in
-    let scene = scene_is c.new-4.result _ _ _ _ _ _ c.new-4.ensures c.in_ok-machine.ensures (ap signals_of c.signals.ensures) c.in_ok-hopper.ensures in (
-      begins_beside back c.in_ok-steps.steps c.new-4.result some c.requires.limits.back (c.in_ok-steps.ensures ∙ ap none_of deep)
+    let scene = scene_is c.new-3.result _ _ _ _ _ _ c.new-3.ensures c.in_ok-machine.ensures (ap signals_of c.signals.ensures) c.in_ok-hopper.ensures in (
+      begins_beside back c.in_ok-steps.steps c.new-3.result some c.requires.limits.back (c.in_ok-steps.ensures ∙ ap none_of deep)
           (ap (λ (e : Scene). e.machine.reader) scene),
       scene,
     )
@@ -22,7 +22,7 @@ returns-clause-start c =
 pub returns-clause-fresh : goal.returns-clause-fresh
 returns-clause-fresh c =
     ap (λ (e : Scene). e.machine.done)
-    (scene_is c.new-4.result _ _ _ _ _ _ c.new-4.ensures c.in_ok-machine.ensures (ap signals_of c.signals.ensures) c.in_ok-hopper.ensures)
+    (scene_is c.new-3.result _ _ _ _ _ _ c.new-3.ensures c.in_ok-machine.ensures (ap signals_of c.signals.ensures) c.in_ok-hopper.ensures)
 
 pub returns-clause-ready : goal.returns-clause-ready
 returns-clause-ready c =
@@ -30,6 +30,6 @@ returns-clause-ready c =
     let deep : c.controls.inside.back ≡ back = ap (λ (a : Asked). a.back) c.controls.view_is in
     let other : back ≢ 0 = λ none. c.if-depth-eq0.false (deep ∙ none) in
     let some : 1 ≤ back = omega (arith, other) in
-    let scene = scene_is c.new-4.result _ _ _ _ _ _ c.new-4.ensures c.in_ok-machine.ensures (ap signals_of c.signals.ensures) c.in_ok-hopper.ensures in
-    (begins_beside back c.in_ok-steps.steps c.new-4.result some c.requires.limits.back (c.in_ok-steps.ensures ∙ ap none_of deep)
+    let scene = scene_is c.new-3.result _ _ _ _ _ _ c.new-3.ensures c.in_ok-machine.ensures (ap signals_of c.signals.ensures) c.in_ok-hopper.ensures in
+    (begins_beside back c.in_ok-steps.steps c.new-3.result some c.requires.limits.back (c.in_ok-steps.ensures ∙ ap none_of deep)
     (ap (λ (e : Scene). e.machine.reader) scene)).ready
