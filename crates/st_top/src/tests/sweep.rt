@@ -66,7 +66,7 @@ const SWEPT: [(Case, u64, u64); 2] = [
             job: MISSED,
             report: MISSED_LINES,
         },
-        5,
+        3,
         24,
     ),
 ];
