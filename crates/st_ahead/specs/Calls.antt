@@ -46,9 +46,11 @@ completed m = record m {
   closing = Some (banks_at_its_end m);
 }
 
+-- the machine after a tick, which is not settled yet
 unfoldable pub ticked : Overlap → Overlap
 ticked m = if is_done m then completed m else record m { owed = true; closing = None }
 
+-- what the tick answers
 abbrev pub IsEvent : Overlap → Event → Type 0
 IsEvent m Passed = is_done m ≡ false
 IsEvent m (Done row) = (is_done m ≡ true) × (row ≡ row_done m)
@@ -79,22 +81,26 @@ ended m =
 abbrev pub passed : Overlap → Overlap
 passed m = record m { owed = false; ended = false; behind = None; closing = None; now = m.now + 1 }
 
+-- the machine once the tick is settled: an interrupt is taken, or the machine waits, or a branch was missed, or it
+-- goes on
 abbrev pub settled_by : Option ℕ → Bool → Option ℕ → Overlap → Overlap
 settled_by (Some i) at_rest behind m = passed (record (ended m) { taken = Some i })
 settled_by None true behind m = ended m
 settled_by None false (Some h) m = passed (ended m)
 settled_by None false None m = passed m
 
+-- what settling answers in each of these cases
 abbrev pub answer_by : Option ℕ → Bool → Option ℕ → Overlap → Settled
 answer_by (Some i) at_rest behind m = Interrupt i m.state.done m.state.ic (dropped m)
 answer_by None true behind m = Waits
 answer_by None false (Some h) m = Missed (dropped m)
 answer_by None false None m = Goes
 
--- an interrupt is taken, or the machine waits, or a branch was missed, or it goes on
+-- the machine once its tick is settled
 unfoldable pub settled : Overlap → Overlap
 settled m = settled_by (interrupt_due m) (rests m.state) m.behind m
 
+-- what settling it answers
 unfoldable pub answer : Overlap → Settled
 answer m = answer_by (interrupt_due m) (rests m.state) m.behind m
 
@@ -117,6 +123,7 @@ abbrev pub read_in_by : ℕ → Option (List ℕ) → Overlap → Overlap
 read_in_by w None m = record m { state = read_in m.state w None }
 read_in_by w (Some card) m = record (ended m) { state = read_in m.state w (Some card) }
 
+-- how many levels that drops
 abbrev pub dropped_by : Option (List ℕ) → Overlap → ℕ
 dropped_by None m = 0
 dropped_by (Some card) m = dropped m

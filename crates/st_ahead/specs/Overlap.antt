@@ -48,18 +48,20 @@ started delays levels s = record {
   closing = None;
 }
 
--- the state that what runs ahead goes on from: behind a missed branch, with the counter of the guess
+-- a state with the counter behind a missed branch, if there is one
 abbrev pub with_counter : Option ℕ → Machine → Machine
 with_counter None s = s
 with_counter (Some h) s = record s { ic = h }
 
+-- the state that what runs ahead goes on from: behind a missed branch, with the counter of the guess
 unfoldable pub seen : Overlap → Machine
 seen m = if m.ended then m.state else with_counter m.behind m.state
 
--- the entry that is done next, and its row
+-- the entry that is done next
 abbrev pub oldest : Overlap → Entry
 oldest m = entry m.taken (seen m)
 
+-- its row
 unfoldable pub oldest_row : Overlap → Row
 oldest_row m = row m.delays m.levels m.front (oldest m)
 

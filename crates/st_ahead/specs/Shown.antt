@@ -17,10 +17,11 @@ pub record IsLevelOf (ds : List ℕ) (n tick : ℕ) (level : Level) (a : Ahead) 
   pub p : level.p ≡ a.row.p
   pub have : level.have ≡ slots_of (fills ds n a.front a.entry) (plan_of a) a.state tick
 
--- the ring that is lent, and the index words
+-- the ring that is lent is the levels, in their order
 abbrev pub AreLevelsOf : Overlap → List Level → Type 0
 AreLevelsOf m ring = AllZip (IsLevelOf m.delays m.levels (last_tick m)) ring (levels_of m)
 
+-- the index words that are lent: those of the state after the early changes of all levels
 unfoldable pub index_of : Overlap → List ℕ
 index_of m = split_words (length (levels_of m)) m.taken (seen m)
 

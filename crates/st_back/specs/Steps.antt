@@ -15,6 +15,7 @@ pub record Steps : Type 0 where
   pub kept : List Kept
   pub depth : ℕ
 
+-- no step is kept, of so many that may be
 abbrev pub none_of : ℕ → Steps
 none_of depth = record { kept = []; depth = depth }
 
@@ -56,7 +57,7 @@ IsForth old new s t Waits = new ≡ old
 IsForth old new s t Plain = IsStepKept old new s t
 IsForth old new s t (Interrupt i) = IsStepKept old new s t
 
--- a step is kept since which no word was put
+-- a kept step since which no word was put
 abbrev pub fresh : Trail → Kept
 fresh t = record {
   trail = t;
@@ -65,6 +66,7 @@ fresh t = record {
   puts = 0;
 }
 
+-- one more step is kept, and the oldest given up where there is no room
 abbrev pub kept_by : Trail → Steps → Steps
 kept_by t b = record b { kept = keep_last b.depth (b.kept ++ fresh t ∷ []) }
 

@@ -20,10 +20,11 @@ asked_for held w tick = record { w = w; tick = tick } ∷ take 3 held
 abbrev pub told : ℕ → ℕ → Fetched → Fetched
 told w tick f = if f.w == w then record f { tick = tick } else f
 
--- the content beside a word, where that is w: once it is answered, and after a store
+-- the content beside a word, where that is w and is answered
 abbrev pub content_answered : ℕ → ℕ → Fetched × Option ℕ → Option ℕ
 content_answered w word (f, content) = if f.w == w then Some word else content
 
+-- the content beside a word, where that is w and is stored into once it was answered
 abbrev pub content_patched : ℕ → ℕ → Fetched × Option ℕ → Option ℕ
 content_patched w word (f, content) = if f.w == w then option_map (λ _. word) content else content
 

@@ -27,6 +27,7 @@ slot_of ticks p s tick k =
     if not (is_transmission p.instr) && nat_lt k p.reads.len && is_there ticks p tick (p.reads.first + k)
     then Some (word s (p.reads.first + k)) else None
 
+-- both slots of a level
 abbrev pub slots_of : List ℕ → Prepared → Machine → ℕ → List (Option ℕ)
 slots_of ticks p s tick = slot_of ticks p s tick 0 ∷ slot_of ticks p s tick 1 ∷ []
 

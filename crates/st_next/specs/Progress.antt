@@ -37,11 +37,12 @@ pub record IsPlanned (ds : List ℕ) (n : ℕ) (t : Option ℕ) (u : Machine) (f
   pub bus : next.formed.bus ≡ bus_a ds f (entry_of t u)
   pub tick : next.formed.p ≡ tick_p ds n f (entry_of t u)
 
+-- the entry is planned, where the mark says so
 abbrev pub IsPlannedIf : Bool → List ℕ → ℕ → Option ℕ → Machine → Front → Next → Type 0
 IsPlannedIf false ds n t u f next = Unit {0}
 IsPlannedIf true ds n t u f next = IsPlanned ds n t u f next
 
--- both
+-- it is read as far as its words tell, and planned where its mark says so
 pub record IsNext (ds : List ℕ) (n : ℕ) (t : Option ℕ) (u : Machine) (f : Front) (next : Next) : Type 0 where
   pub read_on : IsReadOn ds t u f next
   pub planned : IsPlannedIf next.planned ds n t u f next
@@ -64,6 +65,7 @@ abbrev pub wanted_next : Front → Next → ℕ
 wanted_next f next =
     max (max (max (wanted_from f) (target_waits f next.target)) next.words.answered) next.words.awaited
 
+-- nothing more of it can be known before the tick `now`
 pub data Rests (now : ℕ) (t : Option ℕ) (u : Machine) (f : Front) (next : Next) : Type 0 where
   Planned : next.planned ≡ true → Rests now t u f next
   Waits : next.planned ≡ false → now ≤ wanted_next f next → Rests now t u f next

@@ -23,10 +23,11 @@ words_alone own target = record {
   follows = false;
 }
 
--- what is fetched, and the reads that are asked for, where these are its words so far
+-- what is fetched where these are its words so far
 abbrev pub words_so_far : List ℕ → Front → Run → Run → Fetching
 words_so_far ds f own target = fetched ds f (words_alone own target)
 
+-- the reads that are asked for then
 abbrev pub asked_so_far : List ℕ → Front → Run → Run → List Read
 asked_so_far ds f own target = fetches_asked ds f (words_alone own target)
 

@@ -23,6 +23,7 @@ pub data Change : Type 0 where
   ReadIn : ℕ → Option (List ℕ) → Change
   PrintedOut : Change
 
+-- what it makes of a state
 abbrev pub changed : Change → Machine → Machine
 changed (Signalled i) s = signalled s i
 changed (ReadIn w card) s = read_in s w card

@@ -17,10 +17,11 @@ use Rattle.st_ahead.specs.declared.events.LevelView.{LevelView}
 
 -- ---- what is shown of a level
 
--- the state before the step of entry k ahead, and the interrupt whose table instruction it is, if it is one
+-- the state before the step of entry k ahead
 abbrev pub state_before : ℕ → Overlap → Machine
 state_before k m = guesses k m.taken (seen m)
 
+-- the interrupt whose table instruction that entry is, if it is one
 abbrev pub table_before : ℕ → Overlap → Option ℕ
 table_before k m = table_behind k m.taken
 

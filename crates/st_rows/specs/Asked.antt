@@ -32,6 +32,7 @@ words_asked ds past s from w (suc n) =
 abbrev pub data_asked : List Past → ℕ → ℕ → List Read
 data_asked past w tick = if is_forwarded past w tick then [] else record { w = w; want = tick; fetch = false } ∷ []
 
+-- the index-side word, if there is one
 unfoldable pub side_asked : List Past → Option ℕ → ℕ → List Read
 side_asked past None a = []
 side_asked past (Some w) a = data_asked past w a
@@ -45,6 +46,7 @@ operands_asked past p w (suc n) = data_asked past w p ++ operands_asked past p (
 abbrev pub inside_asked : Bus → ℕ → ℕ → List Read
 inside_asked b w p = if nat_lt w words_of_storage then word_asked (tick_of b.held.words w) w p else []
 
+-- both of them, where the entry has following words
 unfoldable pub following_asked : List ℕ → Bus → Entry → ℕ → List Read
 following_asked ds b e p =
     if e.follows
@@ -52,7 +54,7 @@ following_asked ds b e p =
     ++ inside_asked (request_inside ds b (e.own.first + e.own.len) p) (e.own.first + e.own.len + 1) p
     else []
 
--- all reads of the entry e behind the front f
+-- the instruction words of the entry e behind the front f
 unfoldable pub fetches_asked : List ℕ → Front → Entry → List Read
 fetches_asked ds f e =
     words_asked ds f.past (record { bus = f.bus; answered = 0; awaited = 0 }) (wanted_from f) e.own.first e.own.len
@@ -60,6 +62,7 @@ fetches_asked ds f e =
     (fetch_words ds f.past (record { bus = f.bus; answered = 0; awaited = 0 }) (wanted_from f) e.own.first e.own.len)
     (max (wanted_from f) f.c) e.target.first e.target.len
 
+-- all reads of that entry
 unfoldable pub asked : List ℕ → ℕ → Front → Entry → List Read
 asked ds n f e =
     fetches_asked ds f e
@@ -68,22 +71,25 @@ asked ds n f e =
     ++ operands_asked f.past (tick_p ds n f e) e.reads.two.first e.reads.two.len
     ++ following_asked ds (operands ds n f e).bus e (tick_p ds n f e)
 
--- how many words an entry reads for itself: instruction words, the index-side word and operands
+-- how many words the index-side word is
 abbrev pub side_count : Option ℕ → ℕ
 side_count None = 0
 side_count (Some w) = 1
 
+-- how many words an entry reads for itself: instruction words, the index-side word and operands
 abbrev pub own_reads : Entry → ℕ
 own_reads e = e.own.len + e.target.len + side_count e.side + e.reads.one.len + e.reads.two.len
 
--- the bus after a read, after the reads of a list, and after those of them that are accepted before the tick t
+-- the bus after a read
 abbrev pub after_one : List ℕ → Bus → Read → Bus
 after_one ds b r = if r.fetch then requested_if None ds b r.w r.want else after_read ds b r.w r.want
 
+-- after the reads of a list
 unfoldable pub served : List ℕ → List Read → Bus → Bus
 served ds [] b = b
 served ds (r ∷ reads) b = served ds reads (after_one ds b r)
 
+-- after those of them that are accepted before the tick t
 unfoldable pub made_before : List ℕ → ℕ → List Read → Bus → Bus
 made_before ds t [] b = b
 made_before ds t (r ∷ reads) b =

@@ -10,10 +10,11 @@ use Rattle.st_rows.specs.declared.bus.Bus.{Bus}
 abbrev pub no_reads : LastAnswers → ℕ → Bus
 no_reads banks start = record { banks = banks; free = start; held = record { words = replicate 4 nothing } }
 
--- the tick at which a read of the word w is accepted that is wanted from the want on, and the tick of its answer
+-- the tick at which a read of the word w is accepted that is wanted from the want on
 abbrev pub accept_at : Bus → ℕ → ℕ → ℕ
 accept_at b w want = accept_tick b.banks.ticks w b.free want
 
+-- the tick of its answer
 abbrev pub answer_at : List ℕ → Bus → ℕ → ℕ → ℕ
 answer_at ds b w want = answer_tick ds (accept_at b w want)
 
@@ -31,10 +32,12 @@ requested_if (Some tick) ds b w want = b
 requested_if None ds b w want =
     record (after_read ds b w want) { held = record { words = asked_for b.held.words w (answer_at ds b w want) } }
 
+-- the tick of the word's answer, given that tick if it is held
 abbrev pub answer_if : Option ℕ → List ℕ → Bus → ℕ → ℕ → ℕ
 answer_if (Some tick) ds b w want = tick
 answer_if None ds b w want = answer_at ds b w want
 
+-- the bus after the instruction word w was asked for
 unfoldable pub requested : List ℕ → Bus → ℕ → ℕ → Bus
 requested ds b w want = requested_if (tick_of b.held.words w) ds b w want
 

@@ -4,10 +4,11 @@ use Rattle.st_rows.specs.declared.entry.Run.{Run}
 use Rattle.st_rows.specs.declared.entry.Runs.{Runs}
 use Rattle.st_rows.specs.declared.past.Past.{Past}
 
--- the word w is in the run, or in one of two runs
+-- the word w is in the run
 unfoldable pub is_in : ℕ → Run → Bool
 is_in w run = nat_le run.first w && nat_lt w (run.first + run.len)
 
+-- it is in one of two runs
 unfoldable pub is_among : ℕ → Runs → Bool
 is_among w runs = is_in w runs.one || is_in w runs.two
 

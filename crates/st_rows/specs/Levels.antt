@@ -18,18 +18,21 @@ pub record AreEqual (d : ℕ) (ds : List ℕ) : Type 0 where
   pub some : 1 ≤ length ds
   pub each : All (λ x. x ≡ d) ds
 
--- a bus, the entries before, a front and a row with no tick later than those of another one; words and marks are the same
+-- a held word is answered no later than another, and is the same word
 abbrev pub IsHeldSooner : Fetched → Fetched → Type 0
 IsHeldSooner g h = (g.w ≡ h.w) × (g.tick ≤ h.tick)
 
+-- the reads of a bus are accepted and answered no later than those of another
 pub record IsBusSooner (b d : Bus) : Type 0 where
   pub free : b.free ≤ d.free
   pub banks : AllZip (λ s t. s ≤ t) b.banks.ticks d.banks.ticks
   pub held : AllZip IsHeldSooner b.held.words d.held.words
 
+-- an entry is done no later than another, and writes the same words
 abbrev pub IsPastSooner : Past → Past → Type 0
 IsPastSooner s t = (s.c ≤ t.c) × (s.writes ≡ t.writes)
 
+-- a front is no later than another, with the same mark
 pub record IsFrontSooner (f g : Front) : Type 0 where
   pub bus : IsBusSooner f.bus g.bus
   pub prepared : f.p ≤ g.p
@@ -37,6 +40,7 @@ pub record IsFrontSooner (f g : Front) : Type 0 where
   pub serial : f.serial ≡ g.serial
   pub past : AllZip IsPastSooner f.past g.past
 
+-- no tick of a row is later than that of another
 pub record IsRowSooner (x y : Row) : Type 0 where
   pub address : x.a ≤ y.a
   pub prepared : x.p ≤ y.p
@@ -49,13 +53,15 @@ pub record AreInOrder (f : Front) : Type 0 where
   pub falls : (i j : ℕ) → i ≤ j →
       (get_or f.past j (record { c = 0; writes = no_words })).c ≤ (get_or f.past i (record { c = 0; writes = no_words })).c
 
--- none of these writes the word, and none writes a word that the entry reads besides its instruction words
+-- none of these entries writes the word
 abbrev pub IsUnwritten : List Runs → ℕ → Type 0
 IsUnwritten earlier w = All (λ writes. is_among w writes ≡ false) earlier
 
+-- none of them writes a word of the run
 abbrev pub IsRunUnwritten : List Runs → Run → Type 0
 IsRunUnwritten earlier run = (w : ℕ) → run.first ≤ w → w < run.first + run.len → IsUnwritten earlier w
 
+-- none of them writes a word that the entry reads besides its instruction words
 pub record IsCalm (earlier : List Runs) (e : Entry) : Type 0 where
   pub side : IfSome e.side (IsUnwritten earlier)
   pub one : IsRunUnwritten earlier e.reads.one

@@ -40,16 +40,18 @@ pub record IsBusWithin (m : ℕ) (b : Bus) : Type 0 where
   pub banks : All (λ t. t ≤ m) b.banks.ticks
   pub held : All (λ h. h.tick ≤ m) b.held.words
 
--- nor one of the words that are fetched so far, of the operands, and of the entries before
+-- no tick of the words that are fetched so far is later than m
 pub record IsFetchingWithin (m : ℕ) (s : Fetching) : Type 0 where
   pub bus : IsBusWithin m s.bus
   pub answered : s.answered ≤ m
   pub awaited : s.awaited ≤ m
 
+-- nor one of the operands
 pub record IsReadingWithin (m : ℕ) (s : Reading) : Type 0 where
   pub bus : IsBusWithin m s.bus
   pub answered : s.answered ≤ m
 
+-- nor a completion of the entries before
 pub record ArePastWithin (m : ℕ) (past : List Past) : Type 0 where
   pub each : All (λ entry. entry.c ≤ m) past
 

@@ -27,6 +27,7 @@ opening banks start = record {
 
 -- ---- instruction words: each is wanted once the words before it are answered and the entries are done that write them
 
+-- the word w, wanted from the tick `from` on
 unfoldable pub fetch_word : List ℕ → List Past → Fetching → ℕ → ℕ → Fetching
 fetch_word ds past s w from = record {
   bus = requested ds s.bus w (max (max from s.answered) s.awaited);
@@ -53,33 +54,40 @@ fetched ds f e =
 -- ---- the address: one tick after the words are there and all that is awaited is done, and after the reads of the
 -- entries before; an entry that is done alone, and the one behind it, await the last entry
 
+-- the tick at which the address is formed
 unfoldable pub addressed : Front → Entry → ℕ → ℕ → ℕ
 addressed f e answered awaited =
     max (max (max (max answered awaited) f.p) (if e.serial || f.serial then f.c else 0) + 1) f.bus.free
 
 -- ---- the index-side word: it is read, or comes from its latest writer where that is not done at the address's tick
 
+-- the latest writer of the word w is not done at the tick
 abbrev pub is_forwarded : List Past → ℕ → ℕ → Bool
 is_forwarded past w tick = nat_lt tick (latest_done past w)
 
+-- the bus behind the read of the index-side word, wanted at the address's tick
 unfoldable pub bus_sided : List ℕ → List Past → Bus → Option ℕ → ℕ → Bus
 bus_sided ds past b None a = b
 bus_sided ds past b (Some w) a = if is_forwarded past w a then b else after_read ds b w a
 
+-- the tick at which that word is there
 unfoldable pub side_there : List ℕ → List Past → Bus → Option ℕ → ℕ → ℕ
 side_there ds past b None a = 0
 side_there ds past b (Some w) a = if is_forwarded past w a then latest_done past w else answer_at ds b w a
 
 -- ---- preparation: one tick later, and later than the completion of the entry n before
 
+-- the completion of the entry n before, whose level this entry takes over
 abbrev pub done_before : ℕ → List Past → ℕ
 done_before n past = (get_or past (n - 1) (record { c = 0; writes = no_words })).c
 
+-- the tick of preparation, by the ticks at which the address is formed and the index-side word is there
 unfoldable pub prepared : ℕ → List Past → ℕ → ℕ → ℕ
 prepared n past a y = max (max a y) (done_before n past) + 1
 
 -- ---- operands: each is read, or comes from its latest writer at that one's completion
 
+-- the word w, wanted at preparation
 unfoldable pub read_word : List ℕ → List Past → Reading → ℕ → ℕ → Reading
 read_word ds past s w p =
     if is_forwarded past w p then s
@@ -90,6 +98,7 @@ unfoldable pub read_words : List ℕ → List Past → Reading → ℕ → ℕ �
 read_words ds past s p w zero = s
 read_words ds past s p w (suc n) = read_words ds past (read_word ds past s w p) p (w + 1) n
 
+-- the words of both runs
 unfoldable pub operands_read : List ℕ → List Past → Bus → Runs → ℕ → Reading
 operands_read ds past b reads p =
     read_words ds past
@@ -106,14 +115,17 @@ fill_if there ds past b w p = if there then fill_at ds past b w p else 0
 
 -- ---- completion
 
+-- the tick of completion: its cost after all operands are there and the entry before is done
 abbrev pub completed : Front → Entry → ℕ → ℕ
 completed f e r = max f.c r + e.cost
 
 -- ---- the two following words, where they are words of storage
 
+-- one of the two, if it lies in storage
 abbrev pub request_inside : List ℕ → Bus → ℕ → ℕ → Bus
 request_inside ds b w p = if nat_lt w words_of_storage then requested ds b w p else b
 
+-- both of them, where the entry has following words
 unfoldable pub bus_followed : List ℕ → Bus → Entry → ℕ → Bus
 bus_followed ds b e p =
     if e.follows
@@ -122,24 +134,31 @@ bus_followed ds b e p =
 
 -- ---- the row of the entry e behind the front f
 
+-- when its address is formed
 unfoldable pub tick_a : List ℕ → Front → Entry → ℕ
 tick_a ds f e = addressed f e (fetched ds f e).answered (fetched ds f e).awaited
 
+-- the bus behind its instruction words and its index-side word
 unfoldable pub bus_a : List ℕ → Front → Entry → Bus
 bus_a ds f e = bus_sided ds f.past (fetched ds f e).bus e.side (tick_a ds f e)
 
+-- when its index-side word is there
 unfoldable pub tick_y : List ℕ → Front → Entry → ℕ
 tick_y ds f e = side_there ds f.past (fetched ds f e).bus e.side (tick_a ds f e)
 
+-- when it is prepared
 unfoldable pub tick_p : List ℕ → ℕ → Front → Entry → ℕ
 tick_p ds n f e = prepared n f.past (tick_a ds f e) (tick_y ds f e)
 
+-- its operands
 unfoldable pub operands : List ℕ → ℕ → Front → Entry → Reading
 operands ds n f e = operands_read ds f.past (bus_a ds f e) e.reads (tick_p ds n f e)
 
+-- when it is done
 unfoldable pub tick_c : List ℕ → ℕ → Front → Entry → ℕ
 tick_c ds n f e = completed f e (operands ds n f e).answered
 
+-- all of these ticks
 unfoldable pub row : List ℕ → ℕ → Front → Entry → Row
 row ds n f e = record {
   a = tick_a ds f e;
@@ -156,6 +175,7 @@ fills_of ds past b run p =
     (read_word ds past (record { bus = b; answered = p }) run.first p).bus (run.first + 1) p
     ∷ []
 
+-- when the first two operand words of the entry e behind the front f are there
 abbrev pub fills : List ℕ → ℕ → Front → Entry → List ℕ
 fills ds n f e = fills_of ds f.past (bus_a ds f e) e.reads.one (tick_p ds n f e)
 

@@ -42,10 +42,11 @@ pub record Timed : Type 0 where
 
 -- ---- entries ahead
 
--- where it is, and that it is dropped
+-- its address
 abbrev pub address_of : Ahead → ℕ
 address_of a = (plan_of a).place.address
 
+-- it is dropped
 abbrev pub drop_of : Ahead → Event
 drop_of a = Drops (address_of a) a.row.p
 
@@ -76,13 +77,14 @@ snapshot tick taken s levels =
 
 -- ---- what is left without the timetable
 
--- the happenings of the plain run
+-- what an event is in the plain run
 abbrev pub plain : Event → List Happening
 plain (Completes s address row) = Executes s address ∷ []
 plain (Drops address p) = []
 plain (Shows tick s levels) = []
 plain (Happens happening) = happening ∷ []
 
+-- what a list of events is there
 unfoldable pub untimed : List Timed → List Happening
 untimed [] = []
 untimed (x ∷ xs) = plain x.event ++ untimed xs

@@ -15,6 +15,7 @@ IsWay (AtEnd resting) left m d t =
     (resting ≡ rests (next_state m)) × (resting ≡ false → left ≡ 0) × (d.ends ≡ true) × (d.taken ≡ None) × Stops m t
 IsWay Over left m d t = ⊥
 
+-- what was decided is what the moment gives: the text that is printed, and how the run goes on
 pub record IsDecided (left : ℕ) (m : Moment) (d : Decided) (t : Together) : Type 0 where
   pub text : AreTexts (option_map (λ x. x.bytes) d.text) (settled m.scene).happened
   pub way : IsWay d.turn left m d t

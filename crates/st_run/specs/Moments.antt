@@ -56,6 +56,7 @@ start c = record {
 abbrev pub next_scene : Moment → Scene
 next_scene m = (settled m.scene).scene
 
+-- the state before the next entry
 abbrev pub next_state : Moment → Machine
 next_state m = (next_scene m).machine
 
@@ -77,9 +78,11 @@ ends_segment m = m.missed || has_card m || has_waited m || is_some (interrupt (n
 abbrev pub next_segment : Moment → Front
 next_segment m = opening m.banks (m.tick + 1 + length m.dropped)
 
+-- the front of the next entry's row
 unfoldable pub next_front : Moment → Front
 next_front m = if ends_segment m then next_segment m else m.front
 
+-- where the run stands then
 abbrev pub standing : Moment → Standing
 standing m = record { scene = next_scene m; tick = m.tick; front = next_front m }
 
@@ -89,13 +92,15 @@ standing m = record { scene = next_scene m; tick = m.tick; front = next_front m 
 abbrev pub taken : Standing → Option ℕ
 taken p = interrupt p.scene.machine
 
+-- the next entry, as the timetable sees it
 abbrev pub oldest : Standing → Entry
 oldest p = entry (taken p) p.scene.machine
 
--- its row, and the front behind it
+-- its row
 unfoldable pub next_row : List ℕ → ℕ → Standing → Row
 next_row ds n p = row ds n p.front (oldest p)
 
+-- the front behind it
 abbrev pub front_after : List ℕ → ℕ → Standing → Front
 front_after ds n p = after ds n p.front (oldest p)
 

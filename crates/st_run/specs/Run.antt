@@ -40,11 +40,12 @@ with_due_signals s (x ∷ xs) cards =
     if nat_le x.count s.done then with_due_signals (signalled s x.indicator) xs cards
     else record { machine = s; signals = x ∷ xs; cards = cards }
 
--- the next card of the reader, and those behind it
+-- the next card of the reader
 abbrev pub first_card : List (List ℕ) → Option (List ℕ)
 first_card [] = None
 first_card (card ∷ cards) = Some card
 
+-- the cards behind it
 abbrev pub cards_after : List (List ℕ) → List (List ℕ)
 cards_after [] = []
 cards_after (card ∷ cards) = cards
@@ -86,12 +87,13 @@ with_due_orders c =
     and_then (with_reader (if_due c.machine.done c.machine.reader) c)
     (λ d. with_printer (if_due d.machine.done d.machine.printer) d)
 
--- the order that is given takes effect where the machine rests; the reader's where both are due at once
+-- the order of this device takes effect
 abbrev pub with_device : Option Device → Scene → Reached
 with_device None c = nothing c
 with_device (Some Reader) c = with_reader c.machine.reader c
 with_device (Some Printer) c = with_printer c.machine.printer c
 
+-- the order that is given takes effect where the machine rests; the reader's where both are due at once
 unfoldable pub with_order_at_rest : Scene → Reached
 with_order_at_rest c = if rests c.machine then with_device (next_device c.machine) c else nothing c
 

@@ -8,6 +8,7 @@ pub record IsCard (card : List ℕ) : Type 0 where
   pub size : length card ≡ 8
   pub below : All (λ x. x < 2 ^ 64) card
 
+-- a machine, and cards
 pub record IsScene (c : Scene) : Type 0 where
   pub machine : IsMachine c.machine
   pub cards : All IsCard c.cards

@@ -22,12 +22,13 @@ abbrev pub read_answer : Option (List ℕ) → Overlap → Served
 read_answer None m = NoCard
 read_answer (Some card) m = Card (dropped_by (Some card) m)
 
--- whether a card came, and the text that was printed
+-- whether a card came
 abbrev pub is_card : Served → Bool
 is_card (Card dropped) = true
 is_card NoCard = false
 is_card (Printed text) = false
 
+-- the text that was printed
 abbrev pub printed_text : Served → Option (List ℕ)
 printed_text (Card dropped) = None
 printed_text NoCard = None

@@ -42,10 +42,12 @@ pub record Waiting : Type 0 where
   pub text : Option (List ℕ)
   pub taken : Option ℕ
 
+-- the interrupt that is taken
 abbrev pub taken_told : Option ℕ → Machine → List What
 taken_told None s = []
 taken_told (Some i) s = Interrupted i s ∷ []
 
+-- all of this in its order
 unfoldable pub whats : Waiting → Machine → List What
 whats w s = map (λ d. Dropped d.0 d.1) (reverse w.drops) ++ text_told w.text ++ taken_told w.taken s
 
@@ -67,6 +69,7 @@ rest_by turns.Before left tick snaps t =
 rest_by (turns.AtEnd rests) left tick snaps t = told_at_end rests tick snaps t.machine.state
 rest_by turns.Over left tick snaps t = []
 
+-- what waits to be told, and then that
 unfoldable pub rest_of : Turn → ℕ → ℕ → List ℕ → Waiting → Together → List Told
 rest_of turn left tick snaps w t =
     map (at_once tick t.machine.state) (whats w t.machine.state) ++ rest_by turn left tick snaps t
@@ -99,6 +102,7 @@ pub record AreLevels (shown : List (Option LevelView)) (levels : List Level) : T
 
 -- ---- what a run keeps
 
+-- where the machine stands by the turn: an entry is to be done, or nothing is ahead any more
 abbrev pub IsTurn : Turn → ℕ → List ℕ → Together → Type 0
 IsTurn turns.Before now snaps t = IsBefore t × (now ≡ t.machine.now) × AreRising (now - 1) snaps
 IsTurn (turns.AtEnd rests) now snaps t = levels_of t.machine ≡ []

@@ -14,11 +14,12 @@ at tick s event = record { done = s.done; tick = tick; event = event }
 
 -- ---- when snapshots are shown
 
--- of ticks in order those before the tick t, and the others
+-- of ticks in order those before the tick t
 unfoldable pub ticks_before : ℕ → List ℕ → List ℕ
 ticks_before t [] = []
 ticks_before t (x ∷ xs) = if nat_lt x t then x ∷ ticks_before t xs else []
 
+-- and those from the tick t on
 unfoldable pub ticks_from : ℕ → List ℕ → List ℕ
 ticks_from t [] = []
 ticks_from t (x ∷ xs) = if nat_lt x t then ticks_from t xs else x ∷ xs
@@ -29,6 +30,7 @@ ticks_from t (x ∷ xs) = if nat_lt x t then ticks_from t xs else x ∷ xs
 unfoldable pub drops : Moment → List Timed
 drops m = map (λ a. at m.tick m.scene.machine (drop_of a)) (reverse m.dropped)
 
+-- that, where the segment ends here
 abbrev pub drops_if_ends : Moment → List Timed
 drops_if_ends m = if ends_segment m then drops m else []
 

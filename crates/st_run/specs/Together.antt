@@ -11,18 +11,21 @@ use Rattle.st_run.specs.Moments.{Moment, Standing, next_scene, next_state, ends_
 use Rattle.st_run.specs.Scenes.{IsScene}
 use Rattle.st_run.specs.Told.{What, Printed, what_happens}
 
--- signals, as control cards ask for them
+-- a signal, as a control card asks for it
 abbrev pub signal_of : SignalCard → Signal
 signal_of x = record { count = x.count; indicator = x.indicator }
 
+-- those of all control cards
 abbrev pub signals_of : List SignalCard → List Signal
 signals_of xs = map signal_of xs
 
+-- the machine, and what is still to come from outside
 pub record Together : Type 0 where
   pub machine : Overlap
   pub signals : List Signal
   pub cards : List (List ℕ)
 
+-- the scene of the plain run in which it stands
 abbrev pub scene_of : Together → Scene
 scene_of t = record { machine = t.machine.state; signals = t.signals; cards = t.cards }
 
@@ -32,6 +35,8 @@ with_scene t c = record { machine = record t.machine { state = c.machine }; sign
 
 -- ---- between two ticks, before an entry is done
 
+-- the tick is settled and the run goes on: no interrupt is due that is not taken, and no entry was to be done at an
+-- earlier tick
 pub record IsBefore (t : Together) : Type 0 where
   pub some : 1 ≤ t.machine.levels
   pub few : t.machine.levels ≤ 8
@@ -45,6 +50,7 @@ pub record IsBefore (t : Together) : Type 0 where
   pub awake : rests t.machine.state ≡ false
   pub early : t.machine.now ≤ (oldest_row t.machine).c
 
+-- where the run stands then, the last entry done at the tick
 abbrev pub standing_of : ℕ → Together → Standing
 standing_of tick t = record { scene = scene_of t; tick = tick; front = t.machine.front }
 
@@ -54,6 +60,7 @@ at_tick now t = record t { machine = record t.machine { now = now } }
 
 -- ---- an entry has just been done, and nothing has come from outside since
 
+-- a tick that is not settled, at which an entry was done
 pub record IsBehind (t : Together) : Type 0 where
   pub some : 1 ≤ t.machine.levels
   pub few : t.machine.levels ≤ 8
@@ -66,6 +73,7 @@ pub record IsBehind (t : Together) : Type 0 where
   pub counter : IfSome t.machine.behind (λ h. h < 2 ^ 19)
   pub last : t.machine.front.c ≡ t.machine.now
 
+-- the moment at which the run stands then
 abbrev pub moment_of : Together → Moment
 moment_of t = record {
   scene = scene_of t;

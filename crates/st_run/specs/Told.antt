@@ -36,6 +36,7 @@ what_of (Drops address p) = Dropped address p
 what_of (Shows tick s levels) = Shown tick s levels
 what_of (Happens happening) = what_happens happening
 
+-- that, with its moment
 abbrev pub told_of : Timed → Told
 told_of x = record { done = x.done; tick = x.tick; what = what_of x.event }
 

@@ -20,6 +20,7 @@ pub record Ahead : Type 0 where
   pub entry : Entry
   pub row : Row
 
+-- the next entry of a state behind a front
 abbrev pub next_ahead : List ℕ → ℕ → Option ℕ → Machine → Front → Ahead
 next_ahead ds n table s f = record {
   state = s;

@@ -19,11 +19,12 @@ unfoldable pub is_written : ℕ → Option ℕ → Machine → ℕ → Bool
 is_written zero table s w = false
 is_written (suc k) table s w = is_among w (entry table s).writes || is_written k None (guess table s) w
 
--- the words of a run, in order: n words from the word w on
+-- n words from the word w on
 unfoldable pub words_from : ℕ → ℕ → List ℕ
 words_from w zero = []
 words_from w (suc n) = w ∷ words_from (w + 1) n
 
+-- the words of a run, in order
 abbrev pub words_of_run : Run → List ℕ
 words_of_run run = words_from run.first run.len
 

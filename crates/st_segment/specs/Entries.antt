@@ -16,10 +16,11 @@ use Rattle.st_rows.specs.declared.entry.Entry.{Entry}
 abbrev pub reading_at : Option ℕ → Machine → Reading
 reading_at table s = reading_of s (place_of s table)
 
--- its instruction words, in order, and how many of them are its own
+-- its instruction words, in order
 unfoldable pub instruction_words : Option ℕ → Machine → List ℕ
 instruction_words table s = words_read (reading_at table s) (word s)
 
+-- how many of them are its own, and not of the target of EX
 unfoldable pub own_count : Option ℕ → Machine → ℕ
 own_count table s = own_words (reading_at table s) (word s)
 
@@ -36,15 +37,18 @@ above_registers first n =
     if nat_le FIRST_STORAGE_WORD first then record { first = first; len = n }
     else record { first = FIRST_STORAGE_WORD; len = n - (FIRST_STORAGE_WORD - first) }
 
+-- its operand words that are read from storage
 unfoldable pub words_to_read : Words → Runs
 words_to_read w = record { one = above_registers w.first w.len; two = above_registers w.first2 w.len2 }
 
+-- the words that it writes, registers among them
 abbrev pub words_to_write : Words → Runs
 words_to_write w = record {
   one = record { first = w.first; len = w.len };
   two = record { first = w.first2; len = w.len2 };
 }
 
+-- its index-side word, where that is read from storage
 unfoldable pub side_to_read : Option ℕ → Option ℕ
 side_to_read None = None
 side_to_read (Some w) = if nat_le FIRST_STORAGE_WORD w then Some w else None
@@ -55,6 +59,7 @@ side_to_read (Some w) = if nat_le FIRST_STORAGE_WORD w then Some w else None
 abbrev pub asks_for_following : Option ℕ → Machine → Bool
 asks_for_following table s = is_none table && is_none (fetched s (place_of s table)).fault
 
+-- the next entry of a state, or its table instruction
 unfoldable pub entry : Option ℕ → Machine → Entry
 entry table s = record {
   own = run_of (take (own_count table s) (instruction_words table s));

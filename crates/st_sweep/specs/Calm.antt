@@ -15,34 +15,38 @@ use Rattle.st_segment.specs.Entries.{words_to_write}
 
 -- ---- delays
 
+-- all of them are the same
 abbrev pub are_equal : List ℕ → Bool
 are_equal [] = true
 are_equal (d ∷ ds) = list_all (λ x. x == d) ds
 
 -- ---- words that earlier entries write
 
--- one of them writes the word w, or one of the n words from the word w on
+-- one of them writes the word w
 unfoldable pub is_written : List Runs → ℕ → Bool
 is_written earlier w = list_any (is_among w) earlier
 
+-- one of them writes one of the n words from the word w on
 unfoldable pub are_written : List Runs → ℕ → ℕ → Bool
 are_written earlier w zero = false
 are_written earlier w (suc n) = is_written earlier w || are_written earlier (w + 1) n
 
--- the same of the words of two runs, and of the index-side word
+-- one of them writes a word of two runs
 unfoldable pub one_is_written : List Runs → Words → Bool
 one_is_written earlier w = are_written earlier w.first w.len || are_written earlier w.first2 w.len2
 
+-- one of them writes the index-side word
 unfoldable pub side_is_written : List Runs → Option ℕ → Bool
 side_is_written earlier None = false
 side_is_written earlier (Some w) = is_written earlier w
 
 -- ---- entries
 
--- the words that the next entry of a state writes, and its index-side word
+-- the words that the next entry of a state writes
 abbrev pub next_writes : Machine → Runs
 next_writes s = words_to_write (plan s (interrupt s)).writes
 
+-- its index-side word
 abbrev pub next_side : Machine → Option ℕ
 next_side s = (needs (sight s (place_of s (interrupt s)))).index_read
 

@@ -24,10 +24,11 @@ pub record Marked : Type 0 where
   pub line : List ℕ
   pub varies : Bool
 
--- these lines, marked or not
+-- these lines, which the delays may change
 abbrev pub marked : List (List ℕ) → List Marked
 marked lines = map (λ line. record { line = line; varies = true }) lines
 
+-- these lines, which they do not change
 abbrev pub plain : List (List ℕ) → List Marked
 plain lines = map (λ line. record { line = line; varies = false }) lines
 
@@ -55,6 +56,7 @@ marked_at asked done tick (Ended rests s) =
     plain (end_line rests ∷ done_line done ∷ []) ++ marked (line_if asked.time (ticks_line tick))
     ++ plain (block asked.dumps s)
 
+-- those of what is told with its moment
 abbrev pub marked_lines : Asked → Told → List Marked
 marked_lines asked t = marked_at asked t.done t.tick t.what
 
@@ -84,13 +86,14 @@ texts_up_to_end job = map (text_in job) (up_to_end (cards_of job))
 abbrev pub end_card : List ℕ → ℕ
 end_card job = length (up_to_end (cards_of job))
 
--- the listing: the lines of the cards behind END may change, as `/DELAYS` cards are among them
+-- its lines: those of the cards behind END may change, as `/DELAYS` cards are among them
 abbrev pub listed_lines : List ℕ → Assembly → List Marked
 listed_lines job a =
     plain (rows_lines job a.rows (up_to_end (cards_of job)))
     ++ marked (rows_lines job (drop (end_card job) a.rows) (behind_statements (cards_of job)))
     ++ plain (symbols_lines a.symbols)
 
+-- the same, if a listing is asked for
 unfoldable pub marked_listing : List ℕ → Assembly → List Marked
 marked_listing job a = if a.asked.list then listed_lines job a else []
 

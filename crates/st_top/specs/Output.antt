@@ -119,11 +119,12 @@ output_of Disassemble text = disassembled_by (read_text text)
 output_of Sweep job = swept_by (assembly job)
 output_of (Soak number cards) job = soaked number cards
 
--- the delays of storage with which an assembled job, or a program that is loaded, runs
+-- the delays of storage with which an assembled job runs
 abbrev pub assembled_delays : Result Assembly Refusal → List ℕ
 assembled_delays (Ok a) = a.asked.delays
 assembled_delays (Err r) = []
 
+-- those of a program that is loaded
 abbrev pub loaded_delays : Result Program ℕ → List ℕ
 loaded_delays (Ok p) = p.controls.delays
 loaded_delays (Err n) = []

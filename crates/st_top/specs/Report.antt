@@ -73,6 +73,7 @@ lines_at asked done tick (Interrupted i s) = interrupt_lines asked done tick i s
 lines_at asked done tick (Shown at s levels) = snapshot_lines asked done at s levels
 lines_at asked done tick (Ended rests s) = end_lines asked done tick rests s
 
+-- those of what is told with its moment
 abbrev pub lines_told : Asked → Told → List (List ℕ)
 lines_told asked t = lines_at asked t.done t.tick t.what
 
