@@ -7,7 +7,7 @@ use std::env::{self, Env};
 use std::io::{self, ErrorKind};
 use std::process::ExitCode;
 
-/// The words after the program's name.
+// The words after the program's name.
 fn words(rt: &(impl Env + AllocGlobal)) -> io::Result<Vec<String>> {
     let mut words = Vec::new(rt.alloc());
     for word in env::args(rt)?.skip(1) {
@@ -16,7 +16,7 @@ fn words(rt: &(impl Env + AllocGlobal)) -> io::Result<Vec<String>> {
     Ok(words)
 }
 
-/// The status where the words could not be had: one that is not UTF-8 is no command; else there was no memory.
+// The status where the words could not be had: one that is not UTF-8 is no command; else there was no memory.
 fn status_without_words(error: &io::Error) -> Status {
     match error.kind() {
         ErrorKind::InvalidData => Status::Usage,

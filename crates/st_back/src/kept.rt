@@ -17,7 +17,7 @@ pub struct Kept {
     pub puts: u8,
 }
 
-/// The step with one more word that is put: the one at the word address `w`, which holds `content` before.
+// The step with one more word that is put: the one at the word address `w`, which holds `content` before.
 pub(crate) fn noted(mut kept: Kept, w: u32, content: u64) -> Kept
     requires { kept.puts ≤ 7 }
     ensures { result ≡ noted_of kept w content }

@@ -9,8 +9,8 @@ use std::alloc::{AllocError, Global};
 use std::process::Abort;
 use std::test::Fail;
 
-/// A job that adds twelve numbers in a loop, in which T and SWAP move words over index words. Its reader has a card and
-/// its printer a line, both of which end with an interrupt, and a signal interrupts it once more.
+// A job that adds twelve numbers in a loop, in which T and SWAP move words over index words. Its reader has a card and
+// its printer a line, both of which end with an interrupt, and a signal interrupts it once more.
 const JOB: [(u32, u64); 25] = [
     (32, 0x0019_0500_0000_8450),
     (33, 0x000A_C210_000C_80F0),
@@ -39,10 +39,10 @@ const JOB: [(u32, u64); 25] = [
     (113, 0x000A_A0F0_000A_61E0),
 ];
 
-/// The number of instructions after which indicator 13 comes on.
+// The number of instructions after which indicator 13 comes on.
 const SIGNAL: u64 = 30;
 
-/// The card that says HELLO.
+// The card that says HELLO.
 const CARD: [u64; 8] = [
     0x4845_4C4C_4F20_2020,
     0x2020_2020_2020_2020,
@@ -54,7 +54,7 @@ const CARD: [u64; 8] = [
     0x2020_2020_2020_2020,
 ];
 
-/// A list of `n` words with no bit that is one.
+// A list of `n` words with no bit that is one.
 fn zeros(alloc: Global, n: usize) -> Result<Vec<u64>, AllocError>
     ensures size { IfOk result (λ v. length v.items ≡ n) }
     ensures zeros { IfOk result (λ v. (w : ℕ) → slice_index v.items w ≡ 0) }
@@ -62,7 +62,7 @@ fn zeros(alloc: Global, n: usize) -> Result<Vec<u64>, AllocError>
     vec![in alloc; 0; n]
 }
 
-/// The state that the job opens with.
+// The state that the job opens with.
 fn opened(rt: &impl Abort, alloc: Global) -> Result<State, Fail> {
     let image = zeros(alloc, WORDS as usize)?;
     let Ok(mut state) = State::new(alloc, &image, 64) else {
@@ -75,7 +75,7 @@ fn opened(rt: &impl Abort, alloc: Global) -> Result<State, Fail> {
     Ok(state)
 }
 
-/// All that the job can change of a state: words 0 to 127, and all that is no word.
+// All that the job can change of a state: words 0 to 127, and all that is no word.
 #[derive(Clone, Copy, Debug, PartialEq, Eq)]
 struct Picture {
     words: [u64; 128],
@@ -103,7 +103,7 @@ fn picture_of(state: &State) -> Picture {
     }
 }
 
-/// The reader's order takes effect.
+// The reader's order takes effect.
 fn read(rt: &impl Abort, back: &mut Back, state: &mut State) {
     let Some(order) = state.reader else { return };
     for k in 0..8 {
@@ -114,7 +114,7 @@ fn read(rt: &impl Abort, back: &mut Back, state: &mut State) {
     state.signal(12);
 }
 
-/// What comes between two steps: the signal, orders that are due, and what ends a wait.
+// What comes between two steps: the signal, orders that are due, and what ends a wait.
 fn settle(rt: &impl Abort, back: &mut Back, state: &mut State) {
     if state.done == SIGNAL {
         state.signal(13);
@@ -130,7 +130,7 @@ fn settle(rt: &impl Abort, back: &mut Back, state: &mut State) {
     }
 }
 
-/// Goes on to the end of the job, and gives pictures of the states before and after each step.
+// Goes on to the end of the job, and gives pictures of the states before and after each step.
 fn run(
     rt: &impl Abort,
     alloc: Global,
@@ -152,20 +152,20 @@ fn run(
     Ok((before, after))
 }
 
-/// Undoes a step, which leads to the state of this picture.
+// Undoes a step, which leads to the state of this picture.
 fn undo(rt: &impl Abort, back: &mut Back, state: &mut State, before: &Picture) {
     assert!(rt; back.back(state));
     assert!(rt; picture_of(state) == *before, "before step {}", before.done);
 }
 
-/// Makes a step again, which leads to the state of this picture.
+// Makes a step again, which leads to the state of this picture.
 fn redo(rt: &impl Abort, back: &mut Back, state: &mut State, after: &Picture) {
     assert!(rt; state.done < 100);
     back.forth(state);
     assert!(rt; picture_of(state) == *after, "after step {}", after.done);
 }
 
-/// Goes so many steps back, each of them once forth and back again on the way.
+// Goes so many steps back, each of them once forth and back again on the way.
 fn go_back(
     rt: &impl Abort,
     back: &mut Back,
@@ -181,12 +181,12 @@ fn go_back(
     }
 }
 
-/// The end of the job.
+// The end of the job.
 fn is_at_the_end(state: &State) -> bool {
     state.done == 72 && state.ic == 83 && state.word(9) == 0x7047
 }
 
-/// The state after the first eight instructions.
+// The state after the first eight instructions.
 fn is_after_eight(state: &State) -> bool {
     state.done == 8
         && (state.ic, state.enabled) == (74, true)

@@ -11,7 +11,7 @@ use st_exec::Trail;
 use st_prep::Words;
 use st_state::State;
 
-/// Stores `len` words from the word address `w` on, those of `words` from place `from` on.
+// Stores `len` words from the word address `w` on, those of `words` from place `from` on.
 fn restore(w: u32, len: u8, from: u8, words: &[u64; 32], state: &mut State)
     requires inside { 1 ≤ len → w + len ≤ words_of_storage }
     requires few { from + len ≤ 32 }
@@ -22,7 +22,7 @@ fn restore(w: u32, len: u8, from: u8, words: &[u64; 32], state: &mut State)
     }
 }
 
-/// Puts back the words that an entry wrote.
+// Puts back the words that an entry wrote.
 fn restore_written(words: Words, before: &[u64; 32], state: &mut State)
     requires runs { IsRuns words }
     requires inside { AreInside words }
@@ -32,7 +32,7 @@ fn restore_written(words: Words, before: &[u64; 32], state: &mut State)
     restore(words.first2, words.len2, words.len, before, state);
 }
 
-/// Puts back the words that were put since, the last one first.
+// Puts back the words that were put since, the last one first.
 fn remove_puts(kept: &Kept, state: &mut State)
     requires { IsSound kept.now }
     ensures { state.new ≡ unput kept.now.puts kept.now.places kept.now.contents state.old }
@@ -44,7 +44,7 @@ fn remove_puts(kept: &Kept, state: &mut State)
     }
 }
 
-/// Makes all that is no word what it was.
+// Makes all that is no word what it was.
 fn restore_rest(trail: &Trail, state: &mut State)
     requires { CanBePutBack trail.now }
     ensures { state.new ≡ with_rest trail.now state.old }
@@ -57,7 +57,7 @@ fn restore_rest(trail: &Trail, state: &mut State)
     state.printer = trail.printer;
 }
 
-/// Undoes a step.
+// Undoes a step.
 #[tactic(auto, unfolding(crate::specs::Undone::undone), using(st_bits::specs::Storage::words_of_storage_is))]
 pub(crate) fn undo(kept: &Kept, state: &mut State)
     requires { IsSound kept.now }

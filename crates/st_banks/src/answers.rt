@@ -5,7 +5,7 @@ ghost use Rattle.st_banks.specs.Bank.{bank_of as bank_of_word};
 /// The number of banks.
 pub const BANKS: usize = 6;
 
-/// The number of words that lie in the first four banks.
+// The number of words that lie in the first four banks.
 const LOW_WORDS: u32 = 65_536;
 
 /// The tick of each bank's last answer, 0 before its first read. Contracts see the list of them.
@@ -50,7 +50,7 @@ impl LastAnswers {
     }
 }
 
-/// The bank of the word `w`.
+// The bank of the word `w`.
 #[tactic(auto, unfolding(crate::specs::Bank::bank_of))]
 fn bank_of(w: u32) -> usize
     ensures value { result ≡ bank_of_word w }

@@ -77,7 +77,7 @@ impl Delays {
     }
 }
 
-/// The place of the first entry that is zero.
+// The place of the first entry that is zero.
 fn first_zero(list: &[u8]) -> Option<usize>
     ensures value { result ≡ place_of_zero list.now }
     ensures bound { IfSome result (λ place. place < length list.now) }

@@ -3,7 +3,7 @@ use super::*;
 use std::alloc::{AllocError, Global};
 use std::test::Fail;
 
-/// Delays of 3 ticks at even and 5 at odd ticks.
+// Delays of 3 ticks at even and 5 at odd ticks.
 fn three_and_five(alloc: Global) -> Result<Delays, Fail> {
     match Delays::new(alloc, &[3, 5]) {
         Ok(delays) => Ok(delays),
@@ -25,7 +25,7 @@ fn the_list_of_delays_is_gone_round(rt: HostRuntime) -> Result<(), Fail> {
     Ok(())
 }
 
-/// The place of the first zero, where the list is refused for one.
+// The place of the first zero, where the list is refused for one.
 fn refused_at(alloc: Global, list: &[u8; 5]) -> Option<u32> {
     match Delays::new(alloc, list) {
         Err(DelayError::ZeroDelay { place }) => Some(place),
@@ -41,7 +41,7 @@ fn a_list_is_refused_for_its_first_zero(rt: HostRuntime) {
     assert_eq!(rt; refused_at(rt.alloc(), &[1, 1, 1, 1, 1]), None);
 }
 
-/// The words of each line lie in the bank that the comment names.
+// The words of each line lie in the bank that the comment names.
 #[test]
 fn reads_over_the_six_banks(rt: HostRuntime) -> Result<(), Fail> {
     let mut banks = Banks::new(three_and_five(rt.alloc())?);
@@ -82,7 +82,7 @@ fn reads_over_the_six_banks(rt: HostRuntime) -> Result<(), Fail> {
     Ok(())
 }
 
-/// The first read is accepted at once, the second one waits for its bank, the third one for its want.
+// The first read is accepted at once, the second one waits for its bank, the third one for its want.
 #[test]
 fn reads_are_accepted_at_the_greatest_of_three_ticks(rt: HostRuntime) -> Result<(), Fail> {
     let delays = three_and_five(rt.alloc())?;

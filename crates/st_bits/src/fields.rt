@@ -55,7 +55,7 @@ pub fn put_field(words: &mut [u64], a: u32, n: u8, bits: u64)
     }
 }
 
-/// The bits of `high` followed by the `count` bits of `low`.
+// The bits of `high` followed by the `count` bits of `low`.
 fn joined(high: u64, low: u64, count: u32) -> u64
     requires few { count < 64 }
     requires high_fits { high < 2 ^ (64 - count) }

@@ -33,7 +33,7 @@ pub const FIRST_INDEX_WORD: u32 = 16;
 /// The address of the first word that is no register.
 pub const FIRST_STORAGE_WORD: u32 = 32;
 
-/// The bits of the mask register that are always one.
+// The bits of the mask register that are always one.
 const ALWAYS_MASKED: u64 = 0xFFFF_F000_0000_0000;
 
 /// What stands in register word `w`, 0 to 31, after `value` is written to it.

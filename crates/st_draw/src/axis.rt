@@ -39,7 +39,7 @@ pub fn first_tick(entry: &Entry) -> u64
     }
 }
 
-/// The last tick of an entry.
+// The last tick of an entry.
 fn last_tick(entry: &Entry) -> u64
     ensures { result ≡ spec.last_tick entry.now }
 {
@@ -51,7 +51,7 @@ fn last_tick(entry: &Entry) -> u64
     }
 }
 
-/// The first tick of entries.
+// The first tick of entries.
 #[tactic(auto, using(crate::proofs::Axes::lowest_bound))]
 fn lowest(entries: &[Entry]) -> u64
     ensures { result ≡ spec.lowest entries.now }
@@ -65,7 +65,7 @@ fn lowest(entries: &[Entry]) -> u64
     low
 }
 
-/// The last tick of entries.
+// The last tick of entries.
 fn highest(entries: &[Entry]) -> u64
     ensures { result ≡ spec.highest entries.now }
 {
@@ -78,7 +78,7 @@ fn highest(entries: &[Entry]) -> u64
     high
 }
 
-/// The first of 1, 2, 5, 10, 20, .. times a unit of which five or fewer make up a span.
+// The first of 1, 2, 5, 10, 20, .. times a unit of which five or fewer make up a span.
 fn step_from(fuel: u8, unit: u64, span: u64) -> u64
     requires { 1 ≤ unit }
     ensures value { result ≡ spec.step_from fuel unit span }
@@ -131,7 +131,7 @@ pub fn at(room: Room, axis: Axis, tick: u64) -> u64
     u64::from(room.left) + along.min(u128::from(room.width)) as u64
 }
 
-/// Appends the round ticks from one on, up to the last and at most so many.
+// Appends the round ticks from one on, up to the last and at most so many.
 fn push_marks(marks: &mut Vec<u64>, fuel: u8, tick: u128, axis: Axis) -> Result<(), AllocError>
     requires { tick < 2 ^ 65 }
     ensures { IfOk result (λ _. marks.new.items

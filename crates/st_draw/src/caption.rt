@@ -8,14 +8,14 @@ use crate::report::Place;
 use crate::timetable::Entry;
 use std::alloc::{AllocError, Global};
 
-/// The names of the indicators 0 to 63, each in four places.
+// The names of the indicators 0 to 63, each in four places.
 const INDICATOR_NAMES: &[u8; 256] =
     b"MK  IK  IJ  EK  TS  CPUSEKJ UNRJCBJ EPGKUK  EE  EOP CS      OP  \
     AD  USA EXE DS  DF  IF  LC  PF  ZD                                          \
     TF  UF  VF  XF  BTR DTR PG0 PG1 PG2 PG3 PG4 PG5 PG6 XCZ XVLZXVZ \
     XVGZXL  XE  XH  MOP RLZ RZ  RGZ RN  AL  AE  AH      ";
 
-/// The names of the indicators as one text.
+// The names of the indicators as one text.
 #[tactic(auto, unfolding(crate::specs::Caption::indicator_names))]
 fn indicator_names() -> &'static [u8]
     ensures { result.now ≡ spec.indicator_names }
@@ -23,7 +23,7 @@ fn indicator_names() -> &'static [u8]
     INDICATOR_NAMES
 }
 
-/// The name of an indicator; blanks where it has none, and nothing past the last.
+// The name of an indicator; blanks where it has none, and nothing past the last.
 #[tactic(auto, unfolding(crate::specs::Caption::indicator))]
 fn indicator(i: u64) -> &'static [u8]
     ensures { result.now ≡ spec.indicator i }
@@ -34,7 +34,7 @@ fn indicator(i: u64) -> &'static [u8]
     front(behind(indicator_names(), 4 * i as usize), 4)
 }
 
-/// A number as a text.
+// A number as a text.
 fn decimal_text(alloc: Global, n: u64) -> Result<Vec<u8>, AllocError>
     ensures { IfOk result (λ text. text.items ≡ decimal n) }
 {
@@ -43,7 +43,7 @@ fn decimal_text(alloc: Global, n: u64) -> Result<Vec<u8>, AllocError>
     Ok(text)
 }
 
-/// A place as word.bit.
+// A place as word.bit.
 fn place_text(alloc: Global, place: Place) -> Result<Vec<u8>, AllocError>
     ensures { IfOk result (λ text. text.items ≡ spec.place_text place) }
 {

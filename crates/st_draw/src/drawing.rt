@@ -22,7 +22,7 @@ pub struct Sheet {
     pub bottom: u128,
 }
 
-/// What the classes of elements look like, and the hatch of what is dropped.
+// What the classes of elements look like, and the hatch of what is dropped.
 const STYLES: &[u8; 502] =
     b"\">\n<defs><pattern id=\"h\" width=\"5\" height=\"5\" patternUnits=\"userSpaceOnUse\" patternTransform=\"rotate(45)\">\
     <rect width=\"5\" height=\"5\" fill=\"#fff\"/><rect width=\"2\" height=\"5\" fill=\"#8a3b12\"/></pattern></defs>\n\
@@ -31,17 +31,17 @@ const STYLES: &[u8; 502] =
     .d{fill:url(#h);stroke:#8a3b12}\
     .i{stroke:#b3261e;stroke-width:2}.s{stroke:#2e7d32;stroke-dasharray:2 3}</style>\n";
 
-/// An entry, and the upper edge of its row.
+// An entry, and the upper edge of its row.
 #[derive(Clone, Copy)]
 struct Row {
     y: u128,
     entry: Entry,
 }
 
-/// The words before the height of a picture.
+// The words before the height of a picture.
 const PREAMBLE: &[u8; 57] = b"<svg xmlns=\"http://www.w3.org/2000/svg\" viewBox=\"0 0 640 ";
 
-/// The words before the height of a picture, as a text.
+// The words before the height of a picture, as a text.
 #[tactic(auto, unfolding(crate::specs::Drawing::preamble))]
 fn preamble() -> &'static [u8]
     ensures { result.now ≡ spec.preamble }
@@ -49,7 +49,7 @@ fn preamble() -> &'static [u8]
     PREAMBLE
 }
 
-/// What the classes of elements look like, as a text.
+// What the classes of elements look like, as a text.
 #[tactic(auto, unfolding(crate::specs::Drawing::styles))]
 fn styles() -> &'static [u8]
     ensures { result.now ≡ spec.styles }
@@ -57,7 +57,7 @@ fn styles() -> &'static [u8]
     STYLES
 }
 
-/// The room of the axis: cards stand before it where the report lists them.
+// The room of the axis: cards stand before it where the report lists them.
 fn room_of(report: &[u8]) -> Room
     ensures { result ≡ spec.room_of report.now }
 {
@@ -74,7 +74,7 @@ fn room_of(report: &[u8]) -> Room
     }
 }
 
-/// The sheet of entries.
+// The sheet of entries.
 #[tactic(auto, unfolding(crate::specs::Drawing::sheet))]
 fn sheet_of(report: &[u8], entries: &[Entry]) -> Sheet
     ensures value { result ≡ spec.sheet report.now entries.now }
@@ -87,7 +87,7 @@ fn sheet_of(report: &[u8], entries: &[Entry]) -> Sheet
     }
 }
 
-/// Where a tick stands on a sheet.
+// Where a tick stands on a sheet.
 fn across(sheet: &Sheet, tick: u64) -> u128
     requires { IsSheet sheet.now }
     ensures { result ≡ spec.across sheet.now tick }
@@ -95,7 +95,7 @@ fn across(sheet: &Sheet, tick: u64) -> u128
     u128::from(at(sheet.room, sheet.axis, tick))
 }
 
-/// Appends a line down the sheet.
+// Appends a line down the sheet.
 fn push_down(out: &mut Vec<u8>, class: &[u8], sheet: &Sheet, x: u128) -> Result<(), AllocError>
     ensures { IfOk result (λ _. out.new.items ≡ out.old.items
         ++ element_text (Line class.now x 28 x sheet.now.bottom)) }
@@ -109,7 +109,7 @@ fn push_down(out: &mut Vec<u8>, class: &[u8], sheet: &Sheet, x: u128) -> Result<
     push_line(out, class, area)
 }
 
-/// Appends a number as a text.
+// Appends a number as a text.
 fn push_number(alloc: Global, out: &mut Vec<u8>, x: u128, n: u64) -> Result<(), AllocError>
     ensures { IfOk result (λ _. out.new.items ≡ out.old.items
         ++ element_text (Text (codes "m") x 22 (decimal n))) }
@@ -119,7 +119,7 @@ fn push_number(alloc: Global, out: &mut Vec<u8>, x: u128, n: u64) -> Result<(), 
     push_text(out, b"m", Spot { x, y: 22 }, number.as_slice())
 }
 
-/// Appends a round tick: a line down the sheet and its number above.
+// Appends a round tick: a line down the sheet and its number above.
 #[tactic(auto, unfolding(crate::specs::Drawing::mark, crate::specs::Element::elements_text))]
 fn push_mark(alloc: Global, out: &mut Vec<u8>, sheet: &Sheet, tick: u64) -> Result<(), AllocError>
     requires { IsSheet sheet.now }
@@ -131,7 +131,7 @@ fn push_mark(alloc: Global, out: &mut Vec<u8>, sheet: &Sheet, tick: u64) -> Resu
     push_number(alloc, out, x, tick)
 }
 
-/// Appends round ticks.
+// Appends round ticks.
 fn push_grid(
     alloc: Global,
     out: &mut Vec<u8>,
@@ -150,7 +150,7 @@ fn push_grid(
     Ok(())
 }
 
-/// Appends a line in a row.
+// Appends a line in a row.
 fn push_along(out: &mut Vec<u8>, class: &[u8], room: Room, y: u128) -> Result<(), AllocError>
     requires { y < 2 ^ 70 }
     ensures { IfOk result (λ _. out.new.items ≡ out.old.items
@@ -165,7 +165,7 @@ fn push_along(out: &mut Vec<u8>, class: &[u8], room: Room, y: u128) -> Result<()
     push_line(out, class, area)
 }
 
-/// Appends a tick of its own: a line in its row and one down the sheet.
+// Appends a tick of its own: a line in its row and one down the sheet.
 #[tactic(auto, unfolding(crate::specs::Element::elements_text))]
 fn push_upright(
     out: &mut Vec<u8>,
@@ -183,7 +183,7 @@ fn push_upright(
     push_down(out, class, sheet, across(sheet, tick))
 }
 
-/// A bar in the row at y from one place to another, at least so wide.
+// A bar in the row at y from one place to another, at least so wide.
 fn bar(y: u128, least: u128, from: u128, to: u128) -> Area
     requires { y < 2 ^ 70 }
     ensures { result ≡ record { x = from; y = y + 3; across = max least (to - from); down = 10 } }
@@ -196,7 +196,7 @@ fn bar(y: u128, least: u128, from: u128, to: u128) -> Area
     }
 }
 
-/// Appends the bars of an entry in the row at y.
+// Appends the bars of an entry in the row at y.
 #[tactic(auto, unfolding(crate::specs::Drawing::bars, crate::specs::Element::elements_text))]
 fn push_bars(out: &mut Vec<u8>, sheet: &Sheet, y: u128, entry: Entry) -> Result<(), AllocError>
     requires sheet { IsSheet sheet.now }
@@ -227,7 +227,7 @@ fn push_bars(out: &mut Vec<u8>, sheet: &Sheet, y: u128, entry: Entry) -> Result<
     }
 }
 
-/// Appends what stands in front of an entry's bars.
+// Appends what stands in front of an entry's bars.
 #[tactic(auto, unfolding(crate::specs::Drawing::caption, crate::specs::Element::elements_text))]
 fn push_caption(
     alloc: Global,
@@ -248,7 +248,7 @@ fn push_caption(
     push_text(out, b"c", Spot { x: 120, y }, third_text(report, entry))
 }
 
-/// Appends the row of an entry at y.
+// Appends the row of an entry at y.
 #[tactic(auto, unfolding(crate::specs::Drawing::row), using(crate::proofs::Elements::elements_joined))]
 fn push_row(
     alloc: Global,
@@ -266,7 +266,7 @@ fn push_row(
     push_bars(out, sheet, row.y, row.entry)
 }
 
-/// Appends the rows of entries, one below the other.
+// Appends the rows of entries, one below the other.
 fn push_rows(
     alloc: Global,
     out: &mut Vec<u8>,
@@ -288,7 +288,7 @@ fn push_rows(
     Ok(())
 }
 
-/// Appends what an element of the legend means, that stands at (x, y).
+// Appends what an element of the legend means, that stands at (x, y).
 fn push_meaning(out: &mut Vec<u8>, x: u16, y: u128, meaning: &[u8]) -> Result<(), AllocError>
     requires { y < 2 ^ 71 }
     ensures { IfOk result (λ _. out.new.items ≡ out.old.items
@@ -301,7 +301,7 @@ fn push_meaning(out: &mut Vec<u8>, x: u16, y: u128, meaning: &[u8]) -> Result<()
     push_text(out, b"c", spot, meaning)
 }
 
-/// Appends what a box of the legend means.
+// Appends what a box of the legend means.
 #[tactic(auto, unfolding(crate::specs::Drawing::box_key, crate::specs::Element::elements_text))]
 fn push_box_key(
     out: &mut Vec<u8>,
@@ -324,7 +324,7 @@ fn push_box_key(
     push_meaning(out, x, y, meaning)
 }
 
-/// Appends what a line of the legend means.
+// Appends what a line of the legend means.
 #[tactic(auto, unfolding(crate::specs::Drawing::line_key, crate::specs::Element::elements_text))]
 fn push_line_key(
     out: &mut Vec<u8>,
@@ -347,7 +347,7 @@ fn push_line_key(
     push_meaning(out, x, y, meaning)
 }
 
-/// Appends what the boxes mean.
+// Appends what the boxes mean.
 #[tactic(auto, unfolding(crate::specs::Drawing::box_keys), using(crate::proofs::Elements::elements_joined))]
 fn push_box_keys(out: &mut Vec<u8>, y: u128) -> Result<(), AllocError>
     requires { y < 2 ^ 71 }
@@ -358,7 +358,7 @@ fn push_box_keys(out: &mut Vec<u8>, y: u128) -> Result<(), AllocError>
     push_box_key(out, b"d", 226, y, b"dropped")
 }
 
-/// Appends what the lines mean.
+// Appends what the lines mean.
 #[tactic(auto, unfolding(crate::specs::Drawing::line_keys), using(crate::proofs::Elements::elements_joined))]
 fn push_line_keys(out: &mut Vec<u8>, y: u128) -> Result<(), AllocError>
     requires { y < 2 ^ 71 }
@@ -369,7 +369,7 @@ fn push_line_keys(out: &mut Vec<u8>, y: u128) -> Result<(), AllocError>
     push_line_key(out, b"s", 440, y, b"snapshot")
 }
 
-/// Appends the legend.
+// Appends the legend.
 #[tactic(auto, unfolding(crate::specs::Drawing::legend), using(crate::proofs::Elements::elements_joined))]
 fn push_legend(out: &mut Vec<u8>, y: u128) -> Result<(), AllocError>
     requires { y < 2 ^ 71 }
@@ -392,7 +392,7 @@ pub fn remark(alloc: Global, shown: u64, later: u64) -> Result<Vec<u8>, AllocErr
     Ok(text)
 }
 
-/// Appends the ground of the picture, and what is said where there is no entry.
+// Appends the ground of the picture, and what is said where there is no entry.
 #[tactic(auto, unfolding(crate::specs::Drawing::ground, crate::specs::Drawing::notice, crate::specs::Element::elements_text))]
 fn push_ground(out: &mut Vec<u8>, height: u128, entries: &[Entry]) -> Result<(), AllocError>
     ensures { IfOk result (λ _. out.new.items ≡ out.old.items
@@ -411,7 +411,7 @@ fn push_ground(out: &mut Vec<u8>, height: u128, entries: &[Entry]) -> Result<(),
     Ok(())
 }
 
-/// Appends the axis and the rows.
+// Appends the axis and the rows.
 #[tactic(auto, unfolding(crate::specs::Drawing::chart), using(crate::proofs::Elements::elements_joined))]
 fn push_chart(
     alloc: Global,
@@ -429,7 +429,7 @@ fn push_chart(
     push_rows(alloc, out, sheet, report, entries)
 }
 
-/// Appends the legend and the remark under it.
+// Appends the legend and the remark under it.
 #[tactic(auto, unfolding(crate::specs::Drawing::foot), using(crate::proofs::Elements::elements_joined, crate::proofs::Elements::elements_one))]
 fn push_foot(out: &mut Vec<u8>, bottom: u128, remark: &[u8]) -> Result<(), AllocError>
     requires { bottom < 2 ^ 70 }
@@ -444,7 +444,7 @@ fn push_foot(out: &mut Vec<u8>, bottom: u128, remark: &[u8]) -> Result<(), Alloc
     push_text(out, b"c", spot, remark)
 }
 
-/// Appends the front of a picture of a height.
+// Appends the front of a picture of a height.
 #[tactic(auto, unfolding(crate::specs::Drawing::opening))]
 fn push_opening(out: &mut Vec<u8>, height: u128) -> Result<(), AllocError>
     ensures { IfOk result (λ _. out.new.items ≡ out.old.items ++ spec.opening height) }

@@ -33,7 +33,7 @@ pub fn push_decimal(out: &mut Vec<u8>, n: u128) -> Result<(), AllocError>
     out.extend_from_slice(Buffer::new().format(n).as_bytes())
 }
 
-/// Appends a number as the value of an attribute.
+// Appends a number as the value of an attribute.
 #[tactic(auto, unfolding(crate::specs::Element::attribute))]
 fn push_attribute(out: &mut Vec<u8>, name: &[u8], n: u128) -> Result<(), AllocError>
     ensures { IfOk result (λ _. out.new.items ≡ out.old.items ++ attribute name.now n) }
@@ -44,7 +44,7 @@ fn push_attribute(out: &mut Vec<u8>, name: &[u8], n: u128) -> Result<(), AllocEr
     out.extend_from_slice(b"\"")
 }
 
-/// Appends the front of an element, with its class.
+// Appends the front of an element, with its class.
 #[tactic(auto, unfolding(crate::specs::Element::front))]
 fn push_front(out: &mut Vec<u8>, name: &[u8], class: &[u8]) -> Result<(), AllocError>
     ensures { IfOk result (λ _. out.new.items ≡ out.old.items ++ front name.now class.now) }
@@ -55,7 +55,7 @@ fn push_front(out: &mut Vec<u8>, name: &[u8], class: &[u8]) -> Result<(), AllocE
     out.extend_from_slice(b"\"")
 }
 
-/// Appends where an element stands.
+// Appends where an element stands.
 #[tactic(auto, unfolding(crate::specs::Element::corner))]
 fn push_corner(out: &mut Vec<u8>, x: u128, y: u128) -> Result<(), AllocError>
     ensures { IfOk result (λ _. out.new.items ≡ out.old.items ++ corner x y) }
@@ -64,7 +64,7 @@ fn push_corner(out: &mut Vec<u8>, x: u128, y: u128) -> Result<(), AllocError>
     push_attribute(out, b" y", y)
 }
 
-/// Appends how far a box reaches.
+// Appends how far a box reaches.
 #[tactic(auto, unfolding(crate::specs::Element::size))]
 fn push_size(out: &mut Vec<u8>, width: u128, height: u128) -> Result<(), AllocError>
     ensures { IfOk result (λ _. out.new.items ≡ out.old.items ++ size width height) }
@@ -73,7 +73,7 @@ fn push_size(out: &mut Vec<u8>, width: u128, height: u128) -> Result<(), AllocEr
     push_attribute(out, b" height", height)
 }
 
-/// Appends where a line begins and ends.
+// Appends where a line begins and ends.
 #[tactic(auto, unfolding(crate::specs::Element::ends))]
 fn push_ends(out: &mut Vec<u8>, area: Area) -> Result<(), AllocError>
     ensures { IfOk result (λ _. out.new.items ≡ out.old.items
@@ -85,7 +85,7 @@ fn push_ends(out: &mut Vec<u8>, area: Area) -> Result<(), AllocError>
     push_attribute(out, b" y2", area.down)
 }
 
-/// Appends what a text says, and its end.
+// Appends what a text says, and its end.
 #[tactic(auto, unfolding(crate::specs::Element::content))]
 fn push_content(out: &mut Vec<u8>, text: &[u8]) -> Result<(), AllocError>
     ensures { IfOk result (λ _. out.new.items ≡ out.old.items ++ content text.now) }

@@ -4,7 +4,7 @@ ghost use Rattle.st_draw.specs.Escape as spec;
 
 use std::alloc::AllocError;
 
-/// Appends a byte as it may stand there.
+// Appends a byte as it may stand there.
 fn push_escaped_byte(out: &mut Vec<u8>, byte: u8) -> Result<(), AllocError>
     ensures { IfOk result (λ _. out.new.items ≡ out.old.items ++ spec.escaped_byte byte) }
 {

@@ -26,7 +26,7 @@ pub fn behind(text: &[u8], n: usize) -> &[u8]
     text.split_at(n).1
 }
 
-/// A text without the blanks at its front.
+// A text without the blanks at its front.
 fn unindented(text: &[u8]) -> &[u8]
     ensures { result.now ≡ spec.unindented text.now }
 {
@@ -37,7 +37,7 @@ fn unindented(text: &[u8]) -> &[u8]
     rest
 }
 
-/// Whether a line is one of the listing: it begins with a number, at the right of five places.
+// Whether a line is one of the listing: it begins with a number, at the right of five places.
 #[tactic(auto, unfolding(crate::specs::Label::is_listed))]
 fn is_listed(line: &[u8]) -> bool
     ensures { result ≡ spec.is_listed line.now }
@@ -45,7 +45,7 @@ fn is_listed(line: &[u8]) -> bool
     number(unindented(front(line, 5))).is_some()
 }
 
-/// Whether a text spells a place.
+// Whether a text spells a place.
 fn is_place(text: &[u8], here: Place) -> bool
     ensures { result ≡ spec.is_place (place text.now) here }
 {
@@ -55,7 +55,7 @@ fn is_place(text: &[u8], here: Place) -> bool
     }
 }
 
-/// Whether a text has something else than a blank at its front.
+// Whether a text has something else than a blank at its front.
 fn is_filled(text: &[u8]) -> bool
     ensures { result ≡ spec.is_filled text.now }
 {
@@ -65,7 +65,7 @@ fn is_filled(text: &[u8]) -> bool
     }
 }
 
-/// Whether the card of a listed line lays bits at a place.
+// Whether the card of a listed line lays bits at a place.
 #[tactic(auto, unfolding(crate::specs::Label::lays))]
 fn lays(line: &[u8], here: Place) -> bool
     ensures { result ≡ spec.lays line.now here }
@@ -73,7 +73,7 @@ fn lays(line: &[u8], here: Place) -> bool
     is_place(unindented(front(behind(line, 6), 9)), here) && is_filled(behind(line, 16))
 }
 
-/// The front of the text of a listed card.
+// The front of the text of a listed card.
 #[tactic(auto, unfolding(crate::specs::Label::card_text))]
 fn card_text(line: &[u8]) -> &[u8]
     ensures { result.now ≡ spec.card_text line.now }

@@ -9,7 +9,7 @@ use crate::terminal::push_plain;
 use crate::timetable::Entry;
 use std::alloc::{AllocError, Global};
 
-/// The name of the log's format, and what stands before the tick at which it starts.
+// The name of the log's format, and what stands before the tick at which it starts.
 #[tactic(auto, unfolding(crate::specs::Log::heading))]
 fn heading() -> &'static [u8]
     ensures { result.now ≡ spec.heading }
@@ -17,7 +17,7 @@ fn heading() -> &'static [u8]
     b"Kanata\t0004\nC=\t"
 }
 
-/// Appends the name of the log's format, and the tick at which it starts.
+// Appends the name of the log's format, and the tick at which it starts.
 #[tactic(auto, unfolding(crate::specs::Log::opening))]
 fn push_opening(out: &mut Vec<u8>, tick: u64) -> Result<(), AllocError>
     ensures { IfOk result (λ _. out.new.items ≡ out.old.items ++ spec.opening tick) }
@@ -27,7 +27,7 @@ fn push_opening(out: &mut Vec<u8>, tick: u64) -> Result<(), AllocError>
     out.extend_from_slice(b"\n")
 }
 
-/// Appends that ticks pass, where they do.
+// Appends that ticks pass, where they do.
 #[tactic(auto, unfolding(crate::specs::Log::passing))]
 fn push_passing(out: &mut Vec<u8>, from: u64, to: u64) -> Result<(), AllocError>
     ensures { IfOk result (λ _. out.new.items ≡ out.old.items ++ spec.passing from to) }
@@ -40,7 +40,7 @@ fn push_passing(out: &mut Vec<u8>, from: u64, to: u64) -> Result<(), AllocError>
     out.extend_from_slice(b"\n")
 }
 
-/// Appends that the entry with a number appears.
+// Appends that the entry with a number appears.
 #[tactic(auto, unfolding(crate::specs::Log::entry_line))]
 fn push_entry_line(out: &mut Vec<u8>, number: u64) -> Result<(), AllocError>
     ensures { IfOk result (λ _. out.new.items ≡ out.old.items ++ spec.entry_line number) }
@@ -52,7 +52,7 @@ fn push_entry_line(out: &mut Vec<u8>, number: u64) -> Result<(), AllocError>
     out.extend_from_slice(b"\t0\n")
 }
 
-/// Appends what stands beside it in the viewer.
+// Appends what stands beside it in the viewer.
 #[tactic(auto, unfolding(crate::specs::Log::label_line))]
 fn push_label_line(out: &mut Vec<u8>, number: u64, text: &[u8]) -> Result<(), AllocError>
     ensures { IfOk result (λ _. out.new.items ≡ out.old.items ++ spec.label_line number text.now) }
@@ -64,7 +64,7 @@ fn push_label_line(out: &mut Vec<u8>, number: u64, text: &[u8]) -> Result<(), Al
     out.extend_from_slice(b"\n")
 }
 
-/// Appends that a stage of it begins, `S`, or ends, `E`.
+// Appends that a stage of it begins, `S`, or ends, `E`.
 #[tactic(auto, unfolding(crate::specs::Log::stage_line))]
 fn push_stage(out: &mut Vec<u8>, sign: &[u8], number: u64, stage: &[u8]) -> Result<(), AllocError>
     ensures { IfOk result (λ _. out.new.items ≡ out.old.items
@@ -78,7 +78,7 @@ fn push_stage(out: &mut Vec<u8>, sign: &[u8], number: u64, stage: &[u8]) -> Resu
     out.extend_from_slice(b"\n")
 }
 
-/// Appends that it is done with, as a row or as none: retired, 0, or flushed, 1.
+// Appends that it is done with, as a row or as none: retired, 0, or flushed, 1.
 #[tactic(auto, unfolding(crate::specs::Log::end_line))]
 fn push_end_line(out: &mut Vec<u8>, number: u64, row: u64, how: &[u8]) -> Result<(), AllocError>
     ensures { IfOk result (λ _. out.new.items ≡ out.old.items
@@ -93,7 +93,7 @@ fn push_end_line(out: &mut Vec<u8>, number: u64, row: u64, how: &[u8]) -> Result
     out.extend_from_slice(b"\n")
 }
 
-/// The label of an entry: its three texts.
+// The label of an entry: its three texts.
 #[tactic(auto, unfolding(crate::specs::Log::label))]
 fn label(alloc: Global, report: &[u8], entry: Entry) -> Result<Vec<u8>, AllocError>
     ensures { IfOk result (λ text. text.items ≡ spec.label report.now entry) }
@@ -107,7 +107,7 @@ fn label(alloc: Global, report: &[u8], entry: Entry) -> Result<Vec<u8>, AllocErr
     Ok(text)
 }
 
-/// The stage in which an entry begins: waiting, dropped, an interrupt, a snapshot.
+// The stage in which an entry begins: waiting, dropped, an interrupt, a snapshot.
 fn first_stage(entry: Entry) -> &'static [u8]
     ensures { result.now ≡ spec.first_stage entry }
 {
@@ -119,7 +119,7 @@ fn first_stage(entry: Entry) -> &'static [u8]
     }
 }
 
-/// The stage in which an entry ends: executing, or that in which it began.
+// The stage in which an entry ends: executing, or that in which it began.
 fn last_stage(entry: Entry) -> &'static [u8]
     ensures { result.now ≡ spec.last_stage entry }
 {
@@ -131,7 +131,7 @@ fn last_stage(entry: Entry) -> &'static [u8]
     }
 }
 
-/// The number of an entry's row; 0 where it has none.
+// The number of an entry's row; 0 where it has none.
 fn row_number(entry: Entry) -> u64
     ensures { result ≡ spec.row_number entry }
 {
@@ -143,7 +143,7 @@ fn row_number(entry: Entry) -> u64
     }
 }
 
-/// Whether an entry was retired, 0, or flushed, 1.
+// Whether an entry was retired, 0, or flushed, 1.
 fn manner(entry: Entry) -> &'static [u8]
     ensures { result.now ≡ spec.manner entry }
 {
@@ -155,7 +155,7 @@ fn manner(entry: Entry) -> &'static [u8]
     }
 }
 
-/// Appends the lines of an entry that begins.
+// Appends the lines of an entry that begins.
 #[tactic(auto, unfolding(crate::specs::Log::begin_lines))]
 fn push_begin(
     alloc: Global,
@@ -173,7 +173,7 @@ fn push_begin(
     push_stage(out, b"S", number, first_stage(entry))
 }
 
-/// Appends the lines of an entry whose operands are there.
+// Appends the lines of an entry whose operands are there.
 #[tactic(auto, unfolding(crate::specs::Log::ready_lines))]
 fn push_ready(out: &mut Vec<u8>, number: u64) -> Result<(), AllocError>
     ensures { IfOk result (λ _. out.new.items ≡ out.old.items ++ spec.ready_lines number) }
@@ -182,7 +182,7 @@ fn push_ready(out: &mut Vec<u8>, number: u64) -> Result<(), AllocError>
     push_stage(out, b"S", number, b"X")
 }
 
-/// Appends the lines of an entry that ends.
+// Appends the lines of an entry that ends.
 #[tactic(auto, unfolding(crate::specs::Log::end_lines))]
 fn push_end(out: &mut Vec<u8>, number: u64, entry: Entry) -> Result<(), AllocError>
     ensures { IfOk result (λ _. out.new.items ≡ out.old.items ++ spec.end_lines number entry) }
@@ -191,7 +191,7 @@ fn push_end(out: &mut Vec<u8>, number: u64, entry: Entry) -> Result<(), AllocErr
     push_end_line(out, number, row_number(entry), manner(entry))
 }
 
-/// Appends the lines of what happens to an entry.
+// Appends the lines of what happens to an entry.
 fn push_step(
     alloc: Global,
     out: &mut Vec<u8>,
@@ -208,7 +208,7 @@ fn push_step(
     }
 }
 
-/// Appends the lines of a moment that comes after a tick, or at it.
+// Appends the lines of a moment that comes after a tick, or at it.
 #[tactic(auto, unfolding(crate::specs::Log::moment_lines))]
 fn push_moment(
     alloc: Global,
@@ -224,7 +224,7 @@ fn push_moment(
     push_step(alloc, out, report, moment)
 }
 
-/// Appends the lines of moments that come after a tick, or at it, one after another.
+// Appends the lines of moments that come after a tick, or at it, one after another.
 fn push_moments(
     alloc: Global,
     out: &mut Vec<u8>,
@@ -245,7 +245,7 @@ fn push_moments(
     Ok(())
 }
 
-/// The tick of the first moment; 0 where there is none.
+// The tick of the first moment; 0 where there is none.
 fn start_of(moments: &[Moment]) -> u64
     ensures { result ≡ spec.start moments.now }
 {

@@ -28,7 +28,7 @@ pub struct Moment {
     pub entry: Entry,
 }
 
-/// The tick at which an entry's operands are there: not before it begins.
+// The tick at which an entry's operands are there: not before it begins.
 fn ready_tick(entry: &Entry) -> u64
     ensures { result ≡ spec.ready_tick entry.now }
 {
@@ -44,7 +44,7 @@ fn ready_tick(entry: &Entry) -> u64
     }
 }
 
-/// The tick at which an entry ends: not before it begins; an interrupt and a snapshot fill one tick.
+// The tick at which an entry ends: not before it begins; an interrupt and a snapshot fill one tick.
 fn end_tick(entry: &Entry) -> u64
     ensures { result ≡ spec.end_tick entry.now }
 {
@@ -61,7 +61,7 @@ fn end_tick(entry: &Entry) -> u64
     }
 }
 
-/// The tick at which something happens to an entry.
+// The tick at which something happens to an entry.
 fn tick_of(step: Step, entry: &Entry) -> u64
     ensures { result ≡ spec.tick_of step entry.now }
 {
@@ -72,7 +72,7 @@ fn tick_of(step: Step, entry: &Entry) -> u64
     }
 }
 
-/// Appends what happens to the entry with a number.
+// Appends what happens to the entry with a number.
 fn push(out: &mut Vec<Moment>, number: u64, step: Step, entry: Entry) -> Result<(), AllocError>
     ensures { IfOk result (λ _. out.new.items
         ≡ out.old.items ++ spec.moment number step entry ∷ []) }
@@ -87,7 +87,7 @@ fn push(out: &mut Vec<Moment>, number: u64, step: Step, entry: Entry) -> Result<
     Ok(())
 }
 
-/// Appends that the operands of an entry are there, where it waits for some.
+// Appends that the operands of an entry are there, where it waits for some.
 fn push_ready(out: &mut Vec<Moment>, number: u64, entry: Entry) -> Result<(), AllocError>
     ensures { IfOk result (λ _. out.new.items ≡ out.old.items ++ spec.ready_of number entry) }
 {
@@ -99,7 +99,7 @@ fn push_ready(out: &mut Vec<Moment>, number: u64, entry: Entry) -> Result<(), Al
     }
 }
 
-/// Appends all that happens to the entry with a number.
+// Appends all that happens to the entry with a number.
 #[tactic(auto, unfolding(crate::specs::Moments::moments_of))]
 fn push_moments_of(out: &mut Vec<Moment>, number: u64, entry: Entry) -> Result<(), AllocError>
     ensures { IfOk result (λ _. out.new.items ≡ out.old.items ++ spec.moments_of number entry) }
@@ -109,7 +109,7 @@ fn push_moments_of(out: &mut Vec<Moment>, number: u64, entry: Entry) -> Result<(
     push(out, number, Step::End, entry)
 }
 
-/// That entries begin.
+// That entries begin.
 fn begins_of(alloc: Global, entries: &[Entry]) -> Result<Vec<Moment>, AllocError>
     ensures { IfOk result (λ out. out.items ≡ spec.begins entries.now) }
 {
@@ -122,7 +122,7 @@ fn begins_of(alloc: Global, entries: &[Entry]) -> Result<Vec<Moment>, AllocError
     Ok(out)
 }
 
-/// All that happens to the entries that begin so, numbered from 0 on.
+// All that happens to the entries that begin so, numbered from 0 on.
 fn moments_of(alloc: Global, begins: &[Moment]) -> Result<Vec<Moment>, AllocError>
     ensures { IfOk result (λ out. out.items ≡ spec.moments 0 begins.now) }
 {
@@ -137,7 +137,7 @@ fn moments_of(alloc: Global, begins: &[Moment]) -> Result<Vec<Moment>, AllocErro
     Ok(out)
 }
 
-/// Two lists in order as one: the earlier of the two first moments comes first, the left one where they come at one tick.
+// Two lists in order as one: the earlier of the two first moments comes first, the left one where they come at one tick.
 fn merge(alloc: Global, left: &[Moment], right: &[Moment]) -> Result<Vec<Moment>, AllocError>
     ensures { IfOk result (λ out. (a b : List Moment) → left.now ≡ spec.in_order a
         → right.now ≡ spec.in_order b → out.items ≡ spec.in_order (a ++ b)) }
@@ -162,7 +162,7 @@ fn merge(alloc: Global, left: &[Moment], right: &[Moment]) -> Result<Vec<Moment>
     Ok(out)
 }
 
-/// Moments in the order of their ticks; those of one tick keep their order.
+// Moments in the order of their ticks; those of one tick keep their order.
 fn in_order(alloc: Global, moments: &[Moment]) -> Result<Vec<Moment>, AllocError>
     ensures { IfOk result (λ out. out.items ≡ spec.in_order moments.now) }
 {

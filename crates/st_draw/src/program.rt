@@ -14,10 +14,10 @@ use crate::words::{Choice, Kind, read_words};
 use st_io::{ReadError, Sink, Source, read_all, write_all};
 use std::alloc::{AllocError, Global};
 
-/// The longest report, in bytes.
+// The longest report, in bytes.
 const REPORT_LIMIT: u32 = 16_000_000;
 
-/// How many of the entries are rows.
+// How many of the entries are rows.
 fn rows_in(entries: &[Entry]) -> u64
     ensures { result ≡ spec.rows_in entries.now }
 {
@@ -32,14 +32,14 @@ fn rows_in(entries: &[Entry]) -> u64
     count
 }
 
-/// What is drawn of the entries: nothing, where none of them is a row.
+// What is drawn of the entries: nothing, where none of them is a row.
 fn visible(shown: u64, entries: &[Entry]) -> &[Entry]
     ensures { result.now ≡ spec.visible shown entries.now }
 {
     if shown == 0 { &[] } else { entries }
 }
 
-/// The bytes of a kind of picture.
+// The bytes of a kind of picture.
 fn picture_of(
     alloc: Global,
     kind: Kind,
@@ -57,7 +57,7 @@ fn picture_of(
     }
 }
 
-/// The status of a picture with so many rows.
+// The status of a picture with so many rows.
 fn status_with(shown: u64) -> Status
     ensures { result ≡ (if nat_eq shown 0 then Status.NoRows else Status.Done) }
 {
@@ -68,7 +68,7 @@ fn status_with(shown: u64) -> Status
     }
 }
 
-/// The picture of a report that is asked for, and its status.
+// The picture of a report that is asked for, and its status.
 #[tactic(auto, unfolding(crate::specs::Answers::picture, crate::specs::Answers::status_of))]
 fn picture(alloc: Global, choice: Choice, report: &[u8]) -> Result<(Vec<u8>, Status), AllocError>
     ensures bytes { IfOk result (λ made. made.0.items ≡ spec.picture choice report.now) }
@@ -82,7 +82,7 @@ fn picture(alloc: Global, choice: Choice, report: &[u8]) -> Result<(Vec<u8>, Sta
     Ok((out, status_with(shown)))
 }
 
-/// Writes the picture of a report that was read, or says why it does not.
+// Writes the picture of a report that was read, or says why it does not.
 fn draw_report<K: Sink>(alloc: Global, choice: Choice, report: &[u8], out: &mut K) -> Status
     ensures { Writes choice result (K.output out.old) (K.output out.new) report.now }
 {
@@ -95,7 +95,7 @@ fn draw_report<K: Sink>(alloc: Global, choice: Choice, report: &[u8], out: &mut 
     }
 }
 
-/// Reads a report and writes its picture, or says why it does not.
+// Reads a report and writes its picture, or says why it does not.
 fn draw_choice<S: Source, K: Sink>(
     alloc: Global,
     choice: Choice,

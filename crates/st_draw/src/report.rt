@@ -80,14 +80,14 @@ pub fn place_of(text: &[u8]) -> Option<Place>
     })
 }
 
-/// Whether the k-th word of a line is this.
+// Whether the k-th word of a line is this.
 fn has(line: &[u8], k: usize, text: &[u8]) -> bool
     ensures { result ≡ spec.has line.now k text.now }
 {
     word(line, k) == text
 }
 
-/// The entry that a line says is done.
+// The entry that a line says is done.
 #[tactic(auto, unfolding(crate::specs::Report::row))]
 fn row(line: &[u8]) -> Option<Item>
     ensures { result ≡ spec.row line.now }
@@ -106,7 +106,7 @@ fn row(line: &[u8]) -> Option<Item>
     })
 }
 
-/// The entry that a line says was dropped.
+// The entry that a line says was dropped.
 #[tactic(auto, unfolding(crate::specs::Report::drop_of))]
 fn dropped(line: &[u8]) -> Option<Item>
     ensures { result ≡ spec.drop_of line.now }
@@ -116,7 +116,7 @@ fn dropped(line: &[u8]) -> Option<Item>
     Some(Item::Drop { place, prepared })
 }
 
-/// Whether a line has the words of an entry that is done.
+// Whether a line has the words of an entry that is done.
 fn is_row(line: &[u8]) -> bool
     ensures { result ≡ spec.is_row line.now }
 {

@@ -9,7 +9,7 @@ use crate::element::push_decimal;
 use crate::timetable::Entry;
 use std::alloc::{AllocError, Global};
 
-/// Appends a byte, so many times over.
+// Appends a byte, so many times over.
 fn push_many(out: &mut Vec<u8>, count: usize, byte: u8) -> Result<(), AllocError>
     ensures { IfOk result (λ _. out.new.items ≡ out.old.items ++ spec.many count byte) }
 {
@@ -19,7 +19,7 @@ fn push_many(out: &mut Vec<u8>, count: usize, byte: u8) -> Result<(), AllocError
     Ok(())
 }
 
-/// A byte as a terminal may show it.
+// A byte as a terminal may show it.
 fn plain_byte(byte: u8) -> u8
     ensures { result ≡ spec.plain_byte byte }
 {
@@ -41,7 +41,7 @@ pub fn push_plain(out: &mut Vec<u8>, text: &[u8]) -> Result<(), AllocError>
     Ok(())
 }
 
-/// Appends a text at the right of so many places.
+// Appends a text at the right of so many places.
 #[tactic(auto, unfolding(crate::specs::Terminal::right_in))]
 fn push_right(out: &mut Vec<u8>, width: usize, text: &[u8]) -> Result<(), AllocError>
     ensures { IfOk result (λ _. out.new.items ≡ out.old.items ++ spec.right_in width text.now) }
@@ -50,7 +50,7 @@ fn push_right(out: &mut Vec<u8>, width: usize, text: &[u8]) -> Result<(), AllocE
     out.extend_from_slice(text)
 }
 
-/// Appends a text at the left of so many places.
+// Appends a text at the left of so many places.
 #[tactic(auto, unfolding(crate::specs::Terminal::left_in))]
 fn push_left(out: &mut Vec<u8>, width: usize, text: &[u8]) -> Result<(), AllocError>
     ensures { IfOk result (λ _. out.new.items ≡ out.old.items ++ spec.left_in width text.now) }
@@ -59,7 +59,7 @@ fn push_left(out: &mut Vec<u8>, width: usize, text: &[u8]) -> Result<(), AllocEr
     push_many(out, width.saturating_sub(text.len()), b' ')
 }
 
-/// Appends three texts in columns.
+// Appends three texts in columns.
 #[tactic(auto, unfolding(crate::specs::Terminal::columns))]
 fn push_columns(
     out: &mut Vec<u8>,
@@ -77,7 +77,7 @@ fn push_columns(
     out.extend_from_slice(b" ")
 }
 
-/// The column in which a tick stands.
+// The column in which a tick stands.
 fn column(axis: &Axis, tick: u64) -> usize
     requires { 1 ≤ axis.now.span }
     ensures value { result ≡ spec.column axis.now tick }
@@ -87,7 +87,7 @@ fn column(axis: &Axis, tick: u64) -> usize
     at(room, *axis, tick) as usize
 }
 
-/// Appends a bar of a byte from one tick to another, at least so wide.
+// Appends a bar of a byte from one tick to another, at least so wide.
 fn push_stroke(
     out: &mut Vec<u8>,
     axis: &Axis,
@@ -103,7 +103,7 @@ fn push_stroke(
     push_many(out, width.max(mark.1), mark.0)
 }
 
-/// Appends the bars of an entry.
+// Appends the bars of an entry.
 #[tactic(auto, unfolding(crate::specs::Terminal::strokes))]
 fn push_strokes(out: &mut Vec<u8>, axis: &Axis, entry: Entry) -> Result<(), AllocError>
     requires { 1 ≤ axis.now.span }
@@ -135,7 +135,7 @@ fn push_strokes(out: &mut Vec<u8>, axis: &Axis, entry: Entry) -> Result<(), Allo
     }
 }
 
-/// Appends the line of an entry.
+// Appends the line of an entry.
 #[tactic(auto, unfolding(crate::specs::Terminal::entry_line))]
 fn push_entry(
     alloc: Global,
@@ -160,7 +160,7 @@ fn push_entry(
     out.extend_from_slice(b"\n")
 }
 
-/// Appends the lines of entries.
+// Appends the lines of entries.
 fn push_entries(
     alloc: Global,
     out: &mut Vec<u8>,
@@ -180,7 +180,7 @@ fn push_entries(
     Ok(())
 }
 
-/// Appends a round tick to a line, in its column.
+// Appends a round tick to a line, in its column.
 fn push_mark(line: &mut Vec<u8>, axis: &Axis, tick: u64) -> Result<(), AllocError>
     requires { 1 ≤ axis.now.span }
     ensures { IfOk result (λ _. line.new.items ≡ spec.marked axis.now line.old.items tick) }
@@ -190,7 +190,7 @@ fn push_mark(line: &mut Vec<u8>, axis: &Axis, tick: u64) -> Result<(), AllocErro
     push_decimal(line, u128::from(tick))
 }
 
-/// Appends round ticks to a line, each in its column.
+// Appends round ticks to a line, each in its column.
 fn push_scale(line: &mut Vec<u8>, axis: &Axis, ticks: &[u64]) -> Result<(), AllocError>
     requires { 1 ≤ axis.now.span }
     ensures { IfOk result (λ _. line.new.items ≡ spec.scale axis.now line.old.items ticks.now) }
@@ -203,7 +203,7 @@ fn push_scale(line: &mut Vec<u8>, axis: &Axis, ticks: &[u64]) -> Result<(), Allo
     Ok(())
 }
 
-/// The line above the rows: round ticks, or that there is no entry.
+// The line above the rows: round ticks, or that there is no entry.
 #[tactic(auto, unfolding(crate::specs::Terminal::head))]
 fn head(alloc: Global, axis: &Axis, entries: &[Entry]) -> Result<Vec<u8>, AllocError>
     requires { 1 ≤ axis.now.span }
@@ -219,7 +219,7 @@ fn head(alloc: Global, axis: &Axis, entries: &[Entry]) -> Result<Vec<u8>, AllocE
     Ok(out)
 }
 
-/// Appends what the marks mean.
+// Appends what the marks mean.
 #[tactic(auto, unfolding(crate::specs::Terminal::key))]
 fn push_key(out: &mut Vec<u8>) -> Result<(), AllocError>
     ensures { IfOk result (λ _. out.new.items ≡ out.old.items ++ spec.key) }

@@ -3,13 +3,13 @@ use super::*;
 use st_io::{MemSink, MemSource};
 use std::test::Fail;
 
-/// A call: its words, its report, the numbers of the read and of the write that fail (0 is none), and the status.
+// A call: its words, its report, the numbers of the read and of the write that fail (0 is none), and the status.
 type Call = (&'static [&'static str], &'static str, u32, u32, Status);
 
-/// A report of one row.
+// A report of one row.
 const ROW: &str = "ROW 1 32.0 P 5 R 8 C 10\n";
 
-/// Calls for each answer.
+// Calls for each answer.
 const CALLS: [Call; 9] = [
     (&[], ROW, 0, 0, Status::Done),
     (&["svg", "1", "1"], ROW, 0, 0, Status::Done),
@@ -53,7 +53,7 @@ fn bars_lie_where_their_ticks_are(rt: HostRuntime) -> Result<(), Fail> {
     Ok(())
 }
 
-/// The log of a row, and of an entry that was dropped at the tick at which the row was complete.
+// The log of a row, and of an entry that was dropped at the tick at which the row was complete.
 const LOG: &str =
     "Kanata\t0004\nC=\t5\nI\t0\t0\t0\nL\t0\t0\t1 32.0 \nS\t0\t0\tW\nC\t3\nE\t0\t0\tW\nS\t0\t0\tX\n\
     I\t1\t1\t0\nL\t1\t0\tdrop 33.0 \nS\t1\t0\tD\nC\t2\nE\t0\t0\tX\nR\t0\t1\t0\nE\t1\t0\tD\nR\t1\t0\t1\n";

@@ -61,14 +61,14 @@ pub struct Told {
     pub later: u64,
 }
 
-/// Whether a row is in a part.
+// Whether a row is in a part.
 fn is_in(part: Part, n: u64) -> bool
     ensures { result ≡ spec.is_in part n }
 {
     part.from <= n && n <= part.to
 }
 
-/// Puts an entry that goes with a row behind the others, where the part has that row.
+// Puts an entry that goes with a row behind the others, where the part has that row.
 fn keep(part: Part, n: u64, entry: Entry, entries: &mut Vec<Entry>) -> Result<(), AllocError>
     ensures { IfOk result (λ _. entries.new.items ≡ spec.kept part n entry entries.old.items) }
 {
@@ -78,7 +78,7 @@ fn keep(part: Part, n: u64, entry: Entry, entries: &mut Vec<Entry>) -> Result<()
     Ok(())
 }
 
-/// Puts the dropped entries behind the others, the oldest first.
+// Puts the dropped entries behind the others, the oldest first.
 fn settle(entries: &mut Vec<Entry>, dropped: &mut Vec<Entry>) -> Result<(), AllocError>
     ensures entries { IfOk result (λ _. entries.new.items
         ≡ entries.old.items ++ reverse dropped.old.items) }
@@ -90,7 +90,7 @@ fn settle(entries: &mut Vec<Entry>, dropped: &mut Vec<Entry>) -> Result<(), Allo
     Ok(())
 }
 
-/// Puts an entry behind all that were told.
+// Puts an entry behind all that were told.
 fn join(part: Part, n: u64, entry: Entry, told: &mut Told) -> Result<(), AllocError>
     ensures { IfOk result (λ _. kept_by told.new ≡ spec.joined part n entry (kept_by told.old)) }
 {
@@ -98,7 +98,7 @@ fn join(part: Part, n: u64, entry: Entry, told: &mut Told) -> Result<(), AllocEr
     keep(part, n, entry, &mut told.entries)
 }
 
-/// How many rows are behind a part after a row.
+// How many rows are behind a part after a row.
 fn count_later(part: Part, n: u64, later: u64) -> u64
     ensures { result ≡ spec.counted_later part n later }
 {
@@ -109,7 +109,7 @@ fn count_later(part: Part, n: u64, later: u64) -> u64
     }
 }
 
-/// Takes in one more thing.
+// Takes in one more thing.
 fn take_item(part: Part, told: &mut Told, item: Item) -> Result<(), AllocError>
     ensures { IfOk result (λ _. kept_by told.new ≡ spec.after_item part (kept_by told.old) item) }
 {
@@ -155,7 +155,7 @@ fn take_item(part: Part, told: &mut Told, item: Item) -> Result<(), AllocError>
     }
 }
 
-/// Takes in one more line.
+// Takes in one more line.
 fn take_line(part: Part, told: &mut Told, line: &[u8]) -> Result<(), AllocError>
     ensures { IfOk result (λ _. kept_by told.new
         ≡ spec.after_line part (kept_by told.old) line.now) }
@@ -166,7 +166,7 @@ fn take_line(part: Part, told: &mut Told, line: &[u8]) -> Result<(), AllocError>
     }
 }
 
-/// Takes in all lines.
+// Takes in all lines.
 fn take_lines(part: Part, told: &mut Told, report: &[u8]) -> Result<(), AllocError>
     ensures { IfOk result (λ _. kept_by told.new
         ≡ spec.after_lines part (kept_by told.old) (parted 10 report.now)) }

@@ -24,10 +24,10 @@ pub struct Choice {
     pub part: Part,
 }
 
-/// The rows that are drawn where no word names them.
+// The rows that are drawn where no word names them.
 const FIRST_PART: Part = Part { from: 1, to: 200 };
 
-/// The kind of picture that a word is.
+// The kind of picture that a word is.
 fn kind_named(word: &str) -> Option<Kind>
     ensures { result ≡ spec.kind_named word.now }
 {
@@ -39,7 +39,7 @@ fn kind_named(word: &str) -> Option<Kind>
     }
 }
 
-/// The part from a row to a row: at least one row, and at most 200.
+// The part from a row to a row: at least one row, and at most 200.
 fn part_between(from: u64, to: u64) -> Option<Part>
     ensures { result ≡ spec.part_between from to }
 {
@@ -52,7 +52,7 @@ fn part_between(from: u64, to: u64) -> Option<Part>
     })
 }
 
-/// The part that two words name.
+// The part that two words name.
 #[tactic(auto, unfolding(crate::specs::Words::part_named))]
 fn part_named(from: &str, to: &str) -> Option<Part>
     ensures { result ≡ spec.part_named from.now to.now }
@@ -62,7 +62,7 @@ fn part_named(from: &str, to: &str) -> Option<Part>
     part_between(from, to)
 }
 
-/// The picture that a word and two more ask for.
+// The picture that a word and two more ask for.
 fn chosen(word: &str, from: &str, to: &str) -> Option<Choice>
     ensures { result ≡ spec.chosen word.now from.now to.now }
 {

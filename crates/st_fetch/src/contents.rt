@@ -61,14 +61,14 @@ impl Contents {
     }
 }
 
-/// A content after an answer, which may be that of its word.
+// A content after an answer, which may be that of its word.
 fn answered(here: bool, word: u64, content: Option<u64>) -> Option<u64>
     ensures { result ≡ (if here then Some word else content) }
 {
     if here { Some(word) } else { content }
 }
 
-/// A content after a store, which may be into its word.
+// A content after a store, which may be into its word.
 fn patched(here: bool, word: u64, content: Option<u64>) -> Option<u64>
     ensures { result ≡ (if here then option_map (λ _. word) content else content) }
 {

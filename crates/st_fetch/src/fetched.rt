@@ -20,7 +20,7 @@ pub struct HeldWords {
 }
 
 impl Fetched {
-    /// The same with the tick of its answer, if it is the word `w`.
+    // The same with the tick of its answer, if it is the word `w`.
     fn told(self, w: u32, tick: u64) -> Fetched
         ensures { result ≡ told w tick self }
     {
@@ -62,7 +62,7 @@ impl HeldWords {
         }
     }
 
-    /// The word `w` is answered at `tick`.
+    // The word `w` is answered at `tick`.
     pub(crate) fn answered(self, w: u32, tick: u64) -> HeldWords
         ensures value { result.words ≡ map (told w tick) self.words }
     {

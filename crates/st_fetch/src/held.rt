@@ -90,7 +90,7 @@ impl Hold {
         self.find(w)?.answer
     }
 
-    /// The word `w` with its answer, if it is held.
+    // The word `w` with its answer, if it is held.
     fn find(&self, w: u32) -> Option<Held>
         ensures { result ≡ found self.now w }
     {
@@ -118,7 +118,7 @@ impl Hold {
     }
 }
 
-/// The word with the content beside it, if it is the word `w`, else what was found before.
+// The word with the content beside it, if it is the word `w`, else what was found before.
 fn found_next(w: u32, fetched: Fetched, content: Option<u64>, before: Option<Held>) -> Option<Held>
     ensures { result ≡ (if fetched.w == w then Some (with_its_content (fetched, content)) else before) }
 {

@@ -54,7 +54,7 @@ fn a_store_changes_an_answered_word_and_no_tick(rt: HostRuntime) {
     assert_eq!(rt; (hold.word(42), hold.held(43)), (None, false));
 }
 
-/// A plan knows when a word is answered as soon as it is asked for; contents stand beside the words.
+// A plan knows when a word is answered as soon as it is asked for; contents stand beside the words.
 #[test]
 fn planned_words_have_their_ticks_before_their_contents(rt: HostRuntime) {
     let four = HeldWords::new()
@@ -80,7 +80,7 @@ fn planned_words_have_their_ticks_before_their_contents(rt: HostRuntime) {
     assert_eq!(rt; later.of, [None, None, Some(71), None]);
 }
 
-/// The read of the word `w`.
+// The read of the word `w`.
 fn read(w: u32) -> Want {
     Want {
         w,
@@ -89,7 +89,7 @@ fn read(w: u32) -> Want {
     }
 }
 
-/// The list with the reads of `number` words more, from the word `first` on, as far as there is room.
+// The list with the reads of `number` words more, from the word `first` on, as far as there is room.
 fn fill(wants: &mut Wants, first: u16, number: u16) {
     for k in 0..number {
         if wants.len() < WANTS {
@@ -98,7 +98,7 @@ fn fill(wants: &mut Wants, first: u16, number: u16) {
     }
 }
 
-/// How many of the reads of the words from `first` on stand in front of the list, in their order; they are taken from it.
+// How many of the reads of the words from `first` on stand in front of the list, in their order; they are taken from it.
 fn taken(wants: &mut Wants, first: u16, number: u16) -> u16 {
     for k in 0..number {
         if wants.front() != Some(read(u32::from(first) + u32::from(k))) {

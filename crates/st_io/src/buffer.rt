@@ -3,7 +3,7 @@ ghost use Rattle.std.specs.Prelude.{◌≡◌, ◌+◌, ◌-◌, ◌≤◌, ◌+
 
 use std::marker::Model;
 
-/// A vector, and room for how many more bytes was reserved in it.
+// A vector, and room for how many more bytes was reserved in it.
 #[derive(Debug, Drop)]
 pub(crate) struct Buffer {
     bytes: Vec<u8>,
@@ -22,7 +22,7 @@ impl Model for Buffer {
 }
 
 impl Buffer {
-    /// There is room for what the vector's capacity leaves.
+    // There is room for what the vector's capacity leaves.
     pub(crate) fn new(bytes: Vec<u8>) -> Buffer
         ensures { result ≡ record {
           bytes = bytes.items;

@@ -26,7 +26,7 @@ pub use sure::{SureSink, SureSource};
 #[derive(Clone, Copy, Debug, PartialEq, Eq)]
 pub struct Failed;
 
-/// Counts a fault, and is the answer to it. The count stands still at its end.
+// Counts a fault, and is the answer to it. The count stands still at its end.
 fn count_fault(faults: &mut u64) -> Failed
     ensures { faults.new ≡ counted faults.old 1 }
 {

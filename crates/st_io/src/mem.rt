@@ -9,7 +9,7 @@ use crate::buffer::Buffer;
 use crate::{Failed, Sink, Source, SureSource, count_fault};
 use std::marker::Model;
 
-/// Counts the calls, and knows the numbers of those that fail.
+// Counts the calls, and knows the numbers of those that fail.
 #[derive(Debug, Drop)]
 struct Calls {
     made: u64,
@@ -31,7 +31,7 @@ impl Calls {
         Calls { made: 0, fails }
     }
 
-    /// Counts a call, and says whether it is to fail.
+    // Counts a call, and says whether it is to fail.
     fn next_fails(&mut self) -> bool
         ensures fails { IsTrue result ↔ IsToFail self.old }
         ensures counts { self.new ≡ after_call self.old }

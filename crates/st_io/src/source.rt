@@ -30,7 +30,7 @@ pub enum ReadError {
     NoMemory,
 }
 
-/// How many bytes one read asks for.
+// How many bytes one read asks for.
 const PIECE: usize = 4096;
 
 /// Reads all of a source that has at most `limit` bytes. Each read asks for 4,096 bytes, or for one byte more

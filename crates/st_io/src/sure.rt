@@ -119,7 +119,7 @@ impl Sink for SureSink {
     }
 }
 
-/// The buffer with the piece at its end, where there is room for it.
+// The buffer with the piece at its end, where there is room for it.
 fn appended(mut buffer: Buffer, piece: &[u8]) -> Option<Buffer>
     ensures fits { IsSome result ↔ (length piece.now ≤ buffer.room) }
     ensures bytes { IfSome result (λ b. b.bytes ≡ buffer.bytes ++ piece.now) }
@@ -132,7 +132,7 @@ fn appended(mut buffer: Buffer, piece: &[u8]) -> Option<Buffer>
     Some(buffer)
 }
 
-/// Copies as many bytes as both have, and says how many.
+// Copies as many bytes as both have, and says how many.
 fn copy_front(from: &[u8], to: &mut [u8]) -> usize
     ensures count { result ≡ min (length to.old) (length from.now) }
     ensures copied { to.new ≡ take result from.now ++ drop result to.old }

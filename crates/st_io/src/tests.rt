@@ -13,7 +13,7 @@ use std::io;
 use std::io::{Cursor, ErrorKind, Read};
 use std::test::Fail;
 
-/// What a caller learns of a read over a source that can't fail.
+// What a caller learns of a read over a source that can't fail.
 fn read_sure(alloc: Global, bytes: Vec<u8>, limit: u32) -> Result<Vec<u8>, ReadError>
     ensures whole { IfOk result (λ all. all.items ≡ bytes.items) }
     ensures too_long { IsErrOf result ReadError.TooLong → limit < length bytes.items }
@@ -22,7 +22,7 @@ fn read_sure(alloc: Global, bytes: Vec<u8>, limit: u32) -> Result<Vec<u8>, ReadE
     read_all(alloc, &mut SureSource::new(bytes), limit)
 }
 
-/// What a caller learns of a write to a sink that can't fail.
+// What a caller learns of a write to a sink that can't fail.
 fn write_sure(sink: &mut SureSink, piece: &[u8])
     ensures { Wrote (sure_output sink.old) (sure_output sink.new) piece.now }
 {
@@ -51,7 +51,7 @@ fn a_source_is_read_up_to_its_limit(rt: HostRuntime) -> Result<(), Fail> {
     Ok(())
 }
 
-/// A source that keeps how much each read asked for.
+// A source that keeps how much each read asked for.
 #[derive(Drop)]
 struct Asking {
     source: SureSource,
@@ -98,7 +98,7 @@ fn a_failed_read_ends_the_call_and_no_bytes_are_lost(rt: HostRuntime) -> Result<
     Ok(())
 }
 
-/// Writes three lines to a sink that fails at one call, up to the one that fails.
+// Writes three lines to a sink that fails at one call, up to the one that fails.
 fn write_lines(sink: &mut MemSink) -> Result<(), Failed> {
     for line in ["ONE\n", "TWO\n", "SIX\n"] {
         write_all(sink, line.as_bytes())?;
@@ -162,7 +162,7 @@ fn the_readers_and_writers_of_the_library_are_reached(rt: HostRuntime) -> Result
     Ok(())
 }
 
-/// A reader that is interrupted at each call.
+// A reader that is interrupted at each call.
 #[derive(Drop)]
 struct Broken;
 

@@ -20,14 +20,14 @@ use st_exec::{Trail, interrupt, is_at_rest, is_missed, one_kept};
 use st_prep::plan;
 use st_state::State;
 
-/// Whether each delay is this one.
+// Whether each delay is this one.
 fn are_all(delay: u8, delays: &[u8]) -> bool
     ensures { result ≡ list_all (λ x. x == delay) delays.now }
 {
     delays.iter().all(|other| *other == delay)
 }
 
-/// Whether all delays are equal.
+// Whether all delays are equal.
 pub(crate) fn are_equal(delays: &[u8]) -> bool
     ensures { result ≡ are_equal_of delays.now }
 {
@@ -37,7 +37,7 @@ pub(crate) fn are_equal(delays: &[u8]) -> bool
     are_all(*first, rest)
 }
 
-/// Whether the next entry takes no interrupt and misses no branch.
+// Whether the next entry takes no interrupt and misses no branch.
 fn goes_straight(state: &State) -> bool
     ensures { result ≡ (is_none (interrupt_of state.now)
         && not (is_missed_of (plan_of state.now (interrupt_of state.now)) state.now)) }
@@ -48,14 +48,14 @@ fn goes_straight(state: &State) -> bool
     taken.is_none() && !missed
 }
 
-/// Whether all of this is so: the entry goes straight on, and neither its index-side word nor an operand word was written.
+// Whether all of this is so: the entry goes straight on, and neither its index-side word nor an operand word was written.
 fn is_fresh(straight: bool, side: bool, words: bool) -> bool
     ensures { result ≡ (straight && not side && not words) }
 {
     straight && !side && !words
 }
 
-/// Makes the next step, notes the words that it writes, and tells whether it is a calm entry.
+// Makes the next step, notes the words that it writes, and tells whether it is a calm entry.
 fn step(state: &mut State, written: &mut Written) -> bool
     requires going { rests state.old ≡ false }
     requires few { state.old.done < 2 ^ 63 }
@@ -72,24 +72,24 @@ fn step(state: &mut State, written: &mut Written) -> bool
     is_fresh(straight, side, words)
 }
 
-/// Whether both are so.
+// Whether both are so.
 pub(crate) fn both(one: bool, two: bool) -> bool
     ensures { result ≡ (one && two) }
 {
     one && two
 }
 
-/// What a plain run tells.
+// What a plain run tells.
 #[derive(Clone, Copy, Debug, PartialEq, Eq)]
 pub(crate) struct Found {
-    /// The number of instructions done at its end.
+    // The number of instructions done at its end.
     pub done: u64,
-    /// Whether it is calm, delays aside.
+    // Whether it is calm, delays aside.
     pub calm: bool,
 }
 
-/// Runs a state in which nothing has happened, with these signals and no card, to its end, or until so many instructions
-/// are done.
+// Runs a state in which nothing has happened, with these signals and no card, to its end, or until so many instructions
+// are done.
 pub(crate) fn run_plain(
     state: &mut State,
     signals: &[Signal],

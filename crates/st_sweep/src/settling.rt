@@ -11,7 +11,7 @@ use st_card::Signal;
 use st_exec::{is_at_rest, print_out, read_in};
 use st_state::{Device, State, is_due};
 
-/// Turns on the signals at the front that are due, and gives those that are still to come.
+// Turns on the signals at the front that are due, and gives those that are still to come.
 fn due_signals<'a>(state: &mut State, signals: &'a [Signal]) -> &'a [Signal]
     requires { AllPass is_signal signals.now }
     ensures rest { AllPass is_signal result.now }
@@ -29,7 +29,7 @@ fn due_signals<'a>(state: &mut State, signals: &'a [Signal]) -> &'a [Signal]
     rest
 }
 
-/// Turns on signals, one at a time, as long as the machine is at rest, and gives those that are still to come.
+// Turns on signals, one at a time, as long as the machine is at rest, and gives those that are still to come.
 fn signals_at_rest<'a>(state: &mut State, signals: &'a [Signal]) -> &'a [Signal]
     requires { AllPass is_signal signals.now }
     ensures rest { AllPass is_signal result.now }
@@ -47,7 +47,7 @@ fn signals_at_rest<'a>(state: &mut State, signals: &'a [Signal]) -> &'a [Signal]
     rest
 }
 
-/// The reader's order takes effect, if it has one. There is no card.
+// The reader's order takes effect, if it has one. There is no card.
 fn serve_reader(state: &mut State)
     ensures { (xs : List SignalOf) → (with_reader state.old.reader (without_cards state.old xs)).scene
         ≡ without_cards state.new xs }
@@ -58,7 +58,7 @@ fn serve_reader(state: &mut State)
     read_in(state, None);
 }
 
-/// The printer's order takes effect, if it has one.
+// The printer's order takes effect, if it has one.
 fn serve_printer(state: &mut State)
     ensures { (xs : List SignalOf) → (with_printer state.old.printer (without_cards state.old xs)).scene
         ≡ without_cards state.new xs }
@@ -69,7 +69,7 @@ fn serve_printer(state: &mut State)
     print_out(state);
 }
 
-/// The reader's order takes effect, if it is due.
+// The reader's order takes effect, if it is due.
 fn serve_due_reader(state: &mut State)
     ensures { (xs : List SignalOf) → (with_reader (if_due state.old.done state.old.reader)
         (without_cards state.old xs)).scene ≡ without_cards state.new xs }
@@ -79,7 +79,7 @@ fn serve_due_reader(state: &mut State)
     }
 }
 
-/// The printer's order takes effect, if it is due.
+// The printer's order takes effect, if it is due.
 fn serve_due_printer(state: &mut State)
     ensures { (xs : List SignalOf) → (with_printer (if_due state.old.done state.old.printer)
         (without_cards state.old xs)).scene ≡ without_cards state.new xs }
@@ -89,7 +89,7 @@ fn serve_due_printer(state: &mut State)
     }
 }
 
-/// The orders that are due take effect, the reader's first.
+// The orders that are due take effect, the reader's first.
 fn serve_due(state: &mut State)
     ensures { (xs : List SignalOf) → (with_due_orders (without_cards state.old xs)).scene
         ≡ without_cards state.new xs }
@@ -98,7 +98,7 @@ fn serve_due(state: &mut State)
     serve_due_printer(state);
 }
 
-/// The order that is due earliest takes effect, if the machine is at rest.
+// The order that is due earliest takes effect, if the machine is at rest.
 fn serve_at_rest(state: &mut State)
     ensures { (xs : List SignalOf) → (with_order_at_rest (without_cards state.old xs)).scene
         ≡ without_cards state.new xs }
@@ -113,7 +113,7 @@ fn serve_at_rest(state: &mut State)
     }
 }
 
-/// What ends a wait comes: orders, then signals. Gives the signals that are still to come.
+// What ends a wait comes: orders, then signals. Gives the signals that are still to come.
 fn end_wait<'a>(state: &mut State, signals: &'a [Signal]) -> &'a [Signal]
     requires { AllPass is_signal signals.now }
     ensures rest { AllPass is_signal result.now }
@@ -125,23 +125,23 @@ fn end_wait<'a>(state: &mut State, signals: &'a [Signal]) -> &'a [Signal]
     signals_at_rest(state, signals)
 }
 
-/// What comes between two entries.
+// What comes between two entries.
 #[derive(Drop)]
 pub(crate) struct Settled<'a> {
-    /// The signals that are still to come.
+    // The signals that are still to come.
     pub signals: &'a [Signal],
-    /// Whether nothing came that ends a wait.
+    // Whether nothing came that ends a wait.
     pub quiet: bool,
 }
 
-/// Whether nothing came that ends a wait, by whether the machine rested before, and whether it rests after.
+// Whether nothing came that ends a wait, by whether the machine rested before, and whether it rests after.
 fn is_kept(before: bool, after: bool) -> bool
     ensures { result ≡ (after || not before) }
 {
     after || !before
 }
 
-/// Signals and orders come that are due, and what ends a wait.
+// Signals and orders come that are due, and what ends a wait.
 pub(crate) fn settle<'a>(state: &mut State, signals: &'a [Signal]) -> Settled<'a>
     requires { AllPass is_signal signals.now }
     ensures rest { AllPass is_signal result.signals.now }

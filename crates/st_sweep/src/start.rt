@@ -18,7 +18,7 @@ use st_state::State;
 use std::alloc::Global;
 use std::marker::Model;
 
-/// A machine before its first entry.
+// A machine before its first entry.
 #[derive(Drop)]
 pub(crate) struct Start {
     state: State,
@@ -54,7 +54,7 @@ impl Start {
     }
 }
 
-/// The tick at which the last entry of a run is done on N levels, 0 where none is.
+// The tick at which the last entry of a run is done on N levels, 0 where none is.
 fn ticks<const N: usize>(start: Start, signals: &[Signal], budget: u64) -> u64
     requires some { 1 ≤ N }
     requires few { N ≤ 8 }
@@ -72,7 +72,7 @@ fn ticks<const N: usize>(start: Start, signals: &[Signal], budget: u64) -> u64
     tick
 }
 
-/// Four machines before their first entry.
+// Four machines before their first entry.
 #[derive(Drop)]
 pub(crate) struct Four {
     first: Start,
@@ -100,7 +100,7 @@ impl Four {
     }
 }
 
-/// The ticks of runs on one to four levels.
+// The ticks of runs on one to four levels.
 pub(crate) fn ticks_on_few(four: Four, signals: &[Signal], budget: u64) -> [u64; 4]
     requires signals { AllPass is_signal signals.now }
     requires some_done { 1 ≤ budget }
@@ -123,7 +123,7 @@ pub(crate) fn ticks_on_few(four: Four, signals: &[Signal], budget: u64) -> [u64;
     ]
 }
 
-/// The ticks of runs on five to eight levels.
+// The ticks of runs on five to eight levels.
 pub(crate) fn ticks_on_many(four: Four, signals: &[Signal], budget: u64) -> [u64; 4]
     requires signals { AllPass is_signal signals.now }
     requires some_done { 1 ≤ budget }

@@ -30,7 +30,7 @@ pub struct Swept {
     pub calm: bool,
 }
 
-/// Takes all memory, and then runs the job on one machine after the other.
+// Takes all memory, and then runs the job on one machine after the other.
 fn run_all(
     alloc: Global,
     image: &[u64],

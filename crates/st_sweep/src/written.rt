@@ -13,7 +13,7 @@ use st_prep::Words;
 use std::alloc::Global;
 use std::marker::Model;
 
-/// The words of storage that were written so far.
+// The words of storage that were written so far.
 #[derive(Drop)]
 pub(crate) struct Written {
     marks: Vec<bool>,
@@ -31,21 +31,21 @@ impl Model for Written {
     ghost invariant = { λ w. length w.marks.items ≡ words_of_storage };
 }
 
-/// The words of storage.
+// The words of storage.
 fn number_of_words() -> usize
     ensures { result ≡ words_of_storage }
 {
     WORDS as usize
 }
 
-/// Whether a word has a mark.
+// Whether a word has a mark.
 fn is_marked(marks: &[bool], w: usize) -> bool
     ensures { result ≡ get_or marks.now w false }
 {
     marks.get(w).copied().unwrap_or(false)
 }
 
-/// Whether one of the words of a run has a mark.
+// Whether one of the words of a run has a mark.
 fn has_mark(marks: &[bool], first: u32, len: u8) -> bool
     ensures { (earlier : List Runs) → AreMarks earlier marks.now → result ≡ are_written earlier first len }
 {
@@ -61,7 +61,7 @@ fn has_mark(marks: &[bool], first: u32, len: u8) -> bool
     false
 }
 
-/// The words of a run get their marks.
+// The words of a run get their marks.
 fn mark(marks: &mut Vec<bool>, first: u32, len: u8)
     requires { 1 ≤ len → first + len ≤ length marks.old.items }
     ensures marked { marks.new.items ≡ marked marks.old.items first len }

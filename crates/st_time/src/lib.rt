@@ -37,7 +37,7 @@ pub fn snap_line(view: &View) -> Line
     line_snap(view.tick, view.done, count(&view.levels))
 }
 
-/// The index word that was changed early, with what it held before.
+// The index word that was changed early, with what it held before.
 fn change(index: Option<u8>, kept: u64) -> Option<(u8, u64)>
     ensures { result ≡ option_map (λ number. (number, kept)) index }
 {
@@ -47,7 +47,7 @@ fn change(index: Option<u8>, kept: u64) -> Option<(u8, u64)>
     }
 }
 
-/// How many levels stand at the front, of at most eight.
+// How many levels stand at the front, of at most eight.
 #[tactic(auto, unfolding(crate::specs::Shown::standing))]
 fn count(levels: &[Option<LevelView>]) -> u8
     requires { length levels.now ≤ 8 }

@@ -19,7 +19,7 @@ pub fn put<K: Sink>(out: &mut K, line: &Line) -> Result<(), Failed>
     write_line(out, line.as_str().as_bytes())
 }
 
-/// Writes the line of register `w`, where it is not zero.
+// Writes the line of register `w`, where it is not zero.
 #[tactic(auto, using(st_io::proofs::Progress::wrote_nothing, st_bits::specs::Storage::words_of_storage_is))]
 fn write_register<K: Sink>(out: &mut K, seen: &Seen<'_>, w: u8) -> Result<(), Failed>
     requires { w < FIRST_STORAGE_WORD }
@@ -33,7 +33,7 @@ fn write_register<K: Sink>(out: &mut K, seen: &Seen<'_>, w: u8) -> Result<(), Fa
     put(out, &line_reg(w, word))
 }
 
-/// Writes the lines of the registers that are not zero.
+// Writes the lines of the registers that are not zero.
 fn write_registers<K: Sink>(out: &mut K, seen: &Seen<'_>) -> Result<(), Failed>
     ensures { WritesLines (K.output out.old) (K.output out.new)
         (lines_for (register_lines seen.now) 30 2) result }
@@ -44,7 +44,7 @@ fn write_registers<K: Sink>(out: &mut K, seen: &Seen<'_>) -> Result<(), Failed>
     Ok(())
 }
 
-/// Writes the line of the word at `w`, where it is not zero.
+// Writes the line of the word at `w`, where it is not zero.
 #[tactic(auto, using(st_io::proofs::Progress::wrote_nothing, st_bits::specs::Storage::words_of_storage_is))]
 fn write_memory<K: Sink>(out: &mut K, seen: &Seen<'_>, w: u32) -> Result<(), Failed>
     requires { w < WORDS }
@@ -57,7 +57,7 @@ fn write_memory<K: Sink>(out: &mut K, seen: &Seen<'_>, w: u32) -> Result<(), Fai
     put(out, &line_mem(w, content))
 }
 
-/// Writes the lines of the words from `first` to `last` that are not zero.
+// Writes the lines of the words from `first` to `last` that are not zero.
 fn write_words<K: Sink>(out: &mut K, seen: &Seen<'_>, first: u32, last: u32) -> Result<(), Failed>
     requires order { first ≤ last }
     requires within { last < WORDS }
@@ -70,14 +70,14 @@ fn write_words<K: Sink>(out: &mut K, seen: &Seen<'_>, first: u32, last: u32) -> 
     Ok(())
 }
 
-/// Writes the line that a dump begins with.
+// Writes the line that a dump begins with.
 fn write_range<K: Sink>(out: &mut K, first: u32, last: u32) -> Result<(), Failed>
     ensures { WritesLines (K.output out.old) (K.output out.new) (dump_line first last ∷ []) result }
 {
     put(out, &line_dump(first, last))
 }
 
-/// Writes a dump: the words from `first` to `last`.
+// Writes a dump: the words from `first` to `last`.
 fn write_dump<K: Sink>(out: &mut K, seen: &Seen<'_>, first: u32, last: u32) -> Result<(), Failed>
     requires order { first ≤ last }
     requires within { last < WORDS }
@@ -88,7 +88,7 @@ fn write_dump<K: Sink>(out: &mut K, seen: &Seen<'_>, first: u32, last: u32) -> R
     write_words(out, seen, first, last)
 }
 
-/// Writes dumps, in order.
+// Writes dumps, in order.
 fn write_dumps<K: Sink>(out: &mut K, seen: &Seen<'_>, dumps: &[(u32, u32)]) -> Result<(), Failed>
     requires { AllPass is_part dumps.now }
     ensures { WritesLines (K.output out.old) (K.output out.new)
@@ -100,14 +100,14 @@ fn write_dumps<K: Sink>(out: &mut K, seen: &Seen<'_>, dumps: &[(u32, u32)]) -> R
     Ok(())
 }
 
-/// Writes the line of the counter.
+// Writes the line of the counter.
 fn write_counter<K: Sink>(out: &mut K, seen: &Seen<'_>) -> Result<(), Failed>
     ensures { WritesLines (K.output out.old) (K.output out.new) (ic_line seen.now.ic ∷ []) result }
 {
     put(out, &line_ic(seen.ic()))
 }
 
-/// Writes the line that says whether interrupts are enabled.
+// Writes the line that says whether interrupts are enabled.
 fn write_enabled<K: Sink>(out: &mut K, seen: &Seen<'_>) -> Result<(), Failed>
     ensures { WritesLines (K.output out.old) (K.output out.new)
         (en_line seen.now.enabled ∷ []) result }

@@ -34,16 +34,16 @@ pub enum Command {
     },
 }
 
-/// The most words of a command line.
+// The most words of a command line.
 const MOST_WORDS: usize = 3;
 
-/// The most digits of a number.
+// The most digits of a number.
 const MOST_DIGITS: usize = 20;
 
-/// The most drawn cards of a made deck.
+// The most drawn cards of a made deck.
 const MOST_CARDS: u64 = 4_000;
 
-/// Whether a word may be an argument: it is not empty, and does not begin with `-`.
+// Whether a word may be an argument: it is not empty, and does not begin with `-`.
 fn is_plain(word: &str) -> bool
     ensures { result ≡ is_plain_word word.now }
 {
@@ -53,7 +53,7 @@ fn is_plain(word: &str) -> bool
     }
 }
 
-/// Whether each word may be an argument.
+// Whether each word may be an argument.
 fn are_plain(words: &[String]) -> bool
     ensures { result ≡ list_all is_plain_word (map string_bytes words.now) }
 {
@@ -67,7 +67,7 @@ fn are_plain(words: &[String]) -> bool
     true
 }
 
-/// A command line of three words, none of which has to be there.
+// A command line of three words, none of which has to be there.
 fn three<'a>(alloc: Global) -> Result<Parser<'a>, AllocError>
     ensures { IfOk result (λ parser. app_of parser ≡ three_words) }
 {
@@ -78,7 +78,7 @@ fn three<'a>(alloc: Global) -> Result<Parser<'a>, AllocError>
         .arg(Arg::new(alloc, "cards"))
 }
 
-/// The command that a word is by itself.
+// The command that a word is by itself.
 fn command_named_by(word: &str) -> Option<Command>
     ensures { result ≡ command_named word.now }
 {
@@ -92,7 +92,7 @@ fn command_named_by(word: &str) -> Option<Command>
     }
 }
 
-/// The number that a word of 1 to 20 decimal digits is, where it is from `least` to `most`.
+// The number that a word of 1 to 20 decimal digits is, where it is from `least` to `most`.
 #[tactic(auto, unfolding(crate::specs::Command::number_in))]
 fn number_by(word: &str, least: u64, most: u64) -> Option<u64>
     ensures value { result ≡ number_in least most word.now }
@@ -108,7 +108,7 @@ fn number_by(word: &str, least: u64, most: u64) -> Option<u64>
     }
 }
 
-/// The command that a word is with a seed and a number of cards.
+// The command that a word is with a seed and a number of cards.
 fn command_with_by(word: &str, number: &str, cards: &str) -> Option<Command>
     ensures { result ≡ command_with word.now number.now cards.now }
 {
@@ -123,7 +123,7 @@ fn command_with_by(word: &str, number: &str, cards: &str) -> Option<Command>
     })
 }
 
-/// The command that three arguments are.
+// The command that three arguments are.
 fn command_by(command: Option<&str>, number: Option<&str>, cards: Option<&str>) -> Option<Command>
     ensures { result ≡ command_by_words (option_map (λ s. s.now) command.entry)
         (option_map (λ s. s.now) number.entry) (option_map (λ s. s.now) cards.entry) }
@@ -135,14 +135,14 @@ fn command_by(command: Option<&str>, number: Option<&str>, cards: Option<&str>) 
     }
 }
 
-/// Whether memory ran out.
+// Whether memory ran out.
 fn is_memory(error: &Error) -> bool
     ensures { kind_of error.now ≡ ErrorKind.OutOfMemory → result ≡ true }
 {
     matches!(error.kind(), ErrorKind::OutOfMemory)
 }
 
-/// The command that one to three plain words are.
+// The command that one to three plain words are.
 fn read_arguments(alloc: Global, words: &[String]) -> Result<Option<Command>, NoMemory>
     requires some { 1 ≤ length words.now }
     requires few { length words.now ≤ 3 }

@@ -57,7 +57,7 @@ use st_run::Run;
 use st_state::State;
 use std::alloc::Global;
 
-/// Writes what stands in front of the report of a job, and then the report of its run.
+// Writes what stands in front of the report of a job, and then the report of its run.
 fn write_output<K: Sink>(
     out: &mut K,
     made: Option<(u64, u32)>,
@@ -85,7 +85,7 @@ fn write_output<K: Sink>(
     write_report(out, run, past, moment, &program.controls)
 }
 
-/// The answer of a run, or of one whose report stopped at a moment.
+// The answer of a run, or of one whose report stopped at a moment.
 fn answer_of(written: Result<(), Failed>, moment: Moment) -> Answer
     ensures done { result.done ≡ moment.done }
     ensures ticks { result.ticks ≡ moment.tick }
@@ -110,14 +110,14 @@ pub fn signals(controls: &Controls) -> &[Signal]
     controls.signals.as_slice()
 }
 
-/// The ticks of the snapshots that are asked for.
+// The ticks of the snapshots that are asked for.
 fn snaps(controls: &Controls) -> &[u64]
     ensures { result.now ≡ controls.now.snaps }
 {
     controls.snaps.as_slice()
 }
 
-/// The delays of storage that are asked for.
+// The delays of storage that are asked for.
 fn delays(alloc: Global, controls: &Controls) -> Result<Delays, NoMemory>
     requires some { 1 ≤ length controls.now.delays }
     requires limits { IsWithinLimits controls.now }
@@ -129,7 +129,7 @@ fn delays(alloc: Global, controls: &Controls) -> Result<Delays, NoMemory>
     }
 }
 
-/// The state at the start of a run.
+// The state at the start of a run.
 fn opened(alloc: Global, image: &[u64], start: u32) -> Result<State, NoMemory>
     requires whole { length image.now ≡ words_of_storage }
     requires registers { (w : ℕ) → w < FIRST_STORAGE_WORD → slice_index image.now w ≡ 0 }
@@ -142,7 +142,7 @@ fn opened(alloc: Global, image: &[u64], start: u32) -> Result<State, NoMemory>
     Ok(state)
 }
 
-/// The reader of a job with these cards; its cards have eight words.
+// The reader of a job with these cards; its cards have eight words.
 fn reader(alloc: Global, job: &[u8], cards: &[Card]) -> Result<Hopper, NoMemory>
     requires { cards.now ≡ cards_of job.now }
     ensures value { IfOk result (λ hopper. hopper ≡ reader_cards job.now) }
@@ -151,7 +151,7 @@ fn reader(alloc: Global, job: &[u8], cards: &[Card]) -> Result<Hopper, NoMemory>
     Hopper::of_cards(alloc, job, cards)
 }
 
-/// The machine beside a run, where steps back are asked for. It reads the cards of the same job.
+// The machine beside a run, where steps back are asked for. It reads the cards of the same job.
 fn beside<'a>(
     alloc: Global,
     job: &[u8],
@@ -180,10 +180,10 @@ fn beside<'a>(
     Ok(Some((Scene::new(machine, signals(controls), hopper), steps)))
 }
 
-/// A run that is ready to be told, and the machine beside it, where steps back are asked for.
+// A run that is ready to be told, and the machine beside it, where steps back are asked for.
 type Prepared<'a> = (Run<'a, LEVELS>, Option<Past<'a>>);
 
-/// Takes all memory of a run: that of an image, a start and controls, with the reader's cards of a job, whose cards these are.
+// Takes all memory of a run: that of an image, a start and controls, with the reader's cards of a job, whose cards these are.
 fn prepare<'a>(
     alloc: Global,
     job: &[u8],
@@ -222,7 +222,7 @@ fn prepare<'a>(
     Ok((run, past))
 }
 
-/// Writes what stands in front of the report of a job, and the report of its run, and answers.
+// Writes what stands in front of the report of a job, and the report of its run, and answers.
 fn answer_run<K: Sink>(
     out: &mut K,
     made: Option<(u64, u32)>,
@@ -275,7 +275,7 @@ pub fn execute<K: Sink>(
     answer_run(out, made, job, cards, program, &mut run, &mut past)
 }
 
-/// Writes the report of the run of a program that was loaded, and answers.
+// Writes the report of the run of a program that was loaded, and answers.
 fn answer_loaded<K: Sink>(
     out: &mut K,
     run: &mut Run<'_, LEVELS>,

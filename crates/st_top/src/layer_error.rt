@@ -60,7 +60,7 @@ impl From<ObjectError> for LayerError {
     }
 }
 
-/// The first card that is too many for an assembler.
+// The first card that is too many for an assembler.
 const FIRST_CARD_TOO_MANY: u32 = 20_001;
 
 impl From<DisError> for LayerError {

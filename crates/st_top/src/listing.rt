@@ -12,7 +12,7 @@ use st_card::{Card, Controls};
 use st_io::{Failed, Sink};
 use st_report::{line_listed, line_soak, line_symbol};
 
-/// Writes the line of a card, by its row.
+// Writes the line of a card, by its row.
 fn write_row<K: Sink>(out: &mut K, job: &[u8], row: Listed, card: Card) -> Result<(), Failed>
     requires row { IsRow row }
     requires text { IsCardOf job.now card }
@@ -27,7 +27,7 @@ fn write_row<K: Sink>(out: &mut K, job: &[u8], row: Listed, card: Card) -> Resul
     )
 }
 
-/// Writes the lines of cards, each by its row.
+// Writes the lines of cards, each by its row.
 fn write_rows<K: Sink>(
     out: &mut K,
     job: &[u8],
@@ -47,7 +47,7 @@ fn write_rows<K: Sink>(
     Ok(())
 }
 
-/// Writes the line of a symbol.
+// Writes the line of a symbol.
 fn write_symbol<K: Sink>(out: &mut K, symbol: Symbol) -> Result<(), Failed>
     requires { IsSymbol symbol }
     ensures { WritesLines (K.output out.old) (K.output out.new)
@@ -56,7 +56,7 @@ fn write_symbol<K: Sink>(out: &mut K, symbol: Symbol) -> Result<(), Failed>
     put(out, &line_symbol(symbol.name, symbol.value))
 }
 
-/// Writes the lines of symbols.
+// Writes the lines of symbols.
 fn write_symbols<K: Sink>(out: &mut K, symbols: &[Symbol]) -> Result<(), Failed>
     requires { All IsSymbol symbols.now }
     ensures { WritesLines (K.output out.old) (K.output out.new) (symbols_lines symbols.now) result }
@@ -67,14 +67,14 @@ fn write_symbols<K: Sink>(out: &mut K, symbols: &[Symbol]) -> Result<(), Failed>
     Ok(())
 }
 
-/// Whether the listing is asked for.
+// Whether the listing is asked for.
 fn is_listed(controls: &Controls) -> bool
     ensures { result ≡ controls.now.list }
 {
     controls.list
 }
 
-/// Writes a line for each card of a job, and then one for each symbol.
+// Writes a line for each card of a job, and then one for each symbol.
 fn write_both<K: Sink>(
     out: &mut K,
     job: &[u8],
@@ -91,7 +91,7 @@ fn write_both<K: Sink>(
     write_symbols(out, symbols)
 }
 
-/// Writes the line of a made deck, where the job is one: its seed and its number of cards.
+// Writes the line of a made deck, where the job is one: its seed and its number of cards.
 fn write_made<K: Sink>(out: &mut K, made: Option<(u64, u32)>) -> Result<(), Failed>
     ensures { WritesLines (K.output out.old) (K.output out.new) (made_lines made) result }
 {
@@ -118,7 +118,7 @@ pub fn write_front<K: Sink>(
     write_listing(out, job, cards, program)
 }
 
-/// Writes the listing of a job that is assembled, where it is asked for.
+// Writes the listing of a job that is assembled, where it is asked for.
 fn write_listing<K: Sink>(
     out: &mut K,
     job: &[u8],

@@ -38,7 +38,7 @@ pub fn image_of(program: Assembled) -> Image
     }
 }
 
-/// The line that a text begins with, with its line end.
+// The line that a text begins with, with its line end.
 fn with_end<'a>(text: &'a [u8], line: &[u8]) -> &'a [u8]
     requires { length line.now + 1 ≤ length text.now }
     ensures { result.now ≡ take (length line.now + 1) text.now }
@@ -46,7 +46,7 @@ fn with_end<'a>(text: &'a [u8], line: &[u8]) -> &'a [u8]
     text.split_at(line.len() + 1).0
 }
 
-/// Writes the lines of a text that have a line end, each with it.
+// Writes the lines of a text that have a line end, each with it.
 fn write_ended<K: Sink>(out: &mut K, text: &[u8]) -> Result<(), Failed>
     ensures { WritesLines (K.output out.old) (K.output out.new)
         (ended_lines (parted 10 text.now)) result }
@@ -59,7 +59,7 @@ fn write_ended<K: Sink>(out: &mut K, text: &[u8]) -> Result<(), Failed>
     Ok(())
 }
 
-/// Writes a text line by line, and answers.
+// Writes a text line by line, and answers.
 fn answer_text<K: Sink>(out: &mut K, text: &[u8]) -> Answer
     ensures writes { Writes result.status (K.output out.old) (K.output out.new)
         (lines_alone Done (ended_lines (parted 10 text.now))) result }

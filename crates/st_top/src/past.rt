@@ -35,7 +35,7 @@ use st_state::{Device, State};
 /// A machine beside a run, and its last steps, which can be undone.
 pub type Past<'a> = (Scene<'a>, Back);
 
-/// Puts the words of a card into the eight words from the word address `w` on, each noted with the newest step.
+// Puts the words of a card into the eight words from the word address `w` on, each noted with the newest step.
 fn put_card(steps: &mut Back, machine: &mut State, w: u32, card: &[u64; 8])
     requires above { 32 ≤ w }
     requires inside { w + 8 ≤ words_of_storage }
@@ -50,7 +50,7 @@ fn put_card(steps: &mut Back, machine: &mut State, w: u32, card: &[u64; 8])
     }
 }
 
-/// The order of the reader takes effect, as `st_exec::read_in` says, and the words of the card are noted.
+// The order of the reader takes effect, as `st_exec::read_in` says, and the words of the card are noted.
 fn read_noted(steps: &mut Back, machine: &mut State, card: Option<[u64; 8]>)
     requires order { IsSome machine.old.reader }
     requires fresh { IsFresh steps.old.kept }
@@ -72,7 +72,7 @@ fn read_noted(steps: &mut Back, machine: &mut State, card: Option<[u64; 8]>)
     machine.signal(END_OF_OPERATION);
 }
 
-/// The signals that are due come.
+// The signals that are due come.
 fn move_by_due_signals(scene: &mut Scene, steps: &Back)
     requires { IsReady (scene.old, steps.now) }
     ensures { IsMoved (scene.old, steps.now) (scene.new, steps.now)
@@ -82,7 +82,7 @@ fn move_by_due_signals(scene: &mut Scene, steps: &Back)
     take_due_signals(scene);
 }
 
-/// Signals come as long as the machine is at rest.
+// Signals come as long as the machine is at rest.
 fn move_by_signals_at_rest(scene: &mut Scene, steps: &Back)
     requires { IsReady (scene.old, steps.now) }
     ensures { IsMoved (scene.old, steps.now) (scene.new, steps.now)
@@ -92,14 +92,14 @@ fn move_by_signals_at_rest(scene: &mut Scene, steps: &Back)
     take_signals_at_rest(scene);
 }
 
-/// Whether the reader has no order.
+// Whether the reader has no order.
 fn reader_is_free(machine: &State) -> bool
     ensures { result ≡ is_none machine.now.reader }
 {
     machine.reader.is_none()
 }
 
-/// The reader's order takes effect, if it has one.
+// The reader's order takes effect, if it has one.
 fn serve_reader(scene: &mut Scene, steps: &mut Back)
     requires { IsReady (scene.old, steps.old) }
     ensures { IsMoved (scene.old, steps.old) (scene.new, steps.new)
@@ -112,7 +112,7 @@ fn serve_reader(scene: &mut Scene, steps: &mut Back)
     read_noted(steps, &mut scene.machine, card);
 }
 
-/// The printer's order takes effect, if it has one. Nothing is printed.
+// The printer's order takes effect, if it has one. Nothing is printed.
 fn serve_printer(scene: &mut Scene, steps: &Back)
     requires { IsReady (scene.old, steps.now) }
     ensures { IsMoved (scene.old, steps.now) (scene.new, steps.now)
@@ -125,7 +125,7 @@ fn serve_printer(scene: &mut Scene, steps: &Back)
     print_out(&mut scene.machine);
 }
 
-/// The reader's order takes effect, if it is due.
+// The reader's order takes effect, if it is due.
 fn serve_due_reader(scene: &mut Scene, steps: &mut Back)
     requires { IsReady (scene.old, steps.old) }
     ensures { IsMoved (scene.old, steps.old) (scene.new, steps.new)
@@ -137,7 +137,7 @@ fn serve_due_reader(scene: &mut Scene, steps: &mut Back)
     }
 }
 
-/// The printer's order takes effect, if it is due.
+// The printer's order takes effect, if it is due.
 fn serve_due_printer(scene: &mut Scene, steps: &Back)
     requires { IsReady (scene.old, steps.now) }
     ensures { IsMoved (scene.old, steps.now) (scene.new, steps.now)
@@ -149,7 +149,7 @@ fn serve_due_printer(scene: &mut Scene, steps: &Back)
     }
 }
 
-/// The orders that are due take effect, the reader's first.
+// The orders that are due take effect, the reader's first.
 fn serve_due(scene: &mut Scene, steps: &mut Back)
     requires { IsReady (scene.old, steps.old) }
     ensures { IsMoved (scene.old, steps.old) (scene.new, steps.new)
@@ -159,7 +159,7 @@ fn serve_due(scene: &mut Scene, steps: &mut Back)
     serve_due_printer(scene, steps);
 }
 
-/// The order that is due earliest takes effect, if the machine is at rest.
+// The order that is due earliest takes effect, if the machine is at rest.
 fn serve_at_rest(scene: &mut Scene, steps: &mut Back)
     requires { IsReady (scene.old, steps.old) }
     ensures { IsMoved (scene.old, steps.old) (scene.new, steps.new)
@@ -175,7 +175,7 @@ fn serve_at_rest(scene: &mut Scene, steps: &mut Back)
     }
 }
 
-/// What ends a wait comes: orders, then signals.
+// What ends a wait comes: orders, then signals.
 fn end_wait(scene: &mut Scene, steps: &mut Back)
     requires { IsReady (scene.old, steps.old) }
     ensures { IsMoved (scene.old, steps.old) (scene.new, steps.new)
@@ -186,7 +186,7 @@ fn end_wait(scene: &mut Scene, steps: &mut Back)
     move_by_signals_at_rest(scene, steps);
 }
 
-/// What comes between two steps: signals and orders that are due, and what ends a wait. Nothing is printed.
+// What comes between two steps: signals and orders that are due, and what ends a wait. Nothing is printed.
 fn settle(scene: &mut Scene, steps: &mut Back)
     requires { IsReady (scene.old, steps.old) }
     ensures { IsMoved (scene.old, steps.old) (scene.new, steps.new) (run.settled scene.old).scene }
@@ -196,7 +196,7 @@ fn settle(scene: &mut Scene, steps: &mut Back)
     end_wait(scene, steps);
 }
 
-/// Makes the next step of a machine that is not at rest.
+// Makes the next step of a machine that is not at rest.
 fn step(scene: &mut Scene, steps: &mut Back)
     requires few { scene.old.machine.done < 2 ^ 63 }
     requires ready { IsReady (scene.old, steps.old) }
@@ -206,14 +206,14 @@ fn step(scene: &mut Scene, steps: &mut Back)
     steps.forth(&mut scene.machine);
 }
 
-/// Whether the machine waits and nothing is pending that would end it.
+// Whether the machine waits and nothing is pending that would end it.
 fn is_resting(scene: &Scene) -> bool
     ensures { result ≡ rests scene.now.machine }
 {
     is_at_rest(&scene.machine)
 }
 
-/// Makes the run to its end, at rest or with the budget used up.
+// Makes the run to its end, at rest or with the budget used up.
 fn run_to_end(scene: &mut Scene, steps: &mut Back, budget: u64)
     requires fresh { scene.old.machine.done ≡ 0 }
     requires limit { budget ≤ MOST_INSTRUCTIONS }
@@ -250,7 +250,7 @@ pub fn run_beside(past: &mut Option<Past>, budget: u64)
     }
 }
 
-/// Undoes all steps that are kept.
+// Undoes all steps that are kept.
 fn undo_all(steps: &mut Back, machine: &mut State)
     ensures { machine.new ∷ [] ≡ take 1
         (states_before steps.old.kept machine.old ++ machine.old ∷ []) }

@@ -24,10 +24,10 @@ use st_io::{Sink, Source, read_all};
 use st_object::read_object;
 use std::alloc::Global;
 
-/// The longest job, in bytes.
+// The longest job, in bytes.
 const JOB_LIMIT: u32 = 2_000_000;
 
-/// Assembles a job, made by a seed with a number of cards or not, and runs it. Its cards are cut once.
+// Assembles a job, made by a seed with a number of cards or not, and runs it. Its cards are cut once.
 fn run_job<K: Sink>(
     alloc: Global,
     made: Option<(u64, u32)>,
@@ -46,7 +46,7 @@ fn run_job<K: Sink>(
     Ok(execute(alloc, made, job, deck, &program, out))
 }
 
-/// Assembles a job and writes its object text.
+// Assembles a job and writes its object text.
 #[tactic(auto, using(crate::proofs::Times::keeps_still), unfolding(crate::specs::Output::output_of, crate::specs::Output::delays_of))]
 fn assemble_job<K: Sink>(alloc: Global, job: &[u8], out: &mut K) -> Result<Answer, LayerError>
     requires { length job.now < 2 ^ 32 }
@@ -56,7 +56,7 @@ fn assemble_job<K: Sink>(alloc: Global, job: &[u8], out: &mut K) -> Result<Answe
     Ok(answer_object(alloc, &image_of(program), out))
 }
 
-/// Loads an object text and runs it.
+// Loads an object text and runs it.
 #[tactic(auto, unfolding(crate::specs::Output::output_of, crate::specs::Output::delays_of))]
 fn load_job<K: Sink>(alloc: Global, text: &[u8], out: &mut K) -> Result<Answer, LayerError>
     requires { length text.now ≤ 2000000 }
@@ -66,7 +66,7 @@ fn load_job<K: Sink>(alloc: Global, text: &[u8], out: &mut K) -> Result<Answer, 
     Ok(execute_loaded(alloc, &program, out))
 }
 
-/// Reads an object text and writes its deck.
+// Reads an object text and writes its deck.
 #[tactic(auto, unfolding(crate::specs::Output::output_of, crate::specs::Output::delays_of))]
 fn disassemble_text<K: Sink>(alloc: Global, text: &[u8], out: &mut K) -> Result<Answer, LayerError>
     requires { length text.now ≤ 2000000 }
@@ -76,7 +76,7 @@ fn disassemble_text<K: Sink>(alloc: Global, text: &[u8], out: &mut K) -> Result<
     answer_deck(alloc, &program, out)
 }
 
-/// Assembles a job and runs it on machines of one to eight levels.
+// Assembles a job and runs it on machines of one to eight levels.
 #[tactic(auto, unfolding(crate::specs::Output::output_of, crate::specs::Output::delays_of))]
 fn sweep_job<K: Sink>(alloc: Global, job: &[u8], out: &mut K) -> Result<Answer, LayerError>
     requires { length job.now < 2 ^ 32 }
@@ -86,7 +86,7 @@ fn sweep_job<K: Sink>(alloc: Global, job: &[u8], out: &mut K) -> Result<Answer, 
     Ok(execute_sweep(alloc, &program, out))
 }
 
-/// Makes a deck, assembles it and runs it.
+// Makes a deck, assembles it and runs it.
 fn run_made<K: Sink>(
     alloc: Global,
     number: u64,
@@ -104,7 +104,7 @@ fn run_made<K: Sink>(
     run_job(alloc, made, deck.as_slice(), out)
 }
 
-/// Does what a command asks for on a job that was read, as far as no layer refuses it. `soak` does not look at the job.
+// Does what a command asks for on a job that was read, as far as no layer refuses it. `soak` does not look at the job.
 #[tactic(auto, unfolding(crate::specs::Output::output_of, crate::specs::Output::delays_of))]
 fn try_job<K: Sink>(
     alloc: Global,
@@ -127,7 +127,7 @@ fn try_job<K: Sink>(
     }
 }
 
-/// Reads a job, and does what a command asks for, as far as no layer stops it.
+// Reads a job, and does what a command asks for, as far as no layer stops it.
 fn try_command<S: Source, K: Sink>(
     alloc: Global,
     command: Command,
@@ -142,7 +142,7 @@ fn try_command<S: Source, K: Sink>(
     try_job(alloc, command, text.as_slice(), out)
 }
 
-/// Reads a job, and does what a command asks for, or says why it does not.
+// Reads a job, and does what a command asks for, or says why it does not.
 #[tactic(auto, using(st_bits::specs::Storage::words_of_storage_is, crate::proofs::Times::keeps_still))]
 fn answer<S: Source, K: Sink>(alloc: Global, command: Command, job: &mut S, out: &mut K) -> Answer
     requires { IsWithinCards command }
@@ -158,7 +158,7 @@ fn answer<S: Source, K: Sink>(alloc: Global, command: Command, job: &mut S, out:
     }
 }
 
-/// Runs a made deck, or says why it does not.
+// Runs a made deck, or says why it does not.
 #[tactic(auto, using(st_bits::specs::Storage::words_of_storage_is, crate::proofs::Times::keeps_still))]
 fn answer_made<K: Sink>(alloc: Global, number: u64, cards: u32, out: &mut K) -> Answer
     requires { cards ≤ 4000 }
@@ -175,7 +175,7 @@ fn answer_made<K: Sink>(alloc: Global, number: u64, cards: u32, out: &mut K) -> 
     }
 }
 
-/// Does what a command asks for, or says why it does not.
+// Does what a command asks for, or says why it does not.
 fn act<S: Source, K: Sink>(alloc: Global, command: Command, job: &mut S, out: &mut K) -> Answer
     requires { IsWithinCards command }
     ensures { Acted command result.status

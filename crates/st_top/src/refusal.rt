@@ -12,7 +12,7 @@ use st_card::Fault;
 use st_io::{Failed, Sink};
 use st_report::line_fault;
 
-/// Writes the line of a refused card.
+// Writes the line of a refused card.
 fn write_refusal<K: Sink>(out: &mut K, card: u32, fault: Fault) -> Result<(), Failed>
     ensures { WritesLines (K.output out.old) (K.output out.new)
         (fault_line card (name_of fault) ∷ []) result }

@@ -25,14 +25,14 @@ use st_state::State;
 /// The levels of the overlapped machine that a job runs on.
 pub const LEVELS: usize = 4;
 
-/// Writes the line that says how many steps a state lies before the end.
+// Writes the line that says how many steps a state lies before the end.
 fn write_steps<K: Sink>(out: &mut K, steps: u8) -> Result<(), Failed>
     ensures { WritesLines (K.output out.old) (K.output out.new) (back_line steps ∷ []) result }
 {
     put(out, &line_back(steps))
 }
 
-/// Writes the line and the block of the state so many steps before the end.
+// Writes the line and the block of the state so many steps before the end.
 fn write_before<K: Sink>(
     out: &mut K,
     steps: u8,
@@ -47,7 +47,7 @@ fn write_before<K: Sink>(
     write_state(out, &Seen::new(state), controls)
 }
 
-/// Writes the state before the end to which the machine beside a run steps back, where there is one.
+// Writes the state before the end to which the machine beside a run steps back, where there is one.
 #[tactic(auto, using(st_io::proofs::Progress::wrote_nothing))]
 fn write_back<K: Sink>(
     out: &mut K,
@@ -76,7 +76,7 @@ pub fn budget(controls: &Controls) -> u64
     controls.budget
 }
 
-/// Makes the run on the machine beside it, and writes the state before the end that is asked for.
+// Makes the run on the machine beside it, and writes the state before the end that is asked for.
 fn write_past<K: Sink>(
     out: &mut K,
     past: &mut Option<Past>,

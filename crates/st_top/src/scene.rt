@@ -59,7 +59,7 @@ impl<'a> Scene<'a> {
     }
 }
 
-/// Turns on the signals at the front that are due, and gives those that are still to come.
+// Turns on the signals at the front that are due, and gives those that are still to come.
 fn due_signals<'a>(machine: &mut State, signals: &'a [Signal]) -> &'a [Signal]
     requires { AllPass is_signal signals.now }
     ensures rest { AllPass is_signal result.now }
@@ -78,7 +78,7 @@ fn due_signals<'a>(machine: &mut State, signals: &'a [Signal]) -> &'a [Signal]
     rest
 }
 
-/// Turns on signals, one at a time, as long as the machine is at rest, and gives those that are still to come.
+// Turns on signals, one at a time, as long as the machine is at rest, and gives those that are still to come.
 fn signals_at_rest<'a>(machine: &mut State, signals: &'a [Signal]) -> &'a [Signal]
     requires { AllPass is_signal signals.now }
     ensures rest { AllPass is_signal result.now }

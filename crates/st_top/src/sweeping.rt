@@ -24,7 +24,7 @@ use st_report::{line_calm, line_levels};
 use st_sweep::{Swept, sweep};
 use std::alloc::Global;
 
-/// The first of some ticks, and what is behind it.
+// The first of some ticks, and what is behind it.
 fn first_ticks(ticks: &[u64]) -> Option<(u64, &[u64])>
     ensures parts { MatchOption result (ticks.now ≡ []) (λ r. ticks.now ≡ r.0 ∷ r.1.now) }
     ensures fewer { IfSome result (λ r. length r.1.now + 1 ≡ length ticks.now) }
@@ -35,7 +35,7 @@ fn first_ticks(ticks: &[u64]) -> Option<(u64, &[u64])>
     }
 }
 
-/// Writes the lines of machines with `n` levels, `n + 1` levels and so on, by their ticks.
+// Writes the lines of machines with `n` levels, `n + 1` levels and so on, by their ticks.
 #[tactic(auto, using(st_io::proofs::Progress::wrote_nothing))]
 fn write_levels<K: Sink>(out: &mut K, n: u8, ticks: &[u64]) -> Result<(), Failed>
     requires { n + length ticks.now ≤ 9 }
@@ -48,14 +48,14 @@ fn write_levels<K: Sink>(out: &mut K, n: u8, ticks: &[u64]) -> Result<(), Failed
     write_levels(out, n + 1, more)
 }
 
-/// Writes the line that says whether a run is calm.
+// Writes the line that says whether a run is calm.
 fn write_calm<K: Sink>(out: &mut K, calm: bool) -> Result<(), Failed>
     ensures { WritesLines (K.output out.old) (K.output out.new) (calm_line calm ∷ []) result }
 {
     put(out, &line_calm(calm))
 }
 
-/// Writes the lines of a sweep.
+// Writes the lines of a sweep.
 fn write_sweep<K: Sink>(out: &mut K, swept: Swept) -> Result<(), Failed>
     ensures { WritesLines (K.output out.old) (K.output out.new) (sweep_lines swept) result }
 {
@@ -63,7 +63,7 @@ fn write_sweep<K: Sink>(out: &mut K, swept: Swept) -> Result<(), Failed>
     write_calm(out, swept.calm)
 }
 
-/// Writes the lines of a sweep, and answers by the run on eight levels.
+// Writes the lines of a sweep, and answers by the run on eight levels.
 fn answer_swept<K: Sink>(out: &mut K, swept: Swept) -> Answer
     ensures { Writes result.status (K.output out.old) (K.output out.new)
         (output_of_sweep swept) result }
@@ -82,14 +82,14 @@ fn answer_swept<K: Sink>(out: &mut K, swept: Swept) -> Answer
     }
 }
 
-/// The delays of storage that are asked for.
+// The delays of storage that are asked for.
 fn delays(controls: &Controls) -> &[u8]
     ensures { result.now ≡ controls.now.delays }
 {
     controls.delays.as_slice()
 }
 
-/// Runs an image from a start on machines of one to eight levels, with an empty reader.
+// Runs an image from a start on machines of one to eight levels, with an empty reader.
 fn sweep_image(
     alloc: Global,
     image: &[u64],

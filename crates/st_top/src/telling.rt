@@ -31,28 +31,28 @@ pub fn write_state<K: Sink>(out: &mut K, seen: &Seen<'_>, controls: &Controls) -
     write_block(out, seen, controls.dumps.as_slice())
 }
 
-/// Whether a line for each instruction is asked for.
+// Whether a line for each instruction is asked for.
 fn is_traced(controls: &Controls) -> bool
     ensures { result ≡ controls.now.trace }
 {
     controls.trace
 }
 
-/// Whether the timetable is asked for.
+// Whether the timetable is asked for.
 fn is_charted(controls: &Controls) -> bool
     ensures { result ≡ controls.now.chart }
 {
     controls.chart
 }
 
-/// Whether ticks are asked for.
+// Whether ticks are asked for.
 fn is_timed(controls: &Controls) -> bool
     ensures { result ≡ controls.now.time }
 {
     controls.time
 }
 
-/// Writes the line of an instruction that is done, where a trace is asked for.
+// Writes the line of an instruction that is done, where a trace is asked for.
 #[tactic(auto, using(st_io::proofs::Progress::wrote_nothing))]
 fn write_trace<K: Sink>(
     out: &mut K,
@@ -69,7 +69,7 @@ fn write_trace<K: Sink>(
     put(out, &line_trc(done, address))
 }
 
-/// Writes the line of a row, where the timetable is asked for.
+// Writes the line of a row, where the timetable is asked for.
 #[tactic(auto, using(st_io::proofs::Progress::wrote_nothing))]
 fn write_row<K: Sink>(out: &mut K, done: u64, row: Row, controls: &Controls) -> Result<(), Failed>
     ensures { WritesLines (K.output out.old) (K.output out.new)
@@ -85,7 +85,7 @@ fn write_row<K: Sink>(out: &mut K, done: u64, row: Row, controls: &Controls) -> 
     put(out, &chart(&row))
 }
 
-/// Writes the lines of an entry that is done.
+// Writes the lines of an entry that is done.
 fn write_done<K: Sink>(out: &mut K, done: u64, row: Row, controls: &Controls) -> Result<(), Failed>
     ensures { WritesLines (K.output out.old) (K.output out.new)
         (done_lines controls.now done row.address row.p row.r row.c) result }
@@ -94,7 +94,7 @@ fn write_done<K: Sink>(out: &mut K, done: u64, row: Row, controls: &Controls) ->
     write_row(out, done, row, controls)
 }
 
-/// Writes the line of an entry that is dropped, where the timetable is asked for.
+// Writes the line of an entry that is dropped, where the timetable is asked for.
 #[tactic(auto, using(st_io::proofs::Progress::wrote_nothing))]
 fn write_dropped<K: Sink>(
     out: &mut K,
@@ -111,7 +111,7 @@ fn write_dropped<K: Sink>(
     put(out, &line_drop(address, p))
 }
 
-/// Writes the line that is printed.
+// Writes the line that is printed.
 fn write_printed<K: Sink>(out: &mut K, text: &ArrayString<64>) -> Result<(), Failed>
     ensures { WritesLines (K.output out.old) (K.output out.new)
         (prt_line text.now.bytes ∷ []) result }
@@ -119,14 +119,14 @@ fn write_printed<K: Sink>(out: &mut K, text: &ArrayString<64>) -> Result<(), Fai
     put(out, &line_prt(text))
 }
 
-/// Writes the line that says which interrupt is taken, and when.
+// Writes the line that says which interrupt is taken, and when.
 fn write_taken<K: Sink>(out: &mut K, i: u8, done: u64) -> Result<(), Failed>
     ensures { WritesLines (K.output out.old) (K.output out.new) (int_line i done ∷ []) result }
 {
     put(out, &line_int(i, done))
 }
 
-/// Writes the line of the tick of an interrupt, where ticks are asked for.
+// Writes the line of the tick of an interrupt, where ticks are asked for.
 #[tactic(auto, using(st_io::proofs::Progress::wrote_nothing))]
 fn write_time<K: Sink>(out: &mut K, tick: u64, controls: &Controls) -> Result<(), Failed>
     ensures { WritesLines (K.output out.old) (K.output out.new)
@@ -138,7 +138,7 @@ fn write_time<K: Sink>(out: &mut K, tick: u64, controls: &Controls) -> Result<()
     put(out, &line_time(tick))
 }
 
-/// Writes the lines of an interrupt.
+// Writes the lines of an interrupt.
 fn write_interrupt<K: Sink>(
     out: &mut K,
     moment: Moment,
@@ -155,7 +155,7 @@ fn write_interrupt<K: Sink>(
     write_state(out, seen, controls)
 }
 
-/// Writes the line of a snapshot.
+// Writes the line of a snapshot.
 fn write_snap<K: Sink>(out: &mut K, at: u64, done: u64, view: &View) -> Result<(), Failed>
     ensures { WritesLines (K.output out.old) (K.output out.new)
         (snap_line_of at done (standing view.now.levels) ∷ []) result }
@@ -168,7 +168,7 @@ fn write_snap<K: Sink>(out: &mut K, at: u64, done: u64, view: &View) -> Result<(
     put(out, &snap_line(&view))
 }
 
-/// The first of the levels at the front, and what is behind it.
+// The first of the levels at the front, and what is behind it.
 #[tactic(auto, unfolding(crate::specs::Running::views_lines))]
 fn first_level(levels: &[Option<LevelView>]) -> Option<(LevelView, &[Option<LevelView>])>
     ensures lines { MatchOption result (views_lines levels.now ≡ []) (λ r. views_lines levels.now
@@ -181,7 +181,7 @@ fn first_level(levels: &[Option<LevelView>]) -> Option<(LevelView, &[Option<Leve
     }
 }
 
-/// Writes the lines of the levels at the front.
+// Writes the lines of the levels at the front.
 #[tactic(auto, using(st_io::proofs::Progress::wrote_nothing))]
 fn write_levels<K: Sink>(out: &mut K, levels: &[Option<LevelView>]) -> Result<(), Failed>
     ensures { WritesLines (K.output out.old) (K.output out.new) (views_lines levels.now) result }
@@ -193,7 +193,7 @@ fn write_levels<K: Sink>(out: &mut K, levels: &[Option<LevelView>]) -> Result<()
     write_levels(out, more)
 }
 
-/// Writes the lines of a snapshot at a tick.
+// Writes the lines of a snapshot at a tick.
 fn write_snapshot<K: Sink>(
     out: &mut K,
     at: u64,
@@ -212,21 +212,21 @@ fn write_snapshot<K: Sink>(
     write_levels(out, &view.levels)
 }
 
-/// Writes the line that says how the run ended.
+// Writes the line that says how the run ended.
 fn write_ended<K: Sink>(out: &mut K, rests: bool) -> Result<(), Failed>
     ensures { WritesLines (K.output out.old) (K.output out.new) (end_line rests ∷ []) result }
 {
     put(out, &line_end(rests))
 }
 
-/// Writes the line with the number of instructions done.
+// Writes the line with the number of instructions done.
 fn write_count<K: Sink>(out: &mut K, done: u64) -> Result<(), Failed>
     ensures { WritesLines (K.output out.old) (K.output out.new) (done_line done ∷ []) result }
 {
     put(out, &line_done(done))
 }
 
-/// Writes the line of the tick of the last completion, where ticks are asked for.
+// Writes the line of the tick of the last completion, where ticks are asked for.
 #[tactic(auto, using(st_io::proofs::Progress::wrote_nothing))]
 fn write_ticks<K: Sink>(out: &mut K, tick: u64, controls: &Controls) -> Result<(), Failed>
     ensures { WritesLines (K.output out.old) (K.output out.new)
@@ -238,7 +238,7 @@ fn write_ticks<K: Sink>(out: &mut K, tick: u64, controls: &Controls) -> Result<(
     put(out, &line_ticks(tick))
 }
 
-/// Writes the lines of the end, at rest or with the budget used up.
+// Writes the lines of the end, at rest or with the budget used up.
 fn write_end<K: Sink>(
     out: &mut K,
     moment: Moment,
@@ -256,7 +256,7 @@ fn write_end<K: Sink>(
     write_state(out, seen, controls)
 }
 
-/// The moment of what is told.
+// The moment of what is told.
 fn moment_of(told: &Told) -> Moment
     ensures { result ≡ record { done = told.now.done; tick = told.now.tick } }
 {
@@ -266,7 +266,7 @@ fn moment_of(told: &Told) -> Moment
     }
 }
 
-/// Writes the lines of what a run has just told.
+// Writes the lines of what a run has just told.
 fn write_told<K: Sink, const N: usize>(
     out: &mut K,
     run: &Run<'_, N>,

@@ -14,7 +14,7 @@ mod reports;
 mod soak;
 mod sweep;
 
-/// Gives a command line and a job to the program. It has no contract, so the tests do not carry that of the program.
+// Gives a command line and a job to the program. It has no contract, so the tests do not carry that of the program.
 fn answered<S: Source, K: Sink>(
     alloc: Global,
     line: &[&str],
@@ -28,19 +28,19 @@ fn answered<S: Source, K: Sink>(
     Ok(stretch(alloc, &words, job, out))
 }
 
-/// What a test shows, where it does not hold.
+// What a test shows, where it does not hold.
 fn check(holds: bool, shows: &'static str) -> Result<(), Fail> {
     if holds { Ok(()) } else { Err(Fail::new(shows)) }
 }
 
-/// Answers a job by a command, over a source and a sink that do not fail: the answer, and what was written.
+// Answers a job by a command, over a source and a sink that do not fail: the answer, and what was written.
 fn answer_to(alloc: Global, word: &str, job: Vec<u8>) -> Result<(Answer, Option<Vec<u8>>), Fail> {
     let mut out = SureSink::new(Vec::with_capacity(alloc, 4000)?);
     let answer = answered(alloc, &[word], &mut SureSource::new(job), &mut out)?;
     Ok((answer, out.into_bytes()))
 }
 
-/// Answers the job of a case by a command: the status is this one, and what is written is its report. The result is the answer.
+// Answers the job of a case by a command: the status is this one, and what is written is its report. The result is the answer.
 fn answer_case(alloc: Global, word: &str, case: &Case, status: Status) -> Result<Answer, Fail> {
     let job = case.job.as_bytes().to_vec(alloc)?;
     let (answer, written) = answer_to(alloc, word, job)?;
@@ -50,7 +50,7 @@ fn answer_case(alloc: Global, word: &str, case: &Case, status: Status) -> Result
     Ok(answer)
 }
 
-/// Runs a job where the read and the write with these numbers fail, from 1 on.
+// Runs a job where the read and the write with these numbers fail, from 1 on.
 fn run_failing(
     alloc: Global,
     job: Vec<u8>,

@@ -5,7 +5,7 @@ use std::io;
 use std::io::{ErrorKind, Read, Write};
 use std::test::Fail;
 
-/// A reader whose first call fails, and whose others give the byte `A`.
+// A reader whose first call fails, and whose others give the byte `A`.
 #[derive(Drop)]
 struct Waking {
     calls: u32,
@@ -52,7 +52,7 @@ fn an_error_is_answered_and_not_tried_again(rt: HostRuntime) -> Result<(), Fail>
     Ok(())
 }
 
-/// A writer that takes at most three bytes a call, and keeps how many it was handed.
+// A writer that takes at most three bytes a call, and keeps how many it was handed.
 #[derive(Drop)]
 struct Counting {
     handed: Vec<usize>,

@@ -10,7 +10,7 @@ use st_io::{Failed, MemSink, MemSource, Sink, SureSource, read_all};
 use std::alloc::Global;
 use std::test::Fail;
 
-/// Whether words mean nothing, and touch neither the job nor the report.
+// Whether words mean nothing, and touch neither the job nor the report.
 fn is_untouched(alloc: Global, line: &[&str]) -> Result<bool, Fail> {
     // The first read fails.
     let bytes = LOAD.as_bytes().to_vec(alloc)?;
@@ -55,7 +55,7 @@ fn words_that_mean_nothing_touch_neither_job_nor_report(rt: HostRuntime) -> Resu
     Ok(())
 }
 
-/// A job behind so many comment cards.
+// A job behind so many comment cards.
 fn behind_comments(alloc: Global, comments: u32, job: &str) -> Result<Vec<u8>, Fail> {
     let mut bytes = Vec::new(alloc);
     for _ in 0..comments {
@@ -65,14 +65,14 @@ fn behind_comments(alloc: Global, comments: u32, job: &str) -> Result<Vec<u8>, F
     Ok(bytes)
 }
 
-/// Whether nothing is written where this read of a job behind comment cards fails.
+// Whether nothing is written where this read of a job behind comment cards fails.
 fn fails_at_read(alloc: Global, comments: u32, job: &str, read: u32) -> Result<bool, Fail> {
     let job = behind_comments(alloc, comments, job)?;
     let (answer, out) = run_failing(alloc, job, read, 0)?;
     Ok(answer == Answer::without_run(Status::ReadFault) && out.bytes().is_empty())
 }
 
-/// Whether a job behind comment cards is done where this read would fail.
+// Whether a job behind comment cards is done where this read would fail.
 fn is_read_before(alloc: Global, comments: u32, job: &str, read: u32) -> Result<bool, Fail> {
     let job = behind_comments(alloc, comments, job)?;
     let (answer, _) = run_failing(alloc, job, read, 0)?;
@@ -101,8 +101,8 @@ fn a_job_of_one_byte_more_than_the_longest_is_told(rt: HostRuntime) -> Result<()
     check(told, "a job that is too long")
 }
 
-/// A job and its report, and for groups of lines the number of instructions done when they are written: each
-/// group ends before the line that it names, counted from 0.
+// A job and its report, and for groups of lines the number of instructions done when they are written: each
+// group ends before the line that it names, counted from 0.
 #[derive(Clone, Copy)]
 struct Written {
     job: &'static str,
@@ -140,7 +140,7 @@ const WRITTEN: [Written; 5] = [
     },
 ];
 
-/// How many instructions are done when this line is written, counted from 0; None behind the last line.
+// How many instructions are done when this line is written, counted from 0; None behind the last line.
 fn done_at(groups: &[(u32, u64)], line: u32) -> Option<u64> {
     for (end, done) in groups {
         if line < *end {
@@ -150,7 +150,7 @@ fn done_at(groups: &[(u32, u64)], line: u32) -> Option<u64> {
     None
 }
 
-/// So many lines from the front of a report.
+// So many lines from the front of a report.
 fn first_lines(alloc: Global, report: &str, lines: u32) -> Result<Vec<u8>, Fail> {
     let mut front = Vec::new(alloc);
     let mut left = lines;
@@ -166,8 +166,8 @@ fn first_lines(alloc: Global, report: &str, lines: u32) -> Result<Vec<u8>, Fail>
     Ok(front)
 }
 
-/// Lets the write of this line fail, counted from 0: the lines before it are written, or where there is none the whole
-/// report. Says whether there is such a line.
+// Lets the write of this line fail, counted from 0: the lines before it are written, or where there is none the whole
+// report. Says whether there is such a line.
 fn fails_at_line(alloc: Global, run: &Written, line: u32) -> Result<bool, Fail>
     requires { line < 100 }
 {
@@ -205,7 +205,7 @@ fn the_line_that_refuses_may_fail(rt: HostRuntime) -> Result<(), Fail> {
     check(told, "a refusal that is not written")
 }
 
-/// Whether a sink with so much room holds a front of the report of one load.
+// Whether a sink with so much room holds a front of the report of one load.
 fn holds_front(alloc: Global, room: usize) -> Result<bool, Fail> {
     let mut job = SureSource::new(LOAD.as_bytes().to_vec(alloc)?);
     let mut out = MemSink::new(Vec::with_capacity(alloc, room)?, Vec::new(alloc));
@@ -222,7 +222,7 @@ fn a_sink_that_is_full_holds_a_front_of_the_report(rt: HostRuntime) -> Result<()
     Ok(())
 }
 
-/// A sink that takes at most five bytes at a time.
+// A sink that takes at most five bytes at a time.
 #[derive(Drop)]
 struct Slow {
     sink: MemSink,
@@ -237,7 +237,7 @@ impl Sink for Slow {
     }
 }
 
-/// Whether this write of five bytes fails so.
+// Whether this write of five bytes fails so.
 fn fails_within(alloc: Global, write: u32, written: &str) -> Result<bool, Fail> {
     let buffer = Vec::with_capacity(alloc, 1000)?;
     let mut out = Slow {

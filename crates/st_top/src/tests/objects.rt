@@ -4,17 +4,17 @@ use super::{answer_case, check};
 use crate::{Answer, Status};
 use std::test::Fail;
 
-/// The deck of one load and a wait, and its object text.
+// The deck of one load and a wait, and its object text.
 const LOAD: &str = "         LVI,$X1,100.0\n         BEW\n         END,32.0\n";
 
 const OBJECT: &str = "OBJECT\nSTART 32.0\nW 32 0019030000000970\nBUDGET 1000\nDELAY 1\nFIN\n";
 
-/// The report of that deck.
+// The report of that deck.
 const REPORT: &str =
     "END WAIT\nDONE 2\nIC 33.0\nEN 1\nREG 11 0000000000009000\nREG 12 FFFFF00000000000
 REG 17 0019000000000000\n";
 
-/// Object texts that are refused, and their bad lines.
+// Object texts that are refused, and their bad lines.
 const REFUSED: [Case; 2] = [
     Case {
         shows: "a word in lower-case digits",
@@ -28,7 +28,7 @@ const REFUSED: [Case; 2] = [
     },
 ];
 
-/// The object text of that deck, and its report.
+// The object text of that deck, and its report.
 const ASSEMBLED: Case = Case {
     shows: "a job is assembled and does not run",
     job: LOAD,

@@ -8,7 +8,7 @@ use st_io::{MemSource, SureSink, read_all};
 use std::alloc::Global;
 use std::test::Fail;
 
-/// Whether a made deck is run behind its line as a job is, and no job is read.
+// Whether a made deck is run behind its line as a job is, and no job is read.
 fn is_run_behind(
     alloc: Global,
     words: &[&str],

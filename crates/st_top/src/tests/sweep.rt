@@ -5,7 +5,7 @@ use crate::{Answer, Status};
 use st_io::{MemSink, SureSource};
 use std::test::Fail;
 
-/// Four early index changes, one behind the other.
+// Four early index changes, one behind the other.
 const CALM: &str = "         *(BU,64),100.0
          V+I,$X1,1.0
          V+I,$X1,1.0
@@ -15,7 +15,7 @@ const CALM: &str = "         *(BU,64),100.0
          END,32.0
 ";
 
-/// A branch on an indicator that is guessed wrong.
+// A branch on an indicator that is guessed wrong.
 const MISSED: &str = "         *(BU,64),100.0
          BI0,$XCZ,35.0
          V+I,$X1,1.0
@@ -26,7 +26,7 @@ const MISSED: &str = "         *(BU,64),100.0
 /TIME
 ";
 
-/// The ticks of both.
+// The ticks of both.
 const CALM_LINES: &str = "LEVELS 1 TICKS 27
 LEVELS 2 TICKS 25
 LEVELS 3 TICKS 23
@@ -49,7 +49,7 @@ LEVELS 8 TICKS 24
 CALM 0
 ";
 
-/// The jobs with their lines, and the numbers of the run on eight levels.
+// The jobs with their lines, and the numbers of the run on eight levels.
 const SWEPT: [(Case, u64, u64); 2] = [
     (
         Case {
