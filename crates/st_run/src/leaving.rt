@@ -1,9 +1,8 @@
 //! What comes between two entries: signals, orders of the reader and the printer, what ends a wait, and the decision
 //! how the run goes on.
-ghost use Rattle.std.specs.Prelude.{◌≡◌, ◌≤◌, ◌||◌, ℕ, List, Bool, true, false, None, IfSome, IsSome, nat_lt, is_none, length, map, option_map};
+ghost use Rattle.std.specs.Prelude.{◌≡◌, ◌≤◌, ◌||◌, ℕ, List, Bool, true, false, None, IfSome, IsSome, nat_lt, length, map, option_map};
 ghost use Rattle.std.specs.List.{AllPass};
 ghost use Rattle.st_card.specs.Limits.{is_signal};
-ghost use Rattle.st_state.specs.Orders.{is_due as is_due_of};
 ghost use Rattle.st_exec.specs.Step.{rests};
 ghost use Rattle.st_run.specs.Run as run;
 ghost use Rattle.st_ahead.specs.Overlap.{levels_of};
@@ -16,6 +15,7 @@ ghost use Rattle.st_run.specs.Serving.{IsServed, is_card, order_of, printed_text
 ghost use Rattle.st_run.specs.Between.{Came, IsChoice, IsQuiet, choice_of, signal_due, first_text as first_text_of};
 
 use crate::driven::{Driven, take_due_signals};
+use crate::plain::{printer_is_due, printer_is_free, reader_is_due, reader_is_free};
 use crate::serving::{Served, serve};
 use crate::turn::Turn;
 use arrayvec::{ArrayString, ArrayVec};
@@ -24,7 +24,7 @@ use st_card::Signal;
 use st_exch::Hopper;
 use st_exec::is_at_rest;
 use st_ring::SpecRing;
-use st_state::{Device, State, is_due};
+use st_state::{Device, State};
 use std::mem;
 
 /// What was decided between two entries.
@@ -79,34 +79,6 @@ fn levels_in<const N: usize>(ring: &SpecRing<N>) -> ArrayVec<(u32, u64), 8>
 }
 
 // ---- orders
-
-/// Whether the reader has no order.
-fn reader_is_free(state: &State) -> bool
-    ensures { result ≡ is_none state.now.reader }
-{
-    state.reader.is_none()
-}
-
-/// Whether the printer has no order.
-fn printer_is_free(state: &State) -> bool
-    ensures { result ≡ is_none state.now.printer }
-{
-    state.printer.is_none()
-}
-
-/// Whether the reader's order is due.
-fn reader_is_due(state: &State) -> bool
-    ensures { result ≡ is_due_of state.now.done state.now.reader }
-{
-    is_due(state.reader, state.done)
-}
-
-/// Whether the printer's order is due.
-fn printer_is_due(state: &State) -> bool
-    ensures { result ≡ is_due_of state.now.done state.now.printer }
-{
-    is_due(state.printer, state.done)
-}
 
 /// Serves a device that has an order.
 fn serve_device<const N: usize>(driven: &mut Driven<N>, device: Device) -> Served

@@ -5,6 +5,7 @@
 mod driven;
 mod laws;
 mod leaving;
+pub mod plain;
 mod progress;
 mod run;
 mod seen;

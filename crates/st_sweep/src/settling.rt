@@ -1,58 +1,23 @@
 //! What comes between two entries of a run without cards, and whether it is quiet.
-ghost use Rattle.std.specs.Prelude.{◌≡◌, ◌||◌, not, ℕ, List};
+ghost use Rattle.std.specs.Prelude.{◌≡◌, ◌||◌, not, List};
 ghost use Rattle.std.specs.List.{AllPass};
 ghost use Rattle.st_card.specs.Limits.{is_signal};
-ghost use Rattle.st_run.specs.Run.{Signal as SignalOf, with_due_signals, with_reader, with_printer, if_due, with_due_orders, with_order_at_rest, with_signals_at_rest, with_wait, settled};
+ghost use Rattle.st_run.specs.Run.{Signal as SignalOf, with_reader, with_printer, if_due, with_due_orders, with_order_at_rest, with_wait, settled};
 ghost use Rattle.st_run.specs.Together.{signals_of};
 ghost use Rattle.st_sweep.specs.Calm.{is_quiet};
 ghost use Rattle.st_sweep.specs.Sweep.{without_cards};
 
 use st_card::Signal;
 use st_exec::{is_at_rest, print_out, read_in};
-use st_state::{Device, State, is_due};
-
-// Turns on the signals at the front that are due, and gives those that are still to come.
-fn due_signals<'a>(state: &mut State, signals: &'a [Signal]) -> &'a [Signal]
-    requires { AllPass is_signal signals.now }
-    ensures rest { AllPass is_signal result.now }
-    ensures came { (cards : List (List ℕ)) → with_due_signals state.old (signals_of signals.now) cards
-        ≡ record { machine = state.new; signals = signals_of result.now; cards = cards } }
-{
-    let mut rest = signals;
-    'signals: while let [first, after @ ..] = rest {
-        if first.count > state.done {
-            return rest;
-        }
-        state.signal(first.indicator);
-        rest = after;
-    }
-    rest
-}
-
-// Turns on signals, one at a time, as long as the machine is at rest, and gives those that are still to come.
-fn signals_at_rest<'a>(state: &mut State, signals: &'a [Signal]) -> &'a [Signal]
-    requires { AllPass is_signal signals.now }
-    ensures rest { AllPass is_signal result.now }
-    ensures came { (cards : List (List ℕ)) → with_signals_at_rest state.old (signals_of signals.now) cards
-        ≡ record { machine = state.new; signals = signals_of result.now; cards = cards } }
-{
-    let mut rest = signals;
-    'signals: while let [first, after @ ..] = rest {
-        if !is_at_rest(state) {
-            return rest;
-        }
-        state.signal(first.indicator);
-        rest = after;
-    }
-    rest
-}
+use st_run::plain::{due_signals, printer_is_due, printer_is_free, reader_is_due, reader_is_free, signals_at_rest};
+use st_state::{Device, State};
 
 // The reader's order takes effect, if it has one. There is no card.
 fn serve_reader(state: &mut State)
     ensures { (xs : List SignalOf) → (with_reader state.old.reader (without_cards state.old xs)).scene
         ≡ without_cards state.new xs }
 {
-    if state.reader.is_none() {
+    if reader_is_free(state) {
         return;
     }
     read_in(state, None);
@@ -63,7 +28,7 @@ fn serve_printer(state: &mut State)
     ensures { (xs : List SignalOf) → (with_printer state.old.printer (without_cards state.old xs)).scene
         ≡ without_cards state.new xs }
 {
-    if state.printer.is_none() {
+    if printer_is_free(state) {
         return;
     }
     print_out(state);
@@ -74,7 +39,7 @@ fn serve_due_reader(state: &mut State)
     ensures { (xs : List SignalOf) → (with_reader (if_due state.old.done state.old.reader)
         (without_cards state.old xs)).scene ≡ without_cards state.new xs }
 {
-    if is_due(state.reader, state.done) {
+    if reader_is_due(state) {
         serve_reader(state);
     }
 }
@@ -84,7 +49,7 @@ fn serve_due_printer(state: &mut State)
     ensures { (xs : List SignalOf) → (with_printer (if_due state.old.done state.old.printer)
         (without_cards state.old xs)).scene ≡ without_cards state.new xs }
 {
-    if is_due(state.printer, state.done) {
+    if printer_is_due(state) {
         serve_printer(state);
     }
 }

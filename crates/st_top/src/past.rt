@@ -14,7 +14,6 @@ ghost use Rattle.std.specs.Prelude.{
   length,
   IsSome,
   IfSome,
-  is_none,
 };
 ghost use Rattle.st_bits.specs.Storage.{words_of_storage};
 ghost use Rattle.st_bits.specs.declared.limits.TheConstants.{MOST_INSTRUCTIONS};
@@ -24,12 +23,11 @@ ghost use Rattle.st_exec.specs.Step.{rests};
 ghost use Rattle.st_back.specs.Steps.{states_before};
 ghost use Rattle.st_top.specs.Beside.{IsFresh, IsReady, IsMoved, IsStepped, IsBeside, HasRun, StandsAtStart, StandsAtEnd};
 
-use crate::scene::{
-    Scene, printer_is_due, printer_is_free, reader_is_due, take_due_signals, take_signals_at_rest,
-};
+use crate::scene::{Scene, take_due_signals, take_signals_at_rest};
 use st_back::Back;
 use st_bits::indicators::{END_EXCEPTION, END_OF_OPERATION};
 use st_exec::{is_at_rest, print_out};
+use st_run::plain::{printer_is_due, printer_is_free, reader_is_due, reader_is_free};
 use st_state::{Device, State};
 
 /// A machine beside a run, and its last steps, which can be undone.
@@ -90,13 +88,6 @@ fn move_by_signals_at_rest(scene: &mut Scene, steps: &Back)
 {
     scene.machine.shape();
     take_signals_at_rest(scene);
-}
-
-// Whether the reader has no order.
-fn reader_is_free(machine: &State) -> bool
-    ensures { result ≡ is_none machine.now.reader }
-{
-    machine.reader.is_none()
 }
 
 // The reader's order takes effect, if it has one.
