@@ -10,9 +10,9 @@ use Rattle.std.specs.Bool.{IsTrue}
 use Rattle.std.specs.Option.{IfSome}
 use Rattle.std.specs.Result.{IfOk}
 use Rattle.std.proofs.lemmas.List.Elements.{All-nil, All-cons, All-head, All-tail, All-push, All-append}
-use Rattle.st_card.specs.Number.{is_filled}
+use Rattle.st_text.specs.Number.{is_filled}
 use Rattle.st_card.specs.Cards.{text_in, card_at, cards_from, cards_of}
-use Rattle.st_card.specs.Pieces.{parted}
+use Rattle.st_text.specs.Pieces.{parted}
 use Rattle.st_card.specs.Controls.{Asked, nothing, added, is_among}
 use Rattle.st_card.specs.Limits.{IsWithinLimits, AreDelays, is_signal, is_part, is_tick}
 use Rattle.st_card.specs.declared.cards.Card.{Card}

@@ -3,7 +3,7 @@ use Rattle.std.proofs.Common.{◌≡◌, ◌||◌, ℕ, Bool, true, false, cond,
 use Rattle.std.proofs.lemmas.Bool.{eqb-true, and_parts as both_true}
 use Rattle.std.specs.Cmp.Lexicographic.{pointwise}
 use Rattle.std.specs.List.{cons_option}
-use Rattle.st_card.specs.Tables.{is_same, row_of}
+use Rattle.st_text.specs.Tables.{is_same, row_of}
 use Rattle.st_expr.specs.Value.{Defines}
 use Rattle.st_asm.specs.Symbols.{is_among, is_defined, names_of}
 use Rattle.st_asm.specs.declared.line.Line.{Line}

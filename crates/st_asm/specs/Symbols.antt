@@ -2,7 +2,7 @@
 use Rattle.std.specs.Prelude.{ℕ, Bool, true, List, [], ◌∷◌, map, Some, None, is_some}
 use Rattle.std.specs.List.{list_all, list_any, filter_map}
 use Rattle.arrayvec.specs.ArrayVec.{ArrayVec}
-use Rattle.st_card.specs.Tables.{is_same, row_of}
+use Rattle.st_text.specs.Tables.{is_same, row_of}
 use Rattle.st_expr.specs.declared.terms.Term.{Term}
 use Rattle.st_expr.specs.declared.terms.Atom.{Atom}
 use Rattle.st_expr.specs.declared.terms.Atom.TheVariants.{Number, Name}

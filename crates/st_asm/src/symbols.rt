@@ -1,7 +1,7 @@
 //! Which names a statement speaks of, and whether they are known.
 
 ghost use Rattle.std.specs.Prelude.{◌≡◌, ◌||◌, List, ℕ, IfOk, OnOk};
-ghost use Rattle.st_card.specs.Tables.{is_same};
+ghost use Rattle.st_text.specs.Tables.{is_same};
 ghost use Rattle.st_asm.specs.Symbols as spec;
 
 use crate::line::Line;

@@ -11,12 +11,12 @@ use Rattle.std.proofs.lemmas.List.Elements.{All-append}
 use Rattle.std.proofs.lemmas.List.Sums.{AllPass-from_list_all}
 use Rattle.std.proofs.lemmas.List.Sorted.{IsNonDecreasingBy-push}
 use Rattle.st_card.specs.Controls as spec
-use Rattle.st_card.specs.Controls.{Asked, is_among, last_passes, good, before, number_in, numbers_in}
-use Rattle.st_card.specs.Number.{is_number, value, reading}
-use Rattle.st_card.specs.Pieces.{words}
+use Rattle.st_card.specs.Controls.{Asked, is_among, last_passes, before, number_in, numbers_in}
+use Rattle.st_text.specs.Number.{good, is_number, value, reading}
+use Rattle.st_text.specs.Pieces.{words}
 use Rattle.st_card.specs.Cards.{columns}
-use Rattle.st_card.specs.Tables.{row_of}
-use Rattle.st_card.specs.declared.numbers.Reading.TheVariants.{Bad, Large, Good}
+use Rattle.st_text.specs.Tables.{row_of}
+use Rattle.st_text.specs.declared.numbers.Reading.TheVariants.{Bad, Large, Good}
 use Rattle.st_card.specs.Limits.{is_signal, is_part, is_tick, IsWithinLimits}
 use Rattle.st_card.specs.declared.control_cards.Signal.{Signal}
 use Rattle.st_card.specs.declared.keywords.Keyword.{Keyword}

@@ -5,12 +5,10 @@ use Rattle.std.specs.Option.{option_and_then, option_map_or}
 use Rattle.st_bits.specs.declared.limits.TheConstants.{LAST_WORD, MOST_INSTRUCTIONS, LONGEST_LIST}
 use Rattle.st_bits.specs.declared.indicators.TheConstants.{CHANNEL_SIGNAL}
 use Rattle.st_card.specs.declared.limits.TheConstants.{MOST_DELAY, MOST_DUMPS, MOST_SNAPS, MOST_BACK, MOST_NUMBER}
-use Rattle.st_card.specs.Number.{reading}
-use Rattle.st_card.specs.Pieces.{words}
+use Rattle.st_text.specs.Number.{number_up_to}
+use Rattle.st_text.specs.Pieces.{words}
 use Rattle.st_card.specs.Cards.{columns}
-use Rattle.st_card.specs.Tables.{row_of}
-use Rattle.st_card.specs.declared.numbers.Reading.{Reading}
-use Rattle.st_card.specs.declared.numbers.Reading.TheVariants.{Bad, Large, Good}
+use Rattle.st_text.specs.Tables.{row_of}
 use Rattle.st_card.specs.declared.control_cards.Signal.{Signal}
 use Rattle.st_card.specs.declared.keywords.Keyword.{Keyword}
 use Rattle.st_card.specs.declared.keywords.Keyword.TheVariants.{Budget, Delays, Signals, Dump, Snap, Back, Listing, Trace, Time, Chart}
@@ -50,15 +48,9 @@ keywords =
     ∷ (codes "/SNAP", Snap) ∷ (codes "/BACK", Back) ∷ (codes "/LIST", Listing) ∷ (codes "/TRACE", Trace)
     ∷ (codes "/TIME", Time) ∷ (codes "/CHART", Chart) ∷ []
 
--- the number that was read
-abbrev pub good : Reading → Option ℕ
-good (Good n) = Some n
-good Large = None
-good Bad = None
-
 -- the number that a word of a control card is: 1 to 12 digits
 abbrev pub number_in : List ℕ → Option ℕ
-number_in word = if nat_lt 12 (length word) then None else good (reading MOST_NUMBER word)
+number_in word = if nat_lt 12 (length word) then None else number_up_to MOST_NUMBER word
 
 -- a number before numbers, where there are both
 abbrev pub before : Option ℕ → Option (List ℕ) → Option (List ℕ)

@@ -4,7 +4,7 @@ ghost use Rattle.std.specs.Prelude.{◌≡◌, ◌≤◌, [], ◌∷◌, length,
 ghost use Rattle.std.specs.List.{list_all};
 ghost use Rattle.std.specs.Option.{option_map};
 ghost use Rattle.st_card.specs.Controls as spec;
-ghost use Rattle.st_card.specs.Pieces.{words};
+ghost use Rattle.st_text.specs.Pieces.{words};
 ghost use Rattle.st_card.specs.Limits.{IsWithinLimits};
 ghost use Rattle.st_card.specs.Answers.{Settles, Appends, Marks, Explains};
 
@@ -12,10 +12,10 @@ use crate::cards::columns;
 use crate::faults::Fault;
 use crate::keywords::{Keyword, Outcome, keyword_of, read_numbers};
 use crate::limits::{MOST_BACK, MOST_DELAY, MOST_DUMPS, MOST_SNAPS};
-use crate::words::first_word;
 use arrayvec::ArrayVec;
 use st_bits::indicators::CHANNEL_SIGNAL;
 use st_bits::limits::{LAST_WORD, LONGEST_LIST, MOST_INSTRUCTIONS};
+use st_text::first_word;
 use std::alloc::Global;
 use std::marker::Model;
 

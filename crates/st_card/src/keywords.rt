@@ -2,15 +2,13 @@
 
 ghost use Rattle.std.specs.Prelude.{◌≡◌, ◌≤◌, length};
 ghost use Rattle.std.specs.Option.{option_map};
-ghost use Rattle.st_card.specs.Tables.{row_of as row_in};
-ghost use Rattle.st_card.specs.Pieces.{words};
+ghost use Rattle.st_text.specs.Tables.{row_of as row_in};
+ghost use Rattle.st_text.specs.Pieces.{words};
 ghost use Rattle.st_card.specs.Controls.{keywords, number_in, numbers_in};
 
 use crate::limits::MOST_NUMBER;
-use crate::numbers::{Reading, read_number};
-use crate::tables::row_of;
-use crate::words::first_word;
 use arrayvec::ArrayVec;
+use st_text::{first_word, number_up_to, row_of};
 
 /// What can be asked for, by control cards and by the lines of an object text; each with the numbers that it takes.
 #[derive(Clone, Copy, Debug, PartialEq, Eq)]
@@ -92,8 +90,5 @@ fn number_in(word: &[u8]) -> Option<u64>
     if word.len() > 12 {
         return None;
     }
-    match read_number(word, MOST_NUMBER) {
-        Reading::Good(number) => Some(number),
-        Reading::Large | Reading::Bad => None,
-    }
+    number_up_to(word, MOST_NUMBER)
 }

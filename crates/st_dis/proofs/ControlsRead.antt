@@ -6,10 +6,10 @@ use Rattle.std.proofs.lemmas.List.{take_all}
 use Rattle.std.proofs.lemmas.Fmt.{length-decimal-le}
 use Rattle.std.specs.List.{list_all}
 use Rattle.std.specs.Option.{option_and_then}
-use Rattle.st_card.specs.Number.{is_filled, reading}
-use Rattle.st_card.specs.Pieces.{parted, lacks, words}
+use Rattle.st_text.specs.Number.{is_filled, reading, good}
+use Rattle.st_text.specs.Pieces.{parted, lacks, words}
 use Rattle.st_card.specs.Cards.{columns}
-use Rattle.st_card.specs.Controls.{Asked, nothing, good, number_in, before, numbers_in, with_budget, with_delays, with_signal, with_dump, with_snap, with_back, with_trace, with_time, with_chart, with_words, added}
+use Rattle.st_card.specs.Controls.{Asked, nothing, number_in, before, numbers_in, with_budget, with_delays, with_signal, with_dump, with_snap, with_back, with_trace, with_time, with_chart, with_words, added}
 use Rattle.st_card.specs.Limits.{IsWithinLimits, AreDelays, AreSignals, AreDumps, AreSnaps}
 use Rattle.st_card.specs.declared.control_cards.Signal.{Signal}
 use Rattle.st_card.proofs.OrderLemmas.{budget-asked, delay-asked, signal-asked, dump-asked, snap-asked, back-asked, delay-short, signal-short, dump-short, snap-short}

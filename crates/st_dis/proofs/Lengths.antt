@@ -4,7 +4,8 @@ use Rattle.std.specs.List.{All}
 use Rattle.std.proofs.lemmas.List.Elements.{All-nil, All-cons, All-head, All-tail, All-append}
 use Rattle.std.proofs.lemmas.Bool.Decides.{nat_tests}
 use Rattle.std.proofs.lemmas.Fmt.{length-decimal-le}
-use Rattle.st_report.specs.Line.{lf, half_address}
+use Rattle.st_text.specs.Bytes.{lf}
+use Rattle.st_text.specs.Numerals.{half_address}
 use Rattle.st_bits.specs.Storage.{words_of_storage_is}
 use Rattle.st_card.specs.Controls.{Asked, is_among}
 use Rattle.st_card.specs.Limits.{IsWithinLimits, is_signal, is_part, is_tick}

@@ -8,7 +8,7 @@ use Rattle.st_bits.specs.declared.operations.VflOp.{VflOp}
 use Rattle.st_bits.specs.declared.operations.VflOp.TheVariants.{L, Lwf, Ltrs, Lft, St, Add, AddMg, MAdd, MAddMg, MAdd1, K, Kf, Ke, Kfe, Kr, Kfr, Mul, MulAdd, Div, Lcv}
 use Rattle.st_bits.specs.declared.operations.ConnKind.{ConnKind}
 use Rattle.st_bits.specs.declared.operations.ConnKind.TheVariants.{C, Cm, Ct}
-use Rattle.st_report.specs.Line.{flag}
+use Rattle.st_text.specs.Numerals.{flag}
 
 -- operations of the half-word format
 abbrev pub half_name : HalfOp → List ℕ

@@ -1,6 +1,6 @@
 -- The texts of instructions.
 use Rattle.std.specs.Prelude.{ℕ, suc, zero, ◌-◌, ◌/◌, ◌%◌, ◌^◌, ◌==◌, Bool, true, false, List, [], ◌++◌, codes, decimal, if◌then◌else◌}
-use Rattle.st_report.specs.Line.{bit_address, half_address, flag}
+use Rattle.st_text.specs.Numerals.{bit_address, half_address, flag}
 use Rattle.st_bits.specs.declared.operations.HalfOp.{HalfOp}
 use Rattle.st_bits.specs.declared.operations.HalfOp.TheVariants.{Lvs, R, Ex}
 use Rattle.st_bits.specs.declared.operations.BranchOp.{BranchOp}

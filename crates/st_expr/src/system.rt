@@ -1,11 +1,11 @@
 //! The system symbols: words of `$` whose values are fixed.
 
 ghost use Rattle.std.specs.Prelude.{◌≡◌};
-ghost use Rattle.st_card.specs.Tables.{row_of as row_in};
+ghost use Rattle.st_text.specs.Tables.{row_of as row_in};
 ghost use Rattle.st_expr.specs.System.{system_symbols};
 
 use st_bits::{indicators, register};
-use st_card::row_of;
+use st_text::row_of;
 
 // The bit address of the first indicator.
 const IND: u32 = 64 * register::INDICATORS;

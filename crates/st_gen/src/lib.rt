@@ -6,11 +6,7 @@ mod form;
 mod generator;
 mod statement;
 
-use arrayvec::ArrayString;
 pub use deck::make_deck;
-
-/// The text of a statement, or of a control card.
-type Text = ArrayString<80>;
 
 #[cfg(test)]
 mod tests;

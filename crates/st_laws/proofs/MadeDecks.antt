@@ -11,7 +11,7 @@ use Rattle.st_card.specs.Controls.{Asked, is_among}
 use Rattle.st_card.specs.Limits.{IsWithinLimits, is_signal, is_part, is_tick}
 use Rattle.st_card.specs.declared.control_cards.Signal.{Signal}
 use Rattle.st_card.specs.Cards.{cards_of}
-use Rattle.st_report.specs.Line.{lf}
+use Rattle.st_text.specs.Bytes.{lf}
 use Rattle.st_strap.specs.Reading.{number_expr}
 use Rattle.st_strap.specs.Saying.{statement_of}
 use Rattle.st_strap.specs.declared.statement.Statement.{Statement}

@@ -3,9 +3,9 @@ use Rattle.std.proofs.Common.{◌≡◌, ◌≤◌, ◌<◌, ◌+◌, ◌-◌, �
 use Rattle.std.specs.List.{flat_map}
 use Rattle.std.specs.Option.{option_map_or, option_and_then}
 use Rattle.std.proofs.lemmas.Bool.Decides.{nat_tests}
-use Rattle.st_report.specs.Line.{lf}
-use Rattle.st_card.specs.Pieces.{onto_first, parted, lacks}
-use Rattle.st_card.proofs.PieceLemmas.{first_piece}
+use Rattle.st_text.specs.Bytes.{lf}
+use Rattle.st_text.specs.Pieces.{onto_first, parted, lacks}
+use Rattle.st_text.proofs.PieceLemmas.{first_piece}
 use Rattle.st_object.specs.Lines.{spelled, text_of}
 use Rattle.st_object.specs.Draft.{Draft, blank, IsDraft, is_empty, lines_of, is_whole, with_item}
 use Rattle.st_object.specs.Meaning.{item_in}

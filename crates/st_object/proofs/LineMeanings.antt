@@ -3,10 +3,9 @@ use Rattle.std.proofs.Common.{◌≡◌, ◌≤◌, ◌<◌, ◌+◌, ◌*◌, �
 use Rattle.std.specs.Option.{option_map, option_and_then}
 use Rattle.std.specs.Cmp.Lexicographic.{same_text}
 use Rattle.std.proofs.lemmas.Bool.Decides.{nat_tests}
-use Rattle.st_card.specs.Number.{is_number, value}
-use Rattle.st_card.specs.Controls.{good}
-use Rattle.st_card.specs.Tables.{is_same, row_of}
-use Rattle.st_card.specs.declared.numbers.Reading.TheVariants.{Bad, Large, Good}
+use Rattle.st_text.specs.Number.{is_number, value, good}
+use Rattle.st_text.specs.Tables.{is_same, row_of}
+use Rattle.st_text.specs.declared.numbers.Reading.TheVariants.{Bad, Large, Good}
 use Rattle.st_object.specs.Lines.{spelled}
 use Rattle.st_object.specs.Meaning.{parts_at, number_in, IsShort, hex_digit_in, hex_after, keywords, item_behind, item_of, item_loosely, if_spelled, item_in}
 use Rattle.st_object.specs.declared.items.Item.{Item}

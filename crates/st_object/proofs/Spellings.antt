@@ -10,12 +10,11 @@ use Rattle.std.proofs.lemmas.Str.Parse.{IsNumeralModel, numerals_by_fold}
 use Rattle.std.proofs.lemmas.Fmt.{digits_decimal, digits_value-decimal, decimal_nonempty}
 use Rattle.std.proofs.lemmas.List.Folds.{list_all-append}
 use Rattle.std.proofs.Math.Nat.{mod-eq_of_lt, pow-succ'}
-use Rattle.st_report.specs.Line.{hex_digit, hex_text, hex_word, half_address}
-use Rattle.st_card.specs.Number.{is_filled, is_number, value, value_after}
-use Rattle.st_card.specs.Controls.{good}
-use Rattle.st_card.specs.Pieces.{lacks}
-use Rattle.st_card.specs.Tables.{is_same}
-use Rattle.st_card.specs.declared.numbers.Reading.TheVariants.{Bad, Large, Good}
+use Rattle.st_text.specs.Numerals.{hex_digit, hex_text, hex_word, half_address}
+use Rattle.st_text.specs.Number.{is_filled, is_number, value, value_after, good}
+use Rattle.st_text.specs.Pieces.{lacks}
+use Rattle.st_text.specs.Tables.{is_same}
+use Rattle.st_text.specs.declared.numbers.Reading.TheVariants.{Bad, Large, Good}
 use Rattle.st_object.specs.Lines.{spelled}
 use Rattle.st_object.specs.Meaning.{parts_at, number_in, both, numbers_in, IsShort, IsItem, hex_digit_in, hex_after, word_in, item_behind, item_loosely, if_spelled, item_in}
 use Rattle.st_object.specs.declared.items.Item.{Item}

@@ -1,7 +1,8 @@
 -- The lines of an object text, and their bytes.
 use Rattle.std.specs.Prelude.{ℕ, ◌+◌, ◌==◌, Bool, List, [], ◌∷◌, ◌++◌, map, codes, decimal, if◌then◌else◌}
 use Rattle.std.specs.List.{flat_map}
-use Rattle.st_report.specs.Line.{lf, hex_word, half_address}
+use Rattle.st_text.specs.Bytes.{lf}
+use Rattle.st_text.specs.Numerals.{hex_word, half_address}
 use Rattle.st_card.specs.Controls.{Asked}
 use Rattle.st_object.specs.declared.items.Item.{Item}
 use Rattle.st_object.specs.declared.items.Item.TheVariants.{Object, Start, Word, Budget, Delay, Signal, Dump, Trace, Time, Chart, Snap, Back, Fin}

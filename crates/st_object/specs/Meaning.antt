@@ -3,9 +3,8 @@ use Rattle.std.specs.Prelude.{ℕ, ◌≤◌, ◌<◌, ◌+◌, ◌*◌, ◌-◌
 use Rattle.std.specs.Option.{option_map, option_and_then}
 use Rattle.st_card.specs.declared.limits.TheConstants.{MOST_NUMBER}
 use Rattle.st_text.specs.Bytes.{blank, period, digit_zero, letter_a}
-use Rattle.st_card.specs.Number.{reading}
-use Rattle.st_card.specs.Controls.{good}
-use Rattle.st_card.specs.Tables.{is_same, row_of}
+use Rattle.st_text.specs.Number.{number_up_to}
+use Rattle.st_text.specs.Tables.{is_same, row_of}
 use Rattle.st_object.specs.Lines.{spelled}
 use Rattle.st_object.specs.declared.items.Item.{Item}
 use Rattle.st_object.specs.declared.items.Item.TheVariants.{Object, Start, Word, Budget, Delay, Signal, Dump, Trace, Time, Chart, Snap, Back, Fin}
@@ -19,7 +18,7 @@ parts_at at (c ∷ cs) = if c == at then Some ([], cs) else option_map (λ p. (c
 
 -- the number that a text is, of 12 digits at most
 abbrev pub number_in : List ℕ → Option ℕ
-number_in text = good (reading MOST_NUMBER text)
+number_in text = number_up_to MOST_NUMBER text
 
 -- a pair of values, where there are both
 abbrev pub both : {X Y : Type 0} → Option X → Option Y → Option (X × Y)

@@ -2,13 +2,12 @@
 use Rattle.std.specs.Prelude.{ℕ, ◌≡◌, ◌≤◌, ◌<◌, ◌+◌, ◌-◌, ◌^◌, false, List, [], ◌∷◌, ◌++◌, length, take, replicate, slice_index, Option, is_some, unwrap_or, Result, Ok, Err, if◌then◌else◌}
 use Rattle.std.specs.List.{All, flat_map}
 use Rattle.std.specs.Option.{option_and_then, option_map_or}
-use Rattle.st_text.specs.Bytes.{line_end}
+use Rattle.st_text.specs.Bytes.{line_end, lf}
 use Rattle.st_bits.specs.declared.register.TheConstants.{FIRST_STORAGE_WORD}
 use Rattle.st_bits.specs.Storage.{words_of_storage}
-use Rattle.st_report.specs.Line.{lf}
 use Rattle.st_card.specs.Controls.{Asked}
 use Rattle.st_card.specs.Limits.{IsWithinLimits}
-use Rattle.st_card.specs.Pieces.{parted}
+use Rattle.st_text.specs.Pieces.{parted}
 use Rattle.st_object.specs.Lines.{text_of, word_lines, order_lines, show_lines}
 use Rattle.st_object.specs.Draft.{Draft, blank, is_empty, is_whole, with_item}
 use Rattle.st_object.specs.Meaning.{item_in}

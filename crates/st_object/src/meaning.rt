@@ -9,7 +9,7 @@ ghost use Rattle.st_object.specs.declared.items.Kind.TheVariants as kinds;
 use crate::items::{Item, Kind};
 use crate::spelling::spelled;
 use st_card::limits::MOST_NUMBER;
-use st_card::{Reading, cut, read_number, row_of};
+use st_text::{cut, number_up_to, row_of};
 
 // The first words of lines.
 const KEYWORDS: [(&[u8], Kind); 13] = [
@@ -40,10 +40,7 @@ fn number_in(text: &[u8]) -> Option<u64>
     ensures value { result ≡ spec.number_in text.now }
     ensures short { IfSome result (λ n. n ≤ 999999999999) }
 {
-    match read_number(text, MOST_NUMBER) {
-        Reading::Good(number) => Some(number),
-        Reading::Large | Reading::Bad => None,
-    }
+    number_up_to(text, MOST_NUMBER)
 }
 
 // Two numbers with a byte between them.

@@ -11,7 +11,8 @@ use crate::drafts::{Draft, fill_up};
 use crate::images::Image;
 use crate::meaning::item_in;
 use st_bits::WORDS;
-use st_card::{Fault, Outcome, cut};
+use st_card::{Fault, Outcome};
+use st_text::cut;
 use std::alloc::Global;
 
 /// Why a text was not read.

@@ -1,9 +1,9 @@
 -- The bytes of the lines of the listing, their line ends included.
 use Rattle.std.specs.Prelude.{ℕ, ◌-◌, ◌*◌, ◌^◌, ◌≤◌, List, [], ◌++◌, length, replicate, IsAscii, codes, decimal, Option, Some, None}
 use Rattle.std.specs.Int.{div_ceil}
-use Rattle.st_text.specs.Bytes.{blank}
+use Rattle.st_text.specs.Bytes.{blank, lf}
 use Rattle.st_text.specs.Blanks.{without_end_blanks}
-use Rattle.st_report.specs.Line.{lf, hex_text, bit_address}
+use Rattle.st_text.specs.Numerals.{hex_text, bit_address}
 
 -- n blanks
 abbrev pub blanks : ℕ → List ℕ

@@ -1,13 +1,12 @@
 //! The lines of the listing.
 ghost use Rattle.std.specs.Prelude.{◌≡◌, ◌+◌, ◌^◌, ◌<◌, ◌≤◌, ◌++◌, length, IsAscii, max};
 ghost use Rattle.arrayvec.specs.ArrayString.{array_string_len};
-ghost use Rattle.st_text.specs.Blanks.{without_end_blanks};
 ghost use Rattle.st_report.specs.Listing.{blanks, right_in, left_in, laid_text, location_text, IsCardText, listed_line, symbol_line};
 
 use crate::Line;
-use crate::pieces::{begun, ended, push_bit_address, push_hex, push_short_decimal};
+use crate::pieces::ended;
 use itoa::Buffer;
-use st_text::filled_len;
+use st_text::{begun, drop_end_blanks, filled_len, push_bit_address, push_hex, push_short_decimal};
 use std::str;
 
 // Appends bytes as they stand.
@@ -49,15 +48,6 @@ fn push_left(line: &mut Line, width: usize, text: &str)
 {
     line.push_str(text);
     push_blanks(line, width.saturating_sub(text.len()));
-}
-
-// Drops the blanks at the line's end.
-fn drop_end_blanks(line: &mut Line)
-    ensures bytes { line.new.bytes ≡ without_end_blanks line.old.bytes }
-    ensures room { array_string_len line.new ≤ array_string_len line.old }
-{
-    let filled = filled_len(line.as_str().as_bytes());
-    line.truncate(filled);
 }
 
 // The location of a card as word.bit, or nothing.

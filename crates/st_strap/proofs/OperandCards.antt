@@ -15,8 +15,8 @@ use Rattle.st_bits.specs.declared.operations.BranchOp.TheVariants.{Bew}
 use Rattle.st_bits.specs.declared.operations.VflOp.{VflOp}
 use Rattle.st_bits.specs.declared.operations.VflOp.TheVariants.{L, Add, St, MAdd1, Mul}
 use Rattle.st_bits.specs.declared.operations.ConnKind.TheVariants.{C}
-use Rattle.st_card.specs.Pieces.{parted, lacks}
-use Rattle.st_card.specs.Tables.{row_of}
+use Rattle.st_text.specs.Pieces.{parted, lacks}
+use Rattle.st_text.specs.Tables.{row_of}
 use Rattle.st_card.specs.declared.faults.Fault.TheVariants.{BadName, UnknownOperation, BadDataDescription, BadProgressive}
 use Rattle.st_expr.specs.Expression.{expr_of}
 use Rattle.st_strap.specs.Text.{stop, ends_with, clean, group_length, group, behind_group, fields_of}

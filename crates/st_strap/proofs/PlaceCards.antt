@@ -6,10 +6,10 @@ use Rattle.std.proofs.lemmas.List.{take_all, drop_all}
 use Rattle.std.proofs.lemmas.List.Folds.{list_all-append}
 use Rattle.std.specs.Char.{is_ascii_digit, is_ascii_uppercase}
 use Rattle.std.specs.List.{list_all}
-use Rattle.st_card.specs.Number.{is_filled, reading}
-use Rattle.st_card.specs.Pieces.{parted, onto_first, lacks}
+use Rattle.st_text.specs.Number.{is_filled, reading}
+use Rattle.st_text.specs.Pieces.{parted, onto_first, lacks}
 use Rattle.st_card.specs.declared.faults.Fault.TheVariants.{BadName, UnknownOperation, BadProgressive}
-use Rattle.st_card.specs.declared.numbers.Reading.TheVariants.{Good}
+use Rattle.st_text.specs.declared.numbers.Reading.TheVariants.{Good}
 use Rattle.st_expr.specs.Name.{is_name_byte, is_name, is_system_word}
 use Rattle.st_expr.specs.Term.{atom_of, place_of, bit_address}
 use Rattle.st_expr.specs.Expression.{onto_part, parts_after, parts, expr_in, expr_of}

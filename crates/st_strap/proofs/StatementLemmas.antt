@@ -4,11 +4,11 @@ use Rattle.std.proofs.lemmas.Bool.{and_parts as both-true, not-true as not_false
 use Rattle.std.specs.Bool.{IsFalse}
 use Rattle.std.specs.Option.{IfSome, option_map, option_map_or, option_and_then, option_zip}
 use Rattle.std.specs.Result.{IfOk}
-use Rattle.st_card.specs.Number.{is_number, is_filled, value}
+use Rattle.st_text.specs.Number.{is_number, is_filled, value}
 use Rattle.st_expr.specs.Name.{is_name}
-use Rattle.st_card.specs.declared.numbers.Reading.TheVariants.{Bad, Large, Good}
-use Rattle.st_card.specs.Pieces.{parted}
-use Rattle.st_card.specs.Tables.{row_of}
+use Rattle.st_text.specs.declared.numbers.Reading.TheVariants.{Bad, Large, Good}
+use Rattle.st_text.specs.Pieces.{parted}
+use Rattle.st_text.specs.Tables.{row_of}
 use Rattle.st_card.specs.declared.faults.Fault.{Fault}
 use Rattle.st_card.specs.declared.faults.Fault.TheVariants.{BadName, UnknownOperation, BadDataDescription, BadProgressive, BadFieldCount, BadIndex}
 use Rattle.st_expr.specs.Expression.{expr_of}

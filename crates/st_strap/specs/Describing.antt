@@ -2,11 +2,11 @@
 use Rattle.std.specs.Prelude.{ℕ, ◌+◌, ◌-◌, ◌==◌, ◌||◌, Bool, true, false, not, List, [], ◌∷◌, length, take, codes, Option, None, Some, if◌then◌else◌}
 use Rattle.std.specs.Option.{option_map, option_and_then}
 use Rattle.st_text.specs.Bytes.{close_parenthesis, comma}
-use Rattle.st_card.specs.Number.{reading}
-use Rattle.st_card.specs.Pieces.{parted}
-use Rattle.st_card.specs.Tables.{row_of}
-use Rattle.st_card.specs.declared.numbers.Reading.{Reading}
-use Rattle.st_card.specs.declared.numbers.Reading.TheVariants.{Bad, Large, Good}
+use Rattle.st_text.specs.Number.{reading}
+use Rattle.st_text.specs.Pieces.{parted}
+use Rattle.st_text.specs.Tables.{row_of}
+use Rattle.st_text.specs.declared.numbers.Reading.{Reading}
+use Rattle.st_text.specs.declared.numbers.Reading.TheVariants.{Bad, Large, Good}
 use Rattle.st_format.specs.Validity.{misfits}
 use Rattle.st_bits.specs.declared.operations.VflOp.TheVariants.{L, St, Add, K, Mul, Div}
 use Rattle.st_strap.specs.Text.{ends_with}

@@ -2,12 +2,12 @@
 use Rattle.std.specs.Prelude.{ℕ, ◌||◌, Bool, true, false, nat_le, nat_lt, List, [], ◌∷◌, ◌++◌, length, drop, replicate, Option, None, Some, is_none, Result, Ok, Err, if◌then◌else◌}
 use Rattle.std.specs.List.{list_any, zip}
 use Rattle.std.specs.Option.{option_map, option_and_then, option_map_or}
-use Rattle.st_card.specs.Number.{is_filled, reading}
-use Rattle.st_card.specs.Tables.{row_of}
+use Rattle.st_text.specs.Number.{is_filled, reading}
+use Rattle.st_text.specs.Tables.{row_of}
 use Rattle.st_card.specs.declared.faults.Fault.{Fault}
 use Rattle.st_card.specs.declared.faults.Fault.TheVariants.{BadName, UnknownOperation, BadDataDescription, BadProgressive, BadFieldCount, BadExpression, BadIndex, NumberTooLarge}
-use Rattle.st_card.specs.declared.numbers.Reading.{Reading}
-use Rattle.st_card.specs.declared.numbers.Reading.TheVariants.{Bad, Large, Good}
+use Rattle.st_text.specs.declared.numbers.Reading.{Reading}
+use Rattle.st_text.specs.declared.numbers.Reading.TheVariants.{Bad, Large, Good}
 use Rattle.st_expr.specs.Expression.{parts, any_bad, any_large}
 use Rattle.st_strap.specs.Text.{clean, begins_with, word_of, behind_word, behind_group, fields_of}
 use Rattle.st_strap.specs.Table.{operation_of}

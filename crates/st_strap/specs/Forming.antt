@@ -2,7 +2,7 @@
 use Rattle.std.specs.Prelude.{ℕ, ◌==◌, ◌&&◌, ◌||◌, Bool, true, false, not, nat_le, ◌-◌, List, [], ◌∷◌, length, take, codes, Option, None, Some, is_some, if◌then◌else◌}
 use Rattle.std.specs.Option.{option_and_then}
 use Rattle.st_text.specs.Bytes.{close_parenthesis, comma}
-use Rattle.st_card.specs.Tables.{row_of}
+use Rattle.st_text.specs.Tables.{row_of}
 use Rattle.st_format.specs.Operations.{writes_field}
 use Rattle.st_format.specs.declared.operations.FullOp.TheVariants.{Variable, Connective}
 use Rattle.st_strap.specs.Text.{begins_with, ends_with, group, behind_group}

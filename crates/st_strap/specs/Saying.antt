@@ -3,7 +3,7 @@ use Rattle.std.specs.Prelude.{ℕ, ◌&&◌, ◌||◌, Bool, false, not, nat_le,
 use Rattle.std.specs.Option.{option_and_then, option_map_or}
 use Rattle.arrayvec.specs.ArrayVec.{ArrayVec}
 use Rattle.st_bits.specs.declared.operations.HalfOp.TheVariants.{Ex}
-use Rattle.st_card.specs.Number.{is_filled}
+use Rattle.st_text.specs.Number.{is_filled}
 use Rattle.st_card.specs.declared.faults.Fault.{Fault}
 use Rattle.st_card.specs.declared.faults.Fault.TheVariants.{BadName, UnknownOperation, BadDataDescription, BadProgressive, BadFieldCount}
 use Rattle.st_expr.specs.Name.{is_name}

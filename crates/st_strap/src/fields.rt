@@ -1,7 +1,7 @@
 //! What the fields of a statement say, each by itself.
 
 ghost use Rattle.std.specs.Prelude.{◌≡◌, ◌≤◌, ◌<◌, length, IfOk, IfSome};
-ghost use Rattle.st_card.specs.Tables.{row_of as row_in};
+ghost use Rattle.st_text.specs.Tables.{row_of as row_in};
 ghost use Rattle.st_strap.specs.Order as order;
 ghost use Rattle.st_strap.specs.Fields.{texts};
 ghost use Rattle.st_strap.specs.Reading as spec;
@@ -9,8 +9,9 @@ ghost use Rattle.st_strap.specs.Reading as spec;
 use crate::field::Field;
 use crate::parts::{begins_with, ends_with};
 use crate::statement::Spot;
-use st_card::{Fault, Reading, read_number, row_of};
+use st_card::Fault;
 use st_expr::{Expr, read_expr};
+use st_text::{Reading, read_number, row_of};
 
 const INDEX_FIELDS: [(&[u8], u8); 16] = [
     (b"$X0", 0),

@@ -2,15 +2,15 @@
 
 ghost use Rattle.std.specs.Prelude.{◌≡◌, ◌≤◌, length};
 ghost use Rattle.std.specs.Option.{option_and_then};
-ghost use Rattle.st_card.specs.Tables.{row_of as row_in};
+ghost use Rattle.st_text.specs.Tables.{row_of as row_in};
 ghost use Rattle.st_strap.specs.Text.{behind_group};
 ghost use Rattle.st_strap.specs.Forming as spec;
 
 use crate::operations::Operation;
 use crate::parts::{begins_with, ends_with, group_length};
 use crate::statement::Form;
-use st_card::row_of;
 use st_format::{FullOp, writes_field};
+use st_text::row_of;
 
 const FORMS: [(&[u8], u8); 7] = [
     (b"(IM", 1),

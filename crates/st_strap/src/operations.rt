@@ -1,12 +1,12 @@
 //! The operations by their words.
 
 ghost use Rattle.std.specs.Prelude.{◌≡◌};
-ghost use Rattle.st_card.specs.Tables.{row_of as row_in};
+ghost use Rattle.st_text.specs.Tables.{row_of as row_in};
 ghost use Rattle.st_strap.specs.Table as spec;
 
 use crate::parts::ends_with;
 use st_bits::{BranchOp, ConnKind, HalfOp, VflOp};
-use st_card::row_of;
+use st_text::row_of;
 
 // An operation, with what its word says.
 #[derive(Clone, Copy)]

@@ -1,6 +1,6 @@
 use Rattle.std.proofs.Common.{◌≡◌, ◌≤◌, ◌+◌, ◌*◌, ◌++◌, length}
 use Rattle.std.specs.Option.{option_map}
-use Rattle.st_card.specs.Pieces.{words}
+use Rattle.st_text.specs.Pieces.{words}
 use Rattle.st_card.specs.Controls.{numbers_in}
 use Rattle.st_card.proofs.keywords.read_numbers.Given as goal
 
