@@ -1,5 +1,6 @@
 -- The reader's cards, card by card.
-use Rattle.std.proofs.Common.{◌≡◌, ◌||◌, ℕ, Bool, true, false, List, [], ◌∷◌, ◌++◌, map, filter, refl, ap, ◌∙◌, append-nil, if◌then◌else◌}
+use Rattle.std.proofs.Common.{◌≡◌, ◌+◌, ◌-◌, ◌<◌, ◌≤◌, ◌||◌, ℕ, Bool, true, false, List, [], ◌∷◌, ◌++◌, length, take, drop, get_or, map, filter, refl, ap, ◌∙◌, append-nil, arith, if◌then◌else◌}
+use Rattle.std.proofs.lemmas.List.{take_more, length-drop}
 use Rattle.std.proofs.lemmas.List.{map-append}
 use Rattle.std.proofs.lemmas.List.Elements.{filter-append}
 use Rattle.std.proofs.lemmas.List.Folds.{list_any-append}
@@ -91,3 +92,18 @@ texts-statement job cards card kind = ap (λ (x : List Card). read job x) (behin
 pub texts-nothing : (job : List ℕ) → texts_in job [] ≡ []
 unfolding texts_in behind_statements
 texts-nothing job = refl
+
+-- what is read up to the statement card in place n, or of no cards, is nothing
+pub texts-to_statement : (job : List ℕ) (cards back : List Card) (default : Card) (n : ℕ) → n ≤ length cards → 0 < n → back ≡ drop n cards
+    → is_statement (get_or cards (n - 1) default).kind ≡ true → texts_in job (take (length cards - length back) cards) ≡ []
+texts-to_statement job cards back default n within some behind statement =
+    let short : length back ≡ length cards - n = ap (λ (x : List Card). length x) behind ∙ length-drop n cards in
+    let place : length cards - length back ≡ (n - 1) + 1 = omega (arith, short) in
+    ap (λ (k : ℕ). texts_in job (take k cards)) place
+    ∙ (ap (λ (x : List Card). texts_in job x) (take_more cards (n - 1) default (omega arith))
+    ∙ texts-statement job (take (n - 1) cards) (get_or cards (n - 1) default) statement)
+
+pub texts-to_nothing : (job : List ℕ) (cards : List Card) → texts_in job (take (length cards - length cards) cards) ≡ []
+texts-to_nothing job cards =
+    let none : length cards - length cards ≡ 0 = omega arith in
+    ap (λ (k : ℕ). texts_in job (take k cards)) none ∙ texts-nothing job

@@ -1,6 +1,6 @@
 //! The cards that stand in the card reader.
 
-ghost use Rattle.std.specs.Prelude.{◌≡◌, ◌+◌, ◌^◌, ◌<◌, ◌≤◌, List, [], ◌∷◌, ◌++◌, length, MatchOption, IfOk, OnOk};
+ghost use Rattle.std.specs.Prelude.{◌≡◌, ◌+◌, ◌-◌, ◌^◌, ◌<◌, ◌≤◌, ℕ, List, [], ◌∷◌, ◌++◌, length, take, drop, MatchOption, IfOk, OnOk};
 ghost use Rattle.st_card.specs.Cards.{IsCardOf, cards_of};
 ghost use Rattle.st_card.specs.declared.cards.Card.{Card as CardRow};
 ghost use Rattle.st_exch.specs.Reader as spec;
@@ -59,7 +59,8 @@ impl Hopper {
     {
         cards_stand_in_their_job();
         let mut waiting = VecDeque::new(alloc);
-        for card in cards {
+        let behind = behind_statements(cards);
+        for card in behind {
             stack(&mut waiting, job, *card)?;
         }
         Ok(Hopper {
@@ -73,6 +74,33 @@ impl Hopper {
             (λ card. self.old ≡ card ∷ self.new) }
     {
         self.cards.as_mut()?.pop_front()
+    }
+}
+
+// The cards behind the last statement card. None of those before it is left to the reader.
+fn behind_statements(cards: &[Card]) -> &[Card]
+    ensures back { result.now ≡ drop (length cards.now - length result.now) cards.now }
+    ensures within { length result.now ≤ length cards.now }
+    ensures before { (job : List ℕ) →
+        spec.texts_in job (take (length cards.now - length result.now) cards.now) ≡ [] }
+{
+    let mut count = cards.len();
+    'cards: while count > 0 {
+        if is_statement(cards[count - 1].kind) {
+            return cards.split_at(count).1;
+        }
+        count -= 1;
+    }
+    cards
+}
+
+// Whether a card is a statement card.
+fn is_statement(kind: CardKind) -> bool
+    ensures { result ≡ spec.is_statement kind }
+{
+    match kind {
+        CardKind::Statement => true,
+        CardKind::Comment | CardKind::Control => false,
     }
 }
 

@@ -3,6 +3,8 @@
 ghost use Rattle.std.specs.Prelude.{◌≡◌, ◌+◌, length, take, drop, [], ◌∷◌, ◌++◌, IsTrue, MatchOption, IfSome};
 ghost use Rattle.st_text.specs.Pieces.{parted, lacks};
 
+use memchr::memchr;
+
 /// What stands before the first byte `at` of `text`, and what stands behind it.
 ///
 /// `None` where the text has no such byte.
@@ -14,16 +16,11 @@ pub fn cut(text: &[u8], at: u8) -> Option<(&[u8], &[u8])>
         (λ p. IsTrue (lacks at p.0.now)) }
     ensures lengths { IfSome result (λ p. length p.0.now + 1 + length p.1.now ≡ length text.now) }
 {
-    let mut front = 0;
-    let mut rest = text;
-    'bytes: while let [byte, after @ ..] = rest {
-        if *byte == at {
-            return Some((text.split_at(front).0, after));
-        }
-        front += 1;
-        rest = after;
-    }
-    None
+    let Some(place) = memchr(at, text) else {
+        return None;
+    };
+    let (front, behind) = text.split_at(place);
+    Some((front, behind.split_at(1).1))
 }
 
 /// The first `count` bytes of a text, or all of it where it has no more.

@@ -1,31 +1,26 @@
-use Rattle.std.proofs.Common.{◌∙◌, ℕ, ◌<◌, ap, sym, refl, List, length, arith}
-use Rattle.st_text.proofs.ListLemmas.{first_and_rest, past_first}
-use Rattle.st_text.proofs.PieceLemmas.{onto_front-nothing, parted_on, parted_here, lacks_on}
+use Rattle.std.proofs.Common.{ℕ, List, ◌∷◌, length, drop, refl, sym, ap, subst, ◌∙◌, IsTrue, arith}
+use Rattle.st_text.specs.Pieces.{parted, lacks}
+use Rattle.st_text.proofs.PieceLemmas.{parted_at, parted_nowhere, lacks_before, lacks_all}
 use Rattle.st_text.proofs.pieces.cut.Goals as goal
 
-pub bytes-init : goal.bytes-init
-bytes-init c = record {
-  rest_of_text = refl;
-  within = omega arith;
-  no_byte = refl;
-  same_pieces = onto_front-nothing c.args.at c.args.text.now;
-}
+pub returns-in_default-clause-pieces : goal.returns-in_default-clause-pieces
+returns-in_default-clause-pieces c = parted_nowhere c.args.at c.args.text.now c.in_default.ensures
 
-pub bytes-preserved : goal.bytes-preserved
-bytes-preserved c =
-    let parts = first_and_rest c.bytes.rest.now 0 c.in-len1-up.len_at_least in
-    let within : c.bytes.front < length c.args.text.now = omega arith in
-    let further = past_first c.args.text.now _ _ _ _ c.bytes.invariant.rest_of_text parts within in
-    record {
-      rest_of_text = further.1;
-      within = omega (arith, ap (λ (s : List ℕ). length s) parts);
-      no_byte = lacks_on _ _ _ _ further.0 c.if-byte-at.false c.bytes.invariant.no_byte;
-      same_pieces =
-          parted_on _ _ _ _ _ _ parts c.if-byte-at.false further.0 ∙ c.bytes.invariant.same_pieces;
-    }
+pub returns-in_default-clause-first : goal.returns-in_default-clause-first
+returns-in_default-clause-first c =
+    let text = c.args.text.now in
+    lacks_all c.args.at (length text) text refl (lacks_before c.args.at (length text) text (omega arith) c.in_default.ensures)
 
-pub returns-then-byte-at-clause-pieces : goal.returns-then-byte-at-clause-pieces
-returns-then-byte-at-clause-pieces c =
-    let parts = first_and_rest c.bytes.rest.now 0 c.in-len1-up.len_at_least in
-    sym c.bytes.invariant.same_pieces
-    ∙ parted_here _ _ _ _ _ _ parts c.if-byte-at.true c.split_at.ensures.front
+pub returns-clause-pieces : goal.returns-clause-pieces
+returns-clause-pieces c =
+    let found = c.in-Some.ensures in
+    parted_at c.args.at c.in-Some.place c.args.text.now found.0.high found.1 found.0.before
+    ∙ (ap (λ (front : List ℕ). front ∷ parted c.args.at (drop 1 (drop c.in-Some.place c.args.text.now))) (sym c.split_at.ensures.front)
+    ∙ ap (λ (behind : List ℕ). c.split_at.result.0.now ∷ parted c.args.at behind)
+    (ap (λ (rest : List ℕ). drop 1 rest) (sym c.split_at.ensures.back) ∙ sym c.split_at-2.ensures.back))
+
+pub returns-clause-first : goal.returns-clause-first
+returns-clause-first c =
+    let found = c.in-Some.ensures in
+    subst (λ (front : List ℕ). IsTrue (lacks c.args.at front)) (sym c.split_at.ensures.front)
+    (lacks_before c.args.at c.in-Some.place c.args.text.now (omega (arith, found.0.high)) found.0.before)
