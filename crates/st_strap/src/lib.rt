@@ -9,6 +9,7 @@ mod laws;
 mod operations;
 mod parts;
 mod reading;
+mod saying;
 mod shapes;
 mod statement;
 
