@@ -12,7 +12,7 @@ use crate::forms::{progressed, split_description};
 use crate::operations::{Operation, operation_of};
 use crate::parts::{clean, fields, stop};
 use crate::shapes::{
-    expression_alone, index_alone, index_and_list, index_and_spot, index_word, number_alone,
+    expression_alone, index_alone, index_and_list, index_and_spot, index_word_parts, number_alone,
     operand, spot_alone, spot_and_number, two_addresses, two_addresses_and_number, without_fields,
 };
 use crate::statement::{Form, Statement};
@@ -155,12 +155,12 @@ fn with_fields(op: Operation, form: Form, fields: &[Field]) -> Result<Statement,
             })
         }
         Operation::Move { swap } => {
-            let (at, (second, count)) = two_addresses_and_number(fields)?;
+            let (at, more) = two_addresses_and_number(fields)?;
             Ok(Statement::Move {
                 swap,
                 at,
-                second,
-                count,
+                second: more.address,
+                count: more.number,
             })
         }
         Operation::BitBranch { sense, change } => {
@@ -198,12 +198,12 @@ fn with_fields(op: Operation, form: Form, fields: &[Field]) -> Result<Statement,
             })
         }
         Operation::IndexWord => {
-            let (value, (count, (refill, flags))) = index_word(fields)?;
+            let (value, more) = index_word_parts(fields)?;
             Ok(Statement::IndexWord {
                 value,
-                count,
-                refill,
-                flags,
+                count: more.count,
+                refill: more.refill,
+                flags: more.flags,
             })
         }
         Operation::Synonym => Ok(Statement::Synonym {
