@@ -1,4 +1,4 @@
-//! The cards of a job, and what its control cards ask for. `docs/strap.md` has the rules.
+//! The cards of a job, and what its control cards ask for, by the rules of `docs/strap.md`.
 #![tactic(auto)]
 
 mod cards;
@@ -11,5 +11,5 @@ pub mod limits;
 pub use cards::{Card, CardKind, columns, split};
 pub use control_cards::{CardError, Controls, Signal};
 pub use faults::Fault;
-pub use keywords::{Keyword, Outcome};
+pub use keywords::{Addition, Keyword};
 pub use laws::cards_stand_in_their_job;

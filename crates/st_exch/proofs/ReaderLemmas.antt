@@ -6,7 +6,7 @@ use Rattle.std.proofs.lemmas.List.Elements.{filter-append}
 use Rattle.std.proofs.lemmas.List.Folds.{list_any-append}
 use Rattle.st_card.specs.Cards.{text_in}
 use Rattle.st_card.specs.declared.cards.Card.{Card}
-use Rattle.st_exch.specs.Reader.{is_comment, is_statement, has_statement, behind_statements, words_read, texts_in}
+use Rattle.st_exch.specs.Reader.{is_comment, is_statement, has_statement, behind_statements, card_words, texts_in}
 
 or-false : (b : Bool) → (b || false) ≡ b
 or-false true = refl
@@ -48,7 +48,7 @@ behind-other (first ∷ cards) card kind =
 
 -- what is read of the comment cards among cards
 read : List ℕ → List Card → List (List ℕ)
-read job cards = map (λ card. words_read (text_in job card)) (filter (λ card. is_comment card.kind) cards)
+read job cards = map (λ card. card_words (text_in job card)) (filter (λ card. is_comment card.kind) cards)
 
 -- one card more
 read-push : (job : List ℕ) (cards : List Card) (card : Card) →
@@ -56,17 +56,17 @@ read-push : (job : List ℕ) (cards : List Card) (card : Card) →
 unfolding read
 read-push job cards card =
     let test = λ (c : Card). is_comment c.kind in
-    let text = λ (c : Card). words_read (text_in job c) in
+    let text = λ (c : Card). card_words (text_in job c) in
     ap (λ (x : List Card). map text x) (filter-append test cards (card ∷ []))
     ∙ map-append text (filter test cards) (filter test (card ∷ []))
 
 -- a comment card is one card more
 pub texts-comment : (job : List ℕ) (cards : List Card) (card : Card) → is_comment card.kind ≡ true →
     is_statement card.kind ≡ false →
-    texts_in job (cards ++ card ∷ []) ≡ texts_in job cards ++ words_read (text_in job card) ∷ []
+    texts_in job (cards ++ card ∷ []) ≡ texts_in job cards ++ card_words (text_in job card) ∷ []
 unfolding texts_in read
 texts-comment job cards card comment other =
-    let text = λ (c : Card). words_read (text_in job c) in
+    let text = λ (c : Card). card_words (text_in job c) in
     ap (λ (x : List Card). read job x) (behind-other cards card other)
     ∙ (read-push job (behind_statements cards) card
     ∙ ap (λ v. read job (behind_statements cards) ++ map text (if v then card ∷ [] else [])) comment)
@@ -76,7 +76,7 @@ pub texts-control : (job : List ℕ) (cards : List Card) (card : Card) → is_co
     is_statement card.kind ≡ false → texts_in job (cards ++ card ∷ []) ≡ texts_in job cards
 unfolding texts_in read
 texts-control job cards card no_comment other =
-    let text = λ (c : Card). words_read (text_in job c) in
+    let text = λ (c : Card). card_words (text_in job c) in
     ap (λ (x : List Card). read job x) (behind-other cards card other)
     ∙ (read-push job (behind_statements cards) card
     ∙ (ap (λ v. read job (behind_statements cards) ++ map text (if v then card ∷ [] else [])) no_comment

@@ -111,7 +111,7 @@ fn stack(waiting: &mut VecDeque<[u64; 8]>, job: &[u8], card: Card) -> Result<(),
         → OnOk result (waiting.new.items ≡ spec.texts_in job.now (cards ++ card ∷ [])) }
 {
     match card.kind {
-        CardKind::Comment => push_card(waiting, words_read(card.text(job)))?,
+        CardKind::Comment => push_card(waiting, card_words(card.text(job)))?,
         CardKind::Control => {}
         CardKind::Statement => waiting.clear(),
     }
@@ -126,9 +126,9 @@ fn push_card(cards: &mut VecDeque<[u64; 8]>, card: [u64; 8]) -> Result<(), NoMem
 }
 
 // The eight words that the reader reads of a card's text.
-#[tactic(auto, unfolding(crate::specs::Reader::words_read))]
-fn words_read(text: &[u8]) -> [u64; 8]
-    ensures { result ≡ spec.words_read text.now }
+#[tactic(auto, unfolding(crate::specs::Reader::card_words))]
+fn card_words(text: &[u8]) -> [u64; 8]
+    ensures { result ≡ spec.card_words text.now }
 {
     [
         word_from(text, 2),

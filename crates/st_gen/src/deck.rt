@@ -1,4 +1,5 @@
 //! The cards of the deck.
+
 ghost use Rattle.std.specs.Prelude.{◌≡◌, ◌+◌, ◌*◌, ◌≤◌, ◌++◌, OnOk, IfOk, length};
 ghost use Rattle.st_gen.specs.Deck.{next, after_card, after_cards, card, drawn_card, drawn_cards, control, delay_card, delay_cards, closing_cards, made_deck};
 

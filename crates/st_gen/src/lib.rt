@@ -1,4 +1,4 @@
-//! A deck of cards made from a seed, as `soak` runs it. `docs/deck.md` has the rules.
+//! A deck of cards made from a seed, as `soak` runs it, by the rules of `docs/deck.md`.
 #![tactic(auto)]
 
 mod deck;

@@ -1,4 +1,5 @@
 //! The statements of the drawn cards.
+
 ghost use Rattle.std.specs.Prelude.{◌≡◌, ◌≤◌, ◌++◌, length};
 ghost use Rattle.st_gen.specs.Deck.{after, field_operands, statement, letters};
 ghost use Rattle.st_gen.specs.declared.form.Form.TheVariants.{LoadValue, AddValue, LoadWord, AddOne, Multiply};

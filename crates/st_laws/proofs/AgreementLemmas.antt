@@ -15,10 +15,10 @@ use Rattle.st_dec.proofs.DigitLemmas.{value_of-first, joined-decimal}
 use Rattle.st_conn.specs.Connective.{leading_zeros}
 use Rattle.st_exec.specs.Outcome.{counts_of}
 use Rattle.st_text.specs.Number.{is_number, value as text_value, value_after, good}
-use Rattle.st_card.specs.Controls.{number_in as number_on_card}
+use Rattle.st_card.specs.Controls.{card_number}
 use Rattle.st_card.specs.Limits.{is_part}
 use Rattle.st_text.specs.declared.numbers.Reading.TheVariants.{Bad, Large, Good}
-use Rattle.st_object.specs.Meaning.{number_in as number_on_line}
+use Rattle.st_object.specs.Meaning.{short_number}
 use Rattle.st_asm.specs.Checks.{in_storage}
 
 -- ---- digits
@@ -86,16 +86,16 @@ past n small long =
     ] refl
 
 -- a number with more digits than a card may have is past the most on a line too
-long-none : (n : ℕ) → n < 2 ^ 64 → 12 < length (decimal n) → number_on_line (decimal n) ≡ None
+long-none : (n : ℕ) → n < 2 ^ 64 → 12 < length (decimal n) → short_number (decimal n) ≡ None
 long-none n small long =
     let same : text_value (decimal n) ≡ n = digits_value-decimal own n small in
     let large : nat_le (text_value (decimal n)) 999999999999 ≡ false = ap (λ v. nat_le v 999999999999) same ∙ past n small long in
     past-most (is_number (decimal n)) (nat_le (text_value (decimal n)) 999999999999) (text_value (decimal n)) large
 
-pub spelled-agree : (n : ℕ) → n < 2 ^ 64 → number_on_card (decimal n) ≡ number_on_line (decimal n)
+pub spelled-agree : (n : ℕ) → n < 2 ^ 64 → card_number (decimal n) ≡ short_number (decimal n)
 spelled-agree n small =
     elim (nat_lt 12 (length (decimal n))) as (λ b. nat_lt 12 (length (decimal n)) ≡ b →
-    (if b then None else number_on_line (decimal n)) ≡ number_on_line (decimal n)) [
+    (if b then None else short_number (decimal n)) ≡ short_number (decimal n)) [
       | true ↦ λ test. sym (long-none n small (grind (arith, nat_tests)))
       | false ↦ λ test. refl
     ] refl

@@ -10,12 +10,12 @@ ghost use Rattle.st_dec.specs.DigitLists.{bytes, joined, value, decimal as digit
 ghost use Rattle.st_conn.specs.Connective.{leading_zeros};
 ghost use Rattle.st_state.specs.Interrupts.{is_on};
 ghost use Rattle.st_exec.specs.Outcome.{counts_of};
-ghost use Rattle.st_card.specs.Controls.{number_in as number_on_card};
+ghost use Rattle.st_card.specs.Controls.{card_number};
 ghost use Rattle.st_card.specs.Limits.{is_part};
 ghost use Rattle.st_text.specs.Tables.{row_of};
 ghost use Rattle.st_expr.specs.System.{index_words, system_symbols};
 ghost use Rattle.st_strap.specs.Reading.{index_fields};
-ghost use Rattle.st_object.specs.Meaning.{number_in as number_on_line};
+ghost use Rattle.st_object.specs.Meaning.{short_number};
 ghost use Rattle.st_asm.specs.Checks.{in_storage};
 
 /// The digits of a number and their value are the same in binary operations, which see one number of codes of four bits, and
@@ -61,7 +61,7 @@ pub fn sizes_of_storage_agree()
 /// with leading zeros too, where they have 12 digits at most.
 pub fn numbers_agree()
     ensures short { (text : List ℕ) → length text ≤ 12
-        → number_on_card text ≡ number_on_line text }
+        → card_number text ≡ short_number text }
     ensures spelled { (n : ℕ) → n < 2 ^ 64
-        → number_on_card (decimal n) ≡ number_on_line (decimal n) }
+        → card_number (decimal n) ≡ short_number (decimal n) }
 {}

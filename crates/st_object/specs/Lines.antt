@@ -44,11 +44,12 @@ budget_lines n = if n == 0 then [] else Budget n ∷ []
 abbrev pub back_lines : ℕ → List Item
 back_lines k = if k == 0 then [] else Back k ∷ []
 
--- what is asked for up to the parts of storage, and what is to be shown
+-- what is asked for up to the parts of storage
 abbrev pub order_lines : Asked → List Item
 order_lines a = budget_lines a.budget ++ map (λ n. Delay n) a.delays
     ++ map (λ s. Signal s.count s.indicator) a.signals ++ map (λ p. Dump p.0 p.1) a.dumps
 
+-- what is to be shown
 abbrev pub show_lines : Asked → List Item
 show_lines a = marked a.trace Trace ++ marked a.time Time ++ marked a.chart Chart
     ++ map (λ t. Snap t) a.snaps ++ back_lines a.back

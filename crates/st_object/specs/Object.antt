@@ -78,12 +78,13 @@ read_from d n (line ∷ next ∷ more) =
 unfoldable pub read_text : List ℕ → Result Program ℕ
 read_text text = read_from blank 1 (parted line_end text)
 
--- the lines of a text: what stands behind the last line end is a line too, where it is not empty
+-- the lines that pieces between line ends are: what stands behind the last line end is a line too, where it is not empty
 abbrev pub lines_in : List (List ℕ) → List (List ℕ)
 lines_in [] = []
 lines_in (rest ∷ []) = if is_empty rest then [] else rest ∷ []
 lines_in (line ∷ next ∷ more) = line ∷ lines_in (next ∷ more)
 
+-- the lines of a text
 abbrev pub text_lines : List ℕ → List (List ℕ)
 text_lines text = lines_in (parted line_end text)
 
@@ -92,8 +93,8 @@ abbrev pub first_lines : ℕ → List ℕ → List ℕ
 first_lines n text = flat_map (λ line. line ++ lf) (take n (text_lines text))
 
 -- a text that some object text begins with
-abbrev pub IsFront : List ℕ → Type 0
-IsFront front = (p : Program) × IsProgram p × AreWords p.words
+abbrev pub BeginsObjectText : List ℕ → Type 0
+BeginsObjectText front = (p : Program) × IsProgram p × AreWords p.words
     × (rest : List ℕ) × (object_text p ≡ front ++ rest)
 
 -- the text of some program
@@ -105,5 +106,5 @@ IsObjectText text = (p : Program) × IsProgram p × AreWords p.words × (text �
 pub record IsBadLine (text : List ℕ) (n : ℕ) : Type 0 where
   pub none : IsObjectText text → ⊥
   pub counted : (1 ≤ n) × (n ≤ length (text_lines text) + 1)
-  pub good_before : IsFront (first_lines (n - 1) text)
-  pub bad : n ≤ length (text_lines text) → IsFront (first_lines n text) → ⊥
+  pub good_before : BeginsObjectText (first_lines (n - 1) text)
+  pub bad : n ≤ length (text_lines text) → BeginsObjectText (first_lines n text) → ⊥

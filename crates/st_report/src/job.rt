@@ -1,4 +1,5 @@
 //! The lines that tell of the job as it was handed in.
+
 ghost use Rattle.std.specs.Prelude.{◌≡◌};
 ghost use Rattle.st_report.specs.Line.{fault_line, soak_line};
 

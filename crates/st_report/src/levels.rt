@@ -1,4 +1,5 @@
 //! The lines of the chart and of a snapshot.
+
 ghost use Rattle.std.specs.Prelude.{◌≡◌, ◌+◌, ◌≤◌, ◌++◌};
 ghost use Rattle.arrayvec.specs.ArrayString.{array_string_len};
 ghost use Rattle.st_report.specs.Line.{row_line, drop_line, snap_line, change_text, lev_line};

@@ -1,5 +1,4 @@
-//! The lines of the report and of the listing: one call a line, each with its line end.
-//! `docs/report.md` has the rules.
+//! The lines of the report and of the listing, by the rules of `docs/report.md`: one call a line, each with its line end.
 #![tactic(auto)]
 
 mod cards;

@@ -9,7 +9,7 @@ ghost use Rattle.st_strap.specs.declared.statement.Form.{Form as FormOf};
 use crate::field::Field;
 use crate::operations::Operation;
 use crate::shapes::{
-    expression_alone, index_alone, index_and_list, index_and_spot, index_word, number_alone,
+    expression_alone, index_alone, index_and_list, index_and_spot, index_word_parts, number_alone,
     operand, spot_alone, spot_and_number, two_addresses, two_addresses_and_number, without_fields,
 };
 use crate::statement::{Form, Statement};
@@ -141,12 +141,12 @@ pub(crate) fn say_connect(
 pub(crate) fn say_move(swap: bool, fields: &[Field]) -> Result<Statement, Fault>
     ensures { (form : FormOf) → result ≡ spec.with_fields (Operation.Move swap) form (texts fields.now) }
 {
-    let (at, (second, count)) = two_addresses_and_number(fields)?;
+    let (at, more) = two_addresses_and_number(fields)?;
     Ok(Statement::Move {
         swap,
         at,
-        second,
-        count,
+        second: more.address,
+        count: more.number,
     })
 }
 
@@ -220,12 +220,12 @@ pub(crate) fn say_data(form: Form, fields: &[Field]) -> Result<Statement, Fault>
 pub(crate) fn say_index_word(fields: &[Field]) -> Result<Statement, Fault>
     ensures { (form : FormOf) → result ≡ spec.with_fields Operation.IndexWord form (texts fields.now) }
 {
-    let (value, (count, (refill, flags))) = index_word(fields)?;
+    let (value, more) = index_word_parts(fields)?;
     Ok(Statement::IndexWord {
         value,
-        count,
-        refill,
-        flags,
+        count: more.count,
+        refill: more.refill,
+        flags: more.flags,
     })
 }
 

@@ -31,7 +31,8 @@ reading most text =
 -- a number that was read is at most `most`
 abbrev pub IsWithin : ℕ → Reading → Type 0
 IsWithin most (Good n) = n ≤ most
-IsWithin most _ = Unit {0}
+IsWithin most Large = Unit {0}
+IsWithin most Bad = Unit {0}
 
 -- the number that was read, where one was
 abbrev pub good : Reading → Option ℕ
