@@ -10,10 +10,10 @@ use Rattle.std.specs.Bool.{IsTrue}
 use Rattle.std.specs.Option.{IfSome}
 use Rattle.std.specs.Result.{IfOk}
 use Rattle.std.proofs.lemmas.List.Elements.{All-nil, All-cons, All-head, All-tail, All-push, All-append}
-use Rattle.st_card.specs.Number.{is_filled}
+use Rattle.st_text.specs.Number.{is_filled}
 use Rattle.st_card.specs.Cards.{text_in, card_at, cards_from, cards_of}
-use Rattle.st_card.specs.Pieces.{parted}
-use Rattle.st_card.specs.Controls.{Asked, nothing, added, is_among}
+use Rattle.st_text.specs.Pieces.{parted}
+use Rattle.st_card.specs.Controls.{Asked, nothing, added, is_in_range}
 use Rattle.st_card.specs.Limits.{IsWithinLimits, AreDelays, is_signal, is_part, is_tick}
 use Rattle.st_card.specs.declared.cards.Card.{Card}
 use Rattle.st_card.specs.declared.cards.CardKind.{CardKind}
@@ -26,9 +26,9 @@ use Rattle.st_strap.specs.Order.{judged, mapped}
 use Rattle.st_strap.specs.Saying.{statement_of}
 use Rattle.st_strap.specs.declared.statement.Statement.{Statement}
 use Rattle.st_strap.proofs.StatementLemmas.{read-is, read-named}
-use Rattle.st_asm.specs.Pass.{Refusal, onward, pass, unless_faulty, then_for}
+use Rattle.st_asm.specs.Pass.{Refusal, onward, pass, unless_faulty, and_then}
 use Rattle.st_asm.specs.Lines.{name_field, statement_field, name_in, silent, saying}
-use Rattle.st_asm.specs.Forming.{Found, unread, first_fault_of, with_statement, with_asked, with_end, form_control, form_statement, form_kind, form_card, form_pass}
+use Rattle.st_asm.specs.Forming.{Found, unread, first_fault_of, with_statement, with_control, with_end, form_control, form_statement, form_kind, form_card, form_pass}
 use Rattle.st_asm.specs.Symbols.{table}
 use Rattle.st_asm.specs.Values.{wrapped, values_of}
 use Rattle.st_asm.specs.Checks.{value_fault}
@@ -36,11 +36,19 @@ use Rattle.st_asm.specs.Places.{role_of, place_in}
 use Rattle.st_asm.specs.Naming.{Named, unnamed, name_fault, name_step, name_card, name_pass, place_of, symbol_of}
 use Rattle.st_asm.specs.Valuing.{Laid, unlaid, value_statement, value_saying, value_card, value_pass}
 use Rattle.st_asm.specs.Assembly.{together, with_defaults}
-use Rattle.st_asm.specs.Sound.{IsLocation, IsSymbol, IsLine, IsDeck, IsNamed, IsSoundLayout, IsSound, cards_in, numbers_in}
+use Rattle.st_asm.specs.Sound.{IsLocation, IsSymbol, IsSound}
+use Rattle.st_asm.specs.Kept.{IsLine, IsDeck, IsNamed, IsSoundLayout}
 use Rattle.st_asm.specs.declared.line.Line.{Line}
 use Rattle.st_asm.specs.declared.places.Role.{Role}
 use Rattle.st_asm.specs.declared.places.Role.TheVariants.{Lays, Passes, Sets, Names, Ends}
 use Rattle.st_asm.specs.declared.valuing.Listed.{Listed}
+
+-- the numbers of the cards of lines, and of rows
+abbrev cards_in : List Line → List ℕ
+cards_in lines = map (λ line. line.card) lines
+
+abbrev numbers_in : List Listed → List ℕ
+numbers_in rows = map (λ row. row.card) rows
 
 -- ---- passes
 
@@ -117,7 +125,7 @@ form_kind-numbers s card fault text Comment = card-pushed s.lines (silent card)
 form_kind-numbers s card fault text Control =
     let P : Found → Type 0 = λ t. cards_in t.lines ≡ cards_in s.lines ++ card ∷ [] in
     ok-if P s.ended _ (Err BadControlCard)
-    (λ e. ok-judged P BadControlCard (added s.asked text) (λ asked. Ok (with_asked s card asked))
+    (λ e. ok-judged P BadControlCard (added s.asked text) (λ asked. Ok (with_control s card asked))
     (λ asked is. card-pushed s.lines (silent card)))
     (λ e. tt)
 form_kind-numbers s card fault text StatementCard =
@@ -185,7 +193,7 @@ form_kind-kept s card fault text Comment is = record {
 }
 form_kind-kept s card fault text Control is =
     ok-if IsDeck s.ended _ (Err BadControlCard)
-    (λ e. ok-judged IsDeck BadControlCard (added s.asked text) (λ asked. Ok (with_asked s card asked))
+    (λ e. ok-judged IsDeck BadControlCard (added s.asked text) (λ asked. Ok (with_control s card asked))
     (λ asked more. record {
       lines = All-push IsLine s.lines (silent card) is.lines (silent-is card);
       limits = added-kept s.asked asked text more is.limits;
@@ -211,7 +219,7 @@ form-kept job s card is =
 unread-limits : IsWithinLimits nothing
 unread-limits = record {
   budget = lit≤ tt;
-  delays = record { each = All-nil (λ n. is_among 1 255 n ≡ true); few = lit≤ tt };
+  delays = record { each = All-nil (λ n. is_in_range 1 255 n ≡ true); few = lit≤ tt };
   signals = record {
     each = All-nil (λ s. is_signal s ≡ true);
     counts = λ i j d le below. omega arith;
@@ -225,7 +233,7 @@ unread-limits = record {
 unread-is : IsDeck unread
 unread-is = record { lines = All-nil IsLine; limits = unread-limits }
 
-ended-kept : (P : Found → Type 0) (cards : ℕ) (r : Result Found Refusal) → IfOk r P → IfOk (then_for (with_end cards) r) P
+ended-kept : (P : Found → Type 0) (cards : ℕ) (r : Result Found Refusal) → IfOk r P → IfOk (and_then r (with_end cards)) P
 ended-kept P cards (Ok found) is = ok-if P found.ended (Ok found) _ (λ e. is) (λ e. tt)
 ended-kept P cards (Err e) is = tt
 
@@ -386,7 +394,7 @@ length-numbers f (x ∷ xs) = ap suc (length-numbers f xs)
 -- controls with their defaults
 usual-delays : AreDelays (1 ∷ [])
 usual-delays = record {
-  each = All-cons (λ n. is_among 1 255 n ≡ true) 1 [] refl (All-nil (λ n. is_among 1 255 n ≡ true));
+  each = All-cons (λ n. is_in_range 1 255 n ≡ true) 1 [] refl (All-nil (λ n. is_in_range 1 255 n ≡ true));
   few = lit≤ tt;
 }
 

@@ -1,6 +1,5 @@
 pub mod PassLemmas
 pub mod StopLemmas
-pub mod LineLemmas
 pub mod TableLemmas
 pub mod FieldLemmas
 pub mod FaultLemmas

@@ -1,6 +1,6 @@
 -- How a pass goes on, and where it stops.
 use Rattle.std.proofs.Common.{◌≡◌, ◌≤◌, ◌<◌, ◌-◌, ℕ, refl, List, [], ◌∷◌, length, get_or, take, drop, Result, Ok, ap, sym, ◌∙◌, arith}
-use Rattle.st_card.proofs.ListLemmas.{first_and_rest}
+use Rattle.st_text.proofs.ListLemmas.{first_and_rest}
 use Rattle.st_card.specs.declared.faults.Fault.{Fault}
 use Rattle.st_asm.specs.Pass.{onward, pass}
 use Rattle.st_asm.specs.Answers.{Stops, Explains, stopped_at}

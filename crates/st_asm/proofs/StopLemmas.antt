@@ -12,9 +12,9 @@ use Rattle.st_strap.specs.Faults.{fault_in, faults_on}
 use Rattle.st_strap.specs.Order.{judged, mapped}
 use Rattle.st_strap.specs.Saying.{statement_of}
 use Rattle.st_strap.proofs.FaultLemmas.{card-fault, fault-mapped}
-use Rattle.st_asm.specs.Pass.{Refusal, onward, pass, then_for, unless_faulty}
+use Rattle.st_asm.specs.Pass.{Refusal, onward, pass, and_then, unless_faulty}
 use Rattle.st_asm.specs.Lines.{name_field, statement_field}
-use Rattle.st_asm.specs.Forming.{Found, unread, before_end, first_fault_of, with_end, with_asked, with_statement, form_control, form_statement, form_kind, form_card, form_pass}
+use Rattle.st_asm.specs.Forming.{Found, unread, before_end, first_fault_of, with_end, with_control, with_statement, form_control, form_statement, form_kind, form_card, form_pass}
 use Rattle.st_asm.specs.Symbols.{table}
 use Rattle.st_asm.specs.Naming.{Named, name_pass}
 use Rattle.st_asm.specs.Valuing.{Laid, value_pass}
@@ -93,17 +93,17 @@ stops-at-first next number from xs r = (
 )
 
 -- what comes next where there is something, is refused by itself or by what is first
-then_for-refused : {A B : Type 0} (next : A → Result B Refusal) (r : Result A Refusal) (refusal : Refusal) → then_for next r ≡ Err refusal →
+and_then-refused : {A B : Type 0} (next : A → Result B Refusal) (r : Result A Refusal) (refusal : Refusal) → and_then r next ≡ Err refusal →
     (r ≡ Err refusal) ⊎ ((a : A) × (r ≡ Ok a) × (next a ≡ Err refusal))
-then_for-refused next (Ok a) refusal refused = inr (a, refl, refused)
-then_for-refused next (Err other) refusal refused = let same : other ≡ refusal = cc in inl (ap (λ q. Err q) same)
+and_then-refused next (Ok a) refusal refused = inr (a, refl, refused)
+and_then-refused next (Err other) refusal refused = let same : other ≡ refusal = cc in inl (ap (λ q. Err q) same)
 
-then_for-first : {A B : Type 0} (next : A → Result B Refusal) (r : Result A Refusal) (refusal : Refusal) → r ≡ Err refusal → then_for next r ≡ Err refusal
-then_for-first next r refusal is = ap (λ x. then_for next x) is
+and_then-first : {A B : Type 0} (next : A → Result B Refusal) (r : Result A Refusal) (refusal : Refusal) → r ≡ Err refusal → and_then r next ≡ Err refusal
+and_then-first next r refusal is = ap (λ x. and_then x next) is
 
-then_for-next : {A B : Type 0} (next : A → Result B Refusal) (r : Result A Refusal) (a : A) (refusal : Refusal) → r ≡ Ok a → next a ≡ Err refusal →
-    then_for next r ≡ Err refusal
-then_for-next next r a refusal is refused = ap (λ x. then_for next x) is ∙ refused
+and_then-next : {A B : Type 0} (next : A → Result B Refusal) (r : Result A Refusal) (a : A) (refusal : Refusal) → r ≡ Ok a → next a ≡ Err refusal →
+    and_then r next ≡ Err refusal
+and_then-next next r a refusal is refused = ap (λ x. and_then x next) is ∙ refused
 
 -- a pass that goes to its end
 passed : {S X : Type 0} (next : S → X → Result S Fault) (number : X → ℕ) (from to : S) (xs : List X) → pass next number from xs ≡ Ok to → Leads next from xs to
@@ -142,10 +142,10 @@ form-stopped : (job : List ℕ) (cards : List Card) (refusal : Refusal) →
     HasFirst (form_card job) (λ card. card.number) unread cards refusal ⊎ LacksEnd job cards refusal → form_pass job cards ≡ Err refusal
 unfolding form_pass
 form-stopped job cards refusal (inl first) =
-    then_for-first (with_end (length cards)) (pass (form_card job) (λ card. card.number) unread cards) refusal
+    and_then-first (with_end (length cards)) (pass (form_card job) (λ card. card.number) unread cards) refusal
     ((stops-at-first (form_card job) (λ card. card.number) unread cards refusal).1 first)
 form-stopped job cards refusal (inr lacks) =
-    then_for-next (with_end (length cards)) (pass (form_card job) (λ card. card.number) unread cards) lacks.found refusal
+    and_then-next (with_end (length cards)) (pass (form_card job) (λ card. card.number) unread cards) lacks.found refusal
     (passes (form_card job) (λ card. card.number) unread lacks.found cards lacks.good)
     (ap (λ (b : Bool). if b then Ok lacks.found else Err (record { card = length cards + 1; fault = NoEnd })) lacks.endless
     ∙ ap (λ (q : Refusal). Err q) (sym lacks.behind))
@@ -156,18 +156,18 @@ unfolding form_pass
 stops-form job cards refusal =
     let number = λ (card : Card). card.number in
     let read : Result Found Refusal = pass (form_card job) number unread cards in (
-      λ refused. form-by job cards refusal (then_for-refused (with_end (length cards)) read refusal refused),
+      λ refused. form-by job cards refusal (and_then-refused (with_end (length cards)) read refusal refused),
       λ stops. form-stopped job cards refusal stops,
     )
 
 -- the passes in their order
 abbrev after-names : Found → Named → Result Assembly Refusal
-after-names found named = then_for (λ laid. Ok (together found named laid)) (value_pass (table named.symbols) found.lines named.places)
+after-names found named = and_then (value_pass (table named.symbols) found.lines named.places) (λ laid. Ok (together found named laid))
 
 abbrev after-form : Found → Result Assembly Refusal
-after-form found = then_for (λ named. after-names found named) (name_pass found.lines)
+after-form found = and_then (name_pass found.lines) (λ named. after-names found named)
 
-last-refused : (found : Found) (named : Named) (r : Result Laid Refusal) (refusal : Refusal) → then_for (λ laid. Ok (together found named laid)) r ≡ Err refusal →
+last-refused : (found : Found) (named : Named) (r : Result Laid Refusal) (refusal : Refusal) → and_then r (λ laid. Ok (together found named laid)) ≡ Err refusal →
     r ≡ Err refusal
 last-refused found named (Ok laid) refusal refused = let no : ⊥ = cc in absurd no
 last-refused found named (Err other) refusal refused = let same : other ≡ refusal = cc in ap (λ q. Err q) same
@@ -189,24 +189,24 @@ order-by : (job : List ℕ) (refusal : Refusal) →
     (form_pass job (cards_of job) ≡ Err refusal) ⊎ (StopsAtNames job refusal ⊎ StopsAtValues job refusal)
 order-by job refusal (inl refused) = inl refused
 order-by job refusal (inr (found, formed, refused)) =
-    inr (names-by job refusal found formed (then_for-refused (λ named. after-names found named) (name_pass found.lines) refusal refused))
+    inr (names-by job refusal found formed (and_then-refused (λ named. after-names found named) (name_pass found.lines) refusal refused))
 
 order-stopped : (job : List ℕ) (refusal : Refusal) →
     (form_pass job (cards_of job) ≡ Err refusal) ⊎ (StopsAtNames job refusal ⊎ StopsAtValues job refusal) → assembly job ≡ Err refusal
 unfolding assembly
-order-stopped job refusal (inl refused) = then_for-first (λ found. after-form found) (form_pass job (cards_of job)) refusal refused
+order-stopped job refusal (inl refused) = and_then-first (λ found. after-form found) (form_pass job (cards_of job)) refusal refused
 order-stopped job refusal (inr (inl at)) =
-    then_for-next (λ found. after-form found) (form_pass job (cards_of job)) at.found refusal at.formed
-    (then_for-first (λ named. after-names at.found named) (name_pass at.found.lines) refusal at.refused)
+    and_then-next (λ found. after-form found) (form_pass job (cards_of job)) at.found refusal at.formed
+    (and_then-first (λ named. after-names at.found named) (name_pass at.found.lines) refusal at.refused)
 order-stopped job refusal (inr (inr at)) =
-    then_for-next (λ found. after-form found) (form_pass job (cards_of job)) at.found refusal at.formed
-    (then_for-next (λ named. after-names at.found named) (name_pass at.found.lines) at.named refusal at.has_names
-    (then_for-first (λ laid. Ok (together at.found at.named laid)) (value_pass (table at.named.symbols) at.found.lines at.named.places) refusal at.refused))
+    and_then-next (λ found. after-form found) (form_pass job (cards_of job)) at.found refusal at.formed
+    (and_then-next (λ named. after-names at.found named) (name_pass at.found.lines) at.named refusal at.has_names
+    (and_then-first (λ laid. Ok (together at.found at.named laid)) (value_pass (table at.named.symbols) at.found.lines at.named.places) refusal at.refused))
 
 pub stops-in-order : (job : List ℕ) → StopsInOrder job
 unfolding assembly
 stops-in-order job refusal = (
-  λ refused. order-by job refusal (then_for-refused (λ found. after-form found) (form_pass job (cards_of job)) refusal refused),
+  λ refused. order-by job refusal (and_then-refused (λ found. after-form found) (form_pass job (cards_of job)) refusal refused),
   λ stops. order-stopped job refusal stops,
 )
 
@@ -221,7 +221,7 @@ or-none None = refl
 or-none (Some fault) = refl
 
 asked-fault : (found : Found) (card : ℕ) (o : Option Asked) →
-    fault_in (judged BadControlCard o (λ asked. Ok (with_asked found card asked))) ≡ asking_fault o
+    fault_in (judged BadControlCard o (λ asked. Ok (with_control found card asked))) ≡ asking_fault o
 asked-fault found card None = refl
 asked-fault found card (Some asked) = refl
 
@@ -229,7 +229,7 @@ control-fault : (found : Found) (card : ℕ) (text : List ℕ) → fault_in (for
     ≡ (if found.ended then asking_fault (added found.asked text) else Some BadControlCard)
 unfolding form_control
 control-fault found card text =
-    elim found.ended as (λ b. fault_in (if b then judged BadControlCard (added found.asked text) (λ asked. Ok (with_asked found card asked)) else Err BadControlCard)
+    elim found.ended as (λ b. fault_in (if b then judged BadControlCard (added found.asked text) (λ asked. Ok (with_control found card asked)) else Err BadControlCard)
     ≡ (if b then asking_fault (added found.asked text) else Some BadControlCard)) [
       | true ↦ asked-fault found card (added found.asked text)
       | false ↦ refl

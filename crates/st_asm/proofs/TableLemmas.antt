@@ -3,9 +3,9 @@ use Rattle.std.proofs.Common.{◌≡◌, ◌||◌, ℕ, Bool, true, false, cond,
 use Rattle.std.proofs.lemmas.Bool.{eqb-true, and_parts as both_true}
 use Rattle.std.specs.Cmp.Lexicographic.{pointwise}
 use Rattle.std.specs.List.{cons_option}
-use Rattle.st_card.specs.Tables.{is_same, row_of}
+use Rattle.st_text.specs.Tables.{is_same, row_of}
 use Rattle.st_expr.specs.Value.{Defines}
-use Rattle.st_asm.specs.Symbols.{is_among, is_defined, names_of}
+use Rattle.st_asm.specs.Symbols.{has_name, is_defined, names_of}
 use Rattle.st_asm.specs.declared.line.Line.{Line}
 
 -- words that are the same are equal
@@ -52,21 +52,21 @@ or-assoc false b c = refl
 pub names-named : (old new : List (List ℕ × ℕ)) (name : List ℕ) (line : Line) (lines all : List Line) →
     all ≡ line ∷ lines → line.name ≡ Some name →
     ((query : List ℕ) → is_defined new query ≡ (is_defined old query || is_same query name)) →
-    (query : List ℕ) → (is_defined new query || is_among (names_of lines) query)
-    ≡ (is_defined old query || is_among (names_of all) query)
+    (query : List ℕ) → (is_defined new query || has_name (names_of lines) query)
+    ≡ (is_defined old query || has_name (names_of all) query)
 unfolding names_of
 names-named old new name line lines all parts is_name now query =
-    ap (λ b. b || is_among (names_of lines) query) (now query)
-    ∙ (or-assoc (is_defined old query) (is_same query name) (is_among (names_of lines) query)
-    ∙ ap (λ ns. is_defined old query || is_among ns query)
+    ap (λ b. b || has_name (names_of lines) query) (now query)
+    ∙ (or-assoc (is_defined old query) (is_same query name) (has_name (names_of lines) query)
+    ∙ ap (λ ns. is_defined old query || has_name ns query)
     (sym (ap (λ ls. names_of ls) parts ∙ ap (λ o. cons_option o (names_of lines)) is_name)))
 
 pub names-unnamed : (table : List (List ℕ × ℕ)) (line : Line) (lines all : List Line) → all ≡ line ∷ lines →
-    line.name ≡ None → (query : List ℕ) → (is_defined table query || is_among (names_of lines) query)
-    ≡ (is_defined table query || is_among (names_of all) query)
+    line.name ≡ None → (query : List ℕ) → (is_defined table query || has_name (names_of lines) query)
+    ≡ (is_defined table query || has_name (names_of all) query)
 unfolding names_of
 names-unnamed table line lines all parts is_none query =
-    ap (λ ns. is_defined table query || is_among ns query)
+    ap (λ ns. is_defined table query || has_name ns query)
     (sym (ap (λ ls. names_of ls) parts ∙ ap (λ o. cons_option o (names_of lines)) is_none))
 
 or-false : (b : Bool) → b ≡ (b || false)
@@ -75,7 +75,7 @@ or-false false = refl
 
 -- no names are left
 pub names-none : (table : List (List ℕ × ℕ)) (lines : List Line) → lines ≡ [] → (query : List ℕ) →
-    is_defined table query ≡ (is_defined table query || is_among (names_of lines) query)
+    is_defined table query ≡ (is_defined table query || has_name (names_of lines) query)
 unfolding names_of
 names-none table lines empty query =
-    or-false (is_defined table query) ∙ ap (λ ls. is_defined table query || is_among (names_of ls) query) (sym empty)
+    or-false (is_defined table query) ∙ ap (λ ls. is_defined table query || has_name (names_of ls) query) (sym empty)

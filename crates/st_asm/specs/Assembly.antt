@@ -2,7 +2,7 @@
 use Rattle.std.specs.Prelude.{ℕ, ◌==◌, List, [], ◌∷◌, length, Result, Ok, if◌then◌else◌}
 use Rattle.st_card.specs.Cards.{cards_of}
 use Rattle.st_card.specs.Controls.{Asked}
-use Rattle.st_asm.specs.Pass.{Refusal, then_for}
+use Rattle.st_asm.specs.Pass.{Refusal, and_then}
 use Rattle.st_asm.specs.Forming.{Found, form_pass}
 use Rattle.st_asm.specs.Symbols.{table}
 use Rattle.st_asm.specs.Naming.{Named, name_pass}
@@ -39,13 +39,11 @@ together found named laid = record {
 
 -- what a job gives, or the first faulty card of the earliest pass that finds one
 unfoldable pub assembly : List ℕ → Result Assembly Refusal
-assembly job = then_for
-    (λ found. then_for
-    (λ named. then_for
-    (λ laid. Ok (together found named laid))
-    (value_pass (table named.symbols) found.lines named.places))
-    (name_pass found.lines))
-    (form_pass job (cards_of job))
+assembly job =
+    and_then (form_pass job (cards_of job)) (λ found.
+    and_then (name_pass found.lines) (λ named.
+    and_then (value_pass (table named.symbols) found.lines named.places) (λ laid.
+    Ok (together found named laid))))
 
 -- the parts of what the assembler answers
 abbrev pub shown : Assembled → Assembly

@@ -10,8 +10,8 @@ use Rattle.st_card.specs.declared.faults.Fault.TheVariants.{BadName, BadControlC
 use Rattle.st_strap.specs.Order.{judged, mapped}
 use Rattle.st_strap.specs.Saying.{statement_of}
 use Rattle.st_strap.specs.declared.statement.Statement.{Statement}
-use Rattle.st_strap.specs.declared.statement.Statement.TheVariants.{End}
-use Rattle.st_asm.specs.Pass.{Refusal, pass, unless_faulty, then_for}
+use Rattle.st_strap.specs.declared.statement.Statement.TheVariants.{Half, Sum, Refill, Branch, Floating, Vfl, Connect, Move, BitBranch, IndBranch, StoreCounter, Transfer, Data, IndexWord, Synonym, SetLocation, Reserve, End}
+use Rattle.st_asm.specs.Pass.{Refusal, pass, unless_faulty, and_then}
 use Rattle.st_asm.specs.Lines.{name_field, statement_field, name_in, silent, saying}
 use Rattle.st_asm.specs.declared.line.Line.{Line}
 use Rattle.st_asm.specs.declared.forming.Deck.{Deck}
@@ -44,8 +44,24 @@ first_fault_of StatementCard fault = before_end fault
 
 -- whether a statement is the end
 abbrev pub is_end : Statement → Bool
+is_end (Half op j at) = false
+is_end (Sum j listed) = false
+is_end (Refill j) = false
+is_end (Branch op at) = false
+is_end (Floating number at) = false
+is_end (Vfl op negated form at offset) = false
+is_end (Connect kind truth form at offset) = false
+is_end (Move swap at second count) = false
+is_end (BitBranch sense change at second) = false
+is_end (IndBranch sense off at second) = false
+is_end (StoreCounter at second) = false
+is_end (Transfer write at count) = false
+is_end (Data form minus number) = false
+is_end (IndexWord value count refill flags) = false
+is_end (Synonym at) = false
+is_end (SetLocation at) = false
+is_end (Reserve at) = false
 is_end (End at) = true
-is_end _ = false
 
 -- a card more
 abbrev pub with_line : Found → Line → Found
@@ -60,14 +76,14 @@ with_statement found card name statement = record {
 }
 
 -- a control card more, with all that is asked for then
-abbrev pub with_asked : Found → ℕ → Asked → Found
-with_asked found card asked =
+abbrev pub with_control : Found → ℕ → Asked → Found
+with_control found card asked =
     record { ended = found.ended; asked = asked; lines = found.lines ++ silent card ∷ [] }
 
 -- what a control card does
 unfoldable pub form_control : Found → ℕ → List ℕ → Result Found Fault
 form_control found card text =
-    if found.ended then judged BadControlCard (added found.asked text) (λ asked. Ok (with_asked found card asked))
+    if found.ended then judged BadControlCard (added found.asked text) (λ asked. Ok (with_control found card asked))
     else Err BadControlCard
 
 -- what a statement card does, with the fault that it has by itself
@@ -97,4 +113,4 @@ with_end cards found =
 -- the form pass over the cards of a job
 unfoldable pub form_pass : List ℕ → List Card → Result Found Refusal
 form_pass job cards =
-    then_for (with_end (length cards)) (pass (form_card job) (λ card. card.number) unread cards)
+    and_then (pass (form_card job) (λ card. card.number) unread cards) (with_end (length cards))

@@ -31,8 +31,8 @@ abbrev pub instruction_bits : Instr → ℕ
 instruction_bits instr = joined (first_half instr) (second_half instr)
 
 -- an index word: a value, a count, a refill address, a bit address, and flags in bits 25 to 27
-unfoldable pub index_word : ℤ → ℕ → ℤ → ℕ → ℕ
-index_word value count refill flags =
+unfoldable pub index_word_bits : ℤ → ℕ → ℤ → ℕ → ℕ
+index_word_bits value count refill flags =
     with_part (with_refill (with_count (with_value 0 value) count) (unsigned_abs refill / 64)) 25 3 flags
 
 -- the bits that a statement lays, as a number; the list of LVS stands in the first 16 of the 19 bits of
@@ -58,7 +58,7 @@ bits_of (StoreCounter at second) v =
 bits_of (Transfer write at count) v =
     instruction_bits (laid.Transfer write (unsigned_abs v.first) at.index count)
 bits_of (Data form minus number) v = field_of form minus number
-bits_of (IndexWord value count refill flags) v = index_word v.first count v.second flags
+bits_of (IndexWord value count refill flags) v = index_word_bits v.first count v.second flags
 bits_of (Synonym at) v = 0
 bits_of (SetLocation at) v = 0
 bits_of (Reserve at) v = 0

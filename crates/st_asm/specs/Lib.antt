@@ -12,5 +12,6 @@ pub mod Valuing
 pub mod Alone
 pub mod Assembly
 pub mod Sound
+pub mod Kept
 pub mod Stops
 pub mod Answers

@@ -1,28 +1,13 @@
 -- What a card is to the passes behind the first one: its number, its name and its statement.
-use Rattle.std.specs.Prelude.{ℕ, ◌==◌, List, [], ◌∷◌, take, drop, Option, Some, None, if◌then◌else◌}
-use Rattle.st_text.specs.Bytes.{blank}
+use Rattle.std.specs.Prelude.{ℕ, List, [], ◌∷◌, take, drop, Option, Some, None}
+use Rattle.st_text.specs.Blanks.{without_front_blanks, without_end_blanks}
 use Rattle.st_expr.specs.Name.{padded}
 use Rattle.st_strap.specs.declared.statement.Statement.{Statement}
 use Rattle.st_asm.specs.declared.line.Line.{Line}
 
--- a text without the blanks at its start
-abbrev pub without_front : List ℕ → List ℕ
-without_front [] = []
-without_front (c ∷ cs) = if c == blank then without_front cs else c ∷ cs
-
--- a byte before a text, but not a blank before nothing
-abbrev pub onto_filled : ℕ → List ℕ → List ℕ
-onto_filled c [] = if c == blank then [] else c ∷ []
-onto_filled c (d ∷ ds) = c ∷ d ∷ ds
-
--- a text without the blanks at its end
-abbrev pub without_end : List ℕ → List ℕ
-without_end [] = []
-without_end (c ∷ cs) = onto_filled c (without_end cs)
-
 -- the name of a statement card: columns 2 to 9 without the blanks at both ends
 unfoldable pub name_field : List ℕ → List ℕ
-name_field text = without_end (without_front (take 8 (drop 1 text)))
+name_field text = without_end_blanks (without_front_blanks (take 8 (drop 1 text)))
 
 -- its statement: columns 10 to 72
 unfoldable pub statement_field : List ℕ → List ℕ

@@ -5,7 +5,7 @@ use Rattle.st_card.specs.declared.faults.Fault.{Fault}
 use Rattle.st_card.specs.declared.faults.Fault.TheVariants.{NameTwice, UndefinedSymbol, SymbolNotEarlier, TooManyNames}
 use Rattle.st_strap.specs.declared.statement.Statement.{Statement}
 use Rattle.st_asm.specs.Pass.{Refusal, pass, unless_faulty}
-use Rattle.st_asm.specs.Symbols.{table, accepts_all, is_among, is_defined, names_of}
+use Rattle.st_asm.specs.Symbols.{table, accepts_all, has_name, is_defined, names_of}
 use Rattle.st_asm.specs.Values.{values_of}
 use Rattle.st_asm.specs.Places.{role_of, place_in, behind_in, needs_earlier}
 use Rattle.st_asm.specs.declared.line.Line.{Line}
@@ -46,6 +46,7 @@ abbrev pub is_statement_earlier : List (List ℕ × ℕ) → Statement → Bool
 is_statement_earlier symbols s =
     if needs_earlier (role_of s) then accepts_all (is_defined symbols) s else true
 
+-- the same of a card, which may have no statement
 abbrev pub is_earlier : List (List ℕ × ℕ) → Option Statement → Bool
 is_earlier symbols None = true
 is_earlier symbols (Some s) = is_statement_earlier symbols s
@@ -67,14 +68,16 @@ value_at symbols s = (values_of symbols s).first
 abbrev pub place_of_statement : List (List ℕ × ℕ) → ℕ → Statement → Option ℕ
 place_of_statement symbols location s = place_in (role_of s) location (value_at symbols s)
 
+-- the place of a card, which may have none
 abbrev pub place_of : List (List ℕ × ℕ) → ℕ → Option Statement → Option ℕ
 place_of symbols location None = None
 place_of symbols location (Some s) = place_of_statement symbols location s
 
--- the location behind it
+-- the location behind a statement
 abbrev pub behind_statement : List (List ℕ × ℕ) → ℕ → Statement → ℕ
 behind_statement symbols location s = behind_in (role_of s) location (value_at symbols s)
 
+-- the location behind a card
 abbrev pub behind : List (List ℕ × ℕ) → ℕ → Option Statement → ℕ
 behind symbols location None = location
 behind symbols location (Some s) = behind_statement symbols location s
@@ -101,4 +104,4 @@ name_card on_cards named line =
 -- the name pass
 unfoldable pub name_pass : List Line → Result Named Refusal
 name_pass lines =
-    pass (name_card (is_among (names_of lines))) (λ line. line.card) unnamed lines
+    pass (name_card (has_name (names_of lines))) (λ line. line.card) unnamed lines

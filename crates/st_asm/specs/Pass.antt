@@ -22,7 +22,7 @@ abbrev pub unless_faulty : {S : Type 0} → Option Fault → Result S Fault → 
 unless_faulty None answer = answer
 unless_faulty (Some fault) answer = Err fault
 
--- what comes next where there is something
-abbrev pub then_for : {A B : Type 0} → (A → Result B Refusal) → Result A Refusal → Result B Refusal
-then_for next (Ok a) = next a
-then_for next (Err refusal) = Err refusal
+-- a pass, and what comes next where it is not refused
+abbrev pub and_then : {A B : Type 0} → Result A Refusal → (A → Result B Refusal) → Result B Refusal
+and_then (Ok a) next = next a
+and_then (Err refusal) next = Err refusal

@@ -1,14 +1,9 @@
 -- What always holds of what the assembler gives.
-use Rattle.std.specs.Prelude.{◌≡◌, ℕ, ◌+◌, ◌<◌, ◌≤◌, ◌^◌, List, length, slice_index, slice_index_or, map, All, IsAscii, Option, IfSome}
+use Rattle.std.specs.Prelude.{◌≡◌, ℕ, ◌+◌, ◌<◌, ◌≤◌, ◌^◌, List, length, slice_index, slice_index_or, All, IsAscii, Option, IfSome}
 use Rattle.st_bits.specs.declared.register.TheConstants.{FIRST_STORAGE_WORD}
 use Rattle.st_bits.specs.Storage.{words_of_storage}
 use Rattle.st_card.specs.Limits.{IsWithinLimits}
-use Rattle.st_strap.specs.WellFormed.{IsWellFormedIfAny}
-use Rattle.st_asm.specs.Forming.{Found}
-use Rattle.st_asm.specs.Naming.{Named}
-use Rattle.st_asm.specs.Valuing.{Laid}
 use Rattle.st_asm.specs.Assembly.{Assembly}
-use Rattle.st_asm.specs.declared.line.Line.{Line}
 use Rattle.st_asm.specs.declared.naming.Symbol.{Symbol}
 use Rattle.st_asm.specs.declared.valuing.Listed.{Listed}
 
@@ -27,38 +22,10 @@ pub record IsImage (image : List ℕ) : Type 0 where
   pub size : length image ≡ words_of_storage
   pub registers : (w : ℕ) → w < FIRST_STORAGE_WORD → slice_index image w ≡ 0
 
--- the numbers of the cards of lines, and of rows
-abbrev pub cards_in : List Line → List ℕ
-cards_in lines = map (λ line. line.card) lines
-
-abbrev pub numbers_in : List Listed → List ℕ
-numbers_in rows = map (λ row. row.card) rows
-
--- a card that was read says a well-formed statement, and its name is printable
-pub record IsLine (line : Line) : Type 0 where
-  pub well : IsWellFormedIfAny line.statement
-  pub name : IfSome line.name IsAscii
-
--- so does each card of a deck, whose controls keep their limits
-pub record IsDeck (found : Found) : Type 0 where
-  pub lines : All IsLine found.lines
-  pub limits : IsWithinLimits found.asked
-
--- what is laid so far is an image, a start and rows
-pub record IsSoundLayout (laid : Laid) : Type 0 where
-  pub image : IsImage laid.image
-  pub start : laid.start < 2 ^ 19
-  pub rows : All IsRow laid.rows
-
 -- a symbol has a printable name, and its value is a bit address
 pub record IsSymbol (symbol : Symbol) : Type 0 where
   pub ascii : IsAscii symbol.name
   pub value : symbol.value < 2 ^ 24
-
--- the symbols and the places of a deck
-pub record IsNamed (named : Named) : Type 0 where
-  pub symbols : All IsSymbol named.symbols
-  pub places : All IsLocation named.places
 
 -- what a job of so many cards gives: an image, a start, a row for each card in order, symbols, and
 -- controls within their limits that say how many instructions may be done and have a delay

@@ -2,7 +2,7 @@
 use Rattle.std.specs.Prelude.{ℕ, Bool, true, List, [], ◌∷◌, map, Some, None, is_some}
 use Rattle.std.specs.List.{list_all, list_any, filter_map}
 use Rattle.arrayvec.specs.ArrayVec.{ArrayVec}
-use Rattle.st_card.specs.Tables.{is_same, row_of}
+use Rattle.st_text.specs.Tables.{is_same, row_of}
 use Rattle.st_expr.specs.declared.terms.Term.{Term}
 use Rattle.st_expr.specs.declared.terms.Atom.{Atom}
 use Rattle.st_expr.specs.declared.terms.Atom.TheVariants.{Number, Name}
@@ -51,8 +51,8 @@ unfoldable pub accepts_all : (List ℕ → Bool) → Statement → Bool
 accepts_all test statement = list_all (λ e. accepts test e.items) (expressions statement)
 
 -- whether a name is one of a list
-abbrev pub is_among : List (List ℕ) → List ℕ → Bool
-is_among names name = list_any (λ other. is_same name other) names
+abbrev pub has_name : List (List ℕ) → List ℕ → Bool
+has_name names name = list_any (λ other. is_same name other) names
 
 -- whether a name is in a table
 abbrev pub is_defined : List (List ℕ × ℕ) → List ℕ → Bool

@@ -1,4 +1,5 @@
 //! What holds of the three passes, whatever the job.
+
 ghost use Rattle.std.specs.Prelude.{◌≡◌, List, ℕ, Bool};
 ghost use Rattle.st_card.specs.declared.cards.Card.{Card};
 ghost use Rattle.st_strap.specs.Faults.{fault_in};

@@ -2,7 +2,7 @@
 
 ghost use Rattle.std.specs.Prelude.{◌≡◌, ◌<◌, ◌^◌, unsigned_abs, IsTrue, None};
 ghost use Rattle.st_format.specs.Formats.{IsShape, second_half};
-ghost use Rattle.st_asm.specs.Checks.{fits as fitting};
+ghost use Rattle.st_asm.specs.Checks.{fits};
 ghost use Rattle.st_asm.specs.Laying as spec;
 ghost use Rattle.st_asm.specs.Places.{role_of, length_in};
 ghost use Rattle.st_strap.specs.WellFormed.{IsWellFormed, IsSpotOrNone};
@@ -19,7 +19,7 @@ pub(crate) fn bits_of(s: &Statement, v: Values) -> u64
     requires well { IsWellFormed s.now }
     requires first { unsigned_abs v.first < 2 ^ 24 }
     requires second { unsigned_abs v.second < 2 ^ 24 }
-    requires fits { IsTrue (fitting s.now v) }
+    requires fits { IsTrue (fits s.now v) }
     ensures bits { result ≡ spec.bits_of s.now v }
     ensures below { result < 2 ^ length_in (role_of s.now) }
 {
@@ -134,7 +134,7 @@ pub(crate) fn bits_of(s: &Statement, v: Values) -> u64
             number,
         } => field_of(*form, *minus, *number),
         Statement::IndexWord { count, flags, .. } => {
-            index_word(v.first, *count as u32, v.second, *flags)
+            index_word_bits(v.first, *count as u32, v.second, *flags)
         }
         Statement::Synonym { .. }
         | Statement::SetLocation { .. }
@@ -194,13 +194,13 @@ fn joined(first: u32, second: Option<u32>) -> u64
 }
 
 // An index word.
-#[tactic(auto, unfolding(crate::specs::Laying::index_word))]
-fn index_word(value: i64, count: u32, refill: i64, flags: u64) -> u64
+#[tactic(auto, unfolding(crate::specs::Laying::index_word_bits))]
+fn index_word_bits(value: i64, count: u32, refill: i64, flags: u64) -> u64
     requires value { unsigned_abs value < 2 ^ 24 }
     requires count { count < 2 ^ 18 }
     requires refill { unsigned_abs refill < 2 ^ 24 }
     requires flags { flags < 8 }
-    ensures { result ≡ spec.index_word value count refill flags }
+    ensures { result ≡ spec.index_word_bits value count refill flags }
 {
     let valued = with_count(with_value(0, value as i32), count);
     with_part(

@@ -1,11 +1,12 @@
 //! What a card is to the passes behind the first one.
 
-ghost use Rattle.std.specs.Prelude.{◌≡◌, ◌≤◌, ◌<◌, ◌-◌, length, take};
+ghost use Rattle.std.specs.Prelude.{◌≡◌, ◌≤◌, length};
 ghost use Rattle.st_asm.specs.Lines as spec;
 
 use st_card::columns;
 use st_expr::padded;
 use st_strap::Statement;
+use st_text::{behind, front, without_end_blanks, without_front_blanks};
 
 // How many columns stand before the statement.
 const BEFORE_STATEMENT: usize = 9;
@@ -41,11 +42,7 @@ pub(crate) fn name_field(text: &[u8]) -> &[u8]
     ensures name { result.now ≡ spec.name_field text.now }
     ensures short { length result.now ≤ 8 }
 {
-    let behind = match text {
-        [] => text,
-        [_, behind @ ..] => behind,
-    };
-    without_end(without_front(front(behind, NAME_COLUMNS)))
+    without_end_blanks(without_front_blanks(front(behind(text, 1), NAME_COLUMNS)))
 }
 
 // The statement of a statement card: columns 10 to 72.
@@ -54,42 +51,7 @@ pub(crate) fn statement_field(text: &[u8]) -> &[u8]
     ensures statement { result.now ≡ spec.statement_field text.now }
     ensures short { length result.now ≤ 63 }
 {
-    let read = columns(text);
-    read.split_at(BEFORE_STATEMENT.min(read.len())).1
-}
-
-// The first bytes of a text, so many of them where there are that many.
-fn front(text: &[u8], count: usize) -> &[u8]
-    ensures { result.now ≡ take count text.now }
-{
-    text.split_at(count.min(text.len())).0
-}
-
-// A text without the blanks at its start.
-fn without_front(text: &[u8]) -> &[u8]
-    ensures text { result.now ≡ spec.without_front text.now }
-    ensures shorter { length result.now ≤ length text.now }
-{
-    let mut rest = text;
-    'bytes: while let [b' ', after @ ..] = rest {
-        rest = after;
-    }
-    rest
-}
-
-// A text without the blanks at its end.
-fn without_end(text: &[u8]) -> &[u8]
-    ensures text { result.now ≡ spec.without_end text.now }
-    ensures shorter { length result.now ≤ length text.now }
-{
-    let mut rest = text;
-    'bytes: while let [before @ .., last] = rest {
-        if *last != b' ' {
-            return rest;
-        }
-        rest = before;
-    }
-    rest
+    behind(columns(text), BEFORE_STATEMENT)
 }
 
 // A name filled with blanks to eight bytes, where there is one.

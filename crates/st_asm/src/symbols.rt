@@ -1,7 +1,7 @@
 //! Which names a statement speaks of, and whether they are known.
 
 ghost use Rattle.std.specs.Prelude.{◌≡◌, ◌||◌, List, ℕ, IfOk, OnOk};
-ghost use Rattle.st_card.specs.Tables.{is_same};
+ghost use Rattle.st_text.specs.Tables.{is_same};
 ghost use Rattle.st_asm.specs.Symbols as spec;
 
 use crate::line::Line;
@@ -74,7 +74,7 @@ fn knows_atom(symbols: &Symbols, atom: Atom) -> bool
 // A table in which the names of all cards are, whatever their values.
 pub(crate) fn names_in(alloc: Global, lines: &[Line]) -> Result<Symbols, NoMemory>
     ensures { IfOk result (λ t. (name : List ℕ)
-        → spec.is_defined t name ≡ spec.is_among (spec.names_of lines.now) name) }
+        → spec.is_defined t name ≡ spec.has_name (spec.names_of lines.now) name) }
 {
     let mut names = Symbols::new(alloc);
     let mut rest = lines;

@@ -2,12 +2,13 @@
 
 ghost use Rattle.std.specs.Prelude.{◌≡◌, ◌<◌, ◌≤◌, ◌^◌, ◌+◌, ◌*◌, ◌++◌, ◌∷◌, [], All, IfOk, IfErr, OnOk, IsTrue, None, length, unwrap_or, unsigned_abs, if◌then◌else◌};
 ghost use Rattle.st_asm.specs.Answers.{Stops, Explains};
-ghost use Rattle.st_asm.specs.Checks.{value_fault as fault_of, in_storage};
+ghost use Rattle.st_asm.specs.Checks.{value_fault, in_storage};
 ghost use Rattle.st_asm.specs.Valuing as spec;
-ghost use Rattle.st_asm.specs.Forming.{is_end as ends};
-ghost use Rattle.st_asm.specs.Laying.{half_word as half_word_of};
+ghost use Rattle.st_asm.specs.Forming.{is_end};
+ghost use Rattle.st_asm.specs.Laying.{half_word};
 ghost use Rattle.st_bits.specs.Storage.{words_of_storage};
-ghost use Rattle.st_asm.specs.Sound.{IsSoundLayout, IsImage, IsRow, IsLocation};
+ghost use Rattle.st_asm.specs.Sound.{IsImage, IsRow, IsLocation};
+ghost use Rattle.st_asm.specs.Kept.{IsSoundLayout};
 ghost use Rattle.st_strap.specs.WellFormed.{IsWellFormed, IsWellFormedIfAny};
 
 use crate::checks::value_fault;
@@ -193,7 +194,7 @@ fn lay(
     requires well { IsWellFormed s.now }
     requires located { IsLocation place }
     requires sound { IsSoundLayout (spec.laid_in layout.old) }
-    requires good { fault_of s.now v (unwrap_or place 0) ≡ None }
+    requires good { value_fault s.now v (unwrap_or place 0) ≡ None }
     ensures ok { OnOk result (spec.laid_in layout.new
         ≡ spec.with_laid (spec.laid_in layout.old) card s.now v place) }
     ensures err { IfErr result (λ stop. stop ≡ Stop.NoMemory) }
@@ -222,7 +223,7 @@ fn lay(
 // The start, as far as it is known behind a statement.
 fn start_behind(start: u32, s: &Statement, v: Values) -> u32
     requires { unsigned_abs v.first < 2 ^ 24 }
-    ensures start { result ≡ (if ends s.now then half_word_of v.first else start) }
+    ensures start { result ≡ (if is_end s.now then half_word v.first else start) }
     ensures below { start < 2 ^ 19 → result < 2 ^ 19 }
 {
     if is_end(s) { half_word(v.first) } else { start }

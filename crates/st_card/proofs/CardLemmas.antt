@@ -4,8 +4,8 @@ use Rattle.std.proofs.lemmas.List.{take_all}
 use Rattle.std.proofs.Math.Seq.{take-append_seam}
 use Rattle.std.specs.Str.Lines.{strip_carriage_return}
 use Rattle.std.proofs.lemmas.List.Elements.{All-push}
-use Rattle.st_card.specs.Pieces.{parted, IsFront, IsBehind}
-use Rattle.st_card.proofs.PieceLemmas.{first_piece}
+use Rattle.st_text.specs.Pieces.{parted, IsFront, IsBehind}
+use Rattle.st_text.proofs.PieceLemmas.{first_piece}
 use Rattle.st_card.proofs.TextLemmas.{card_described}
 use Rattle.st_card.specs.Cards.{card_at, cards_from, IsCardOf}
 use Rattle.st_card.specs.declared.cards.Card.{Card}

@@ -2,7 +2,7 @@
 use Rattle.std.proofs.Common.{◌≡◌, ◌≤◌, ◌<◌, ◌+◌, ◌-◌, ◌&&◌, ℕ, Bool, true, false, nat_le, nat_lt, List, [], ◌∷◌, ◌++◌, Option, Some, None, if◌then◌else◌, length, get_or, refl, ap, sym, subst, ◌∙◌, arith, length-append}
 use Rattle.std.proofs.lemmas.Bool.{and_parts as both, leb-true as at_most, ltb-false as not_below, ltb-true as below}
 use Rattle.std.specs.List.{AllPass}
-use Rattle.std.specs.Option.{option_and_then, option_map_or}
+use Rattle.std.specs.Option.{option_map_or}
 use Rattle.std.specs.List.Sorted.{IsStrictlyIncreasing}
 use Rattle.std.proofs.lemmas.Option.{slice_get-get_or}
 use Rattle.std.proofs.Math.ListN.{get_or-append}
@@ -11,12 +11,12 @@ use Rattle.std.proofs.lemmas.List.Elements.{All-append}
 use Rattle.std.proofs.lemmas.List.Sums.{AllPass-from_list_all}
 use Rattle.std.proofs.lemmas.List.Sorted.{IsNonDecreasingBy-push}
 use Rattle.st_card.specs.Controls as spec
-use Rattle.st_card.specs.Controls.{Asked, is_among, last_passes, good, before, number_in, numbers_in}
-use Rattle.st_card.specs.Number.{is_number, value, reading}
-use Rattle.st_card.specs.Pieces.{words}
+use Rattle.st_card.specs.Controls.{Asked, is_in_range, last_passes, before, card_number, card_numbers}
+use Rattle.st_text.specs.Number.{good, is_number, value, reading}
+use Rattle.st_text.specs.Pieces.{words}
 use Rattle.st_card.specs.Cards.{columns}
-use Rattle.st_card.specs.Tables.{row_of}
-use Rattle.st_card.specs.declared.numbers.Reading.TheVariants.{Bad, Large, Good}
+use Rattle.st_text.specs.Tables.{row_of}
+use Rattle.st_text.specs.declared.numbers.Reading.TheVariants.{Bad, Large, Good}
 use Rattle.st_card.specs.Limits.{is_signal, is_part, is_tick, IsWithinLimits}
 use Rattle.st_card.specs.declared.control_cards.Signal.{Signal}
 use Rattle.st_card.specs.declared.keywords.Keyword.{Keyword}
@@ -73,7 +73,7 @@ delays-kept kept new (n ∷ ns) same limits =
     subst (λ (a : Asked). IsWithinLimits a) parts.1 (record {
       budget = limits.budget;
       delays = record {
-        each = All-append (λ d. is_among 1 255 d ≡ true) kept.delays (n ∷ ns) limits.delays.each (AllPass-from_list_all (is_among 1 255) (n ∷ ns) tests.1);
+        each = All-append (λ d. is_in_range 1 255 d ≡ true) kept.delays (n ∷ ns) limits.delays.each (AllPass-from_list_all (is_in_range 1 255) (n ∷ ns) tests.1);
         few = omega (arith, few, length-append kept.delays (n ∷ ns));
       };
       signals = limits.signals;
@@ -250,7 +250,7 @@ good-short true false v n test same = cc
 good-short false b v n test same = cc
 
 -- a number of a control card has 12 digits at most
-number-short : (word : List ℕ) (n : ℕ) → number_in word ≡ Some n → is_tick n ≡ true
+number-short : (word : List ℕ) (n : ℕ) → card_number word ≡ Some n → is_tick n ≡ true
 number-short word n same =
     let read : (b : Bool) → (if b then None else good (reading 999999999999 word)) ≡ Some n → is_tick n ≡ true =
     λ b. elim b as (λ v. (if v then None else good (reading 999999999999 word)) ≡ Some n → is_tick n ≡ true) [
@@ -266,28 +266,28 @@ before-parts (Some n) None numbers same = cc
 before-parts None os numbers same = cc
 
 -- so each of its numbers has
-numbers-short : (words : List (List ℕ)) (numbers : List ℕ) → numbers_in words ≡ Some numbers → AllPass is_tick numbers
+numbers-short : (words : List (List ℕ)) (numbers : List ℕ) → card_numbers words ≡ Some numbers → AllPass is_tick numbers
 numbers-short [] numbers same =
     let none : [] ≡ numbers = cc in
     subst (λ (ns : List ℕ). AllPass is_tick ns) none (λ k d within. absurd (omega (arith, within)))
 numbers-short (word ∷ more) numbers same =
-    let parts = before-parts (number_in word) (numbers_in more) numbers same in
+    let parts = before-parts (card_number word) (card_numbers more) numbers same in
     let later = numbers-short more parts.1.0 parts.1.1.1 in
     subst (λ (ns : List ℕ). AllPass is_tick ns) parts.1.1.2
     (All-append (λ t. is_tick t ≡ true) (parts.0 ∷ []) parts.1.0 (only is_tick parts.0 (number-short word parts.0 parts.1.1.0)) later)
 
-chained : {X Y : Type 0} (f : X → Option Y) (o : Option X) (y : Y) → option_and_then f o ≡ Some y →
-    (x : X) × ((o ≡ Some x) × (f x ≡ Some y))
-chained f None y same = cc
-chained f (Some x) y same = (x, (refl, same))
+card-kept : (kept new : Asked) (keyword : Option Keyword) (numbers : Option (List ℕ)) →
+    ((ns : List ℕ) → numbers ≡ Some ns → AllPass is_tick ns) → spec.with_card kept keyword numbers ≡ Some new →
+    IsWithinLimits kept → IsWithinLimits new
+card-kept kept new (Some keyword) (Some ns) short same limits = keyword-kept keyword kept new ns (short ns refl) same limits
+card-kept kept new (Some keyword) None short same limits = cc
+card-kept kept new None numbers short same limits = cc
 
 words-kept : (kept new : Asked) (words : List (List ℕ)) → spec.with_words kept words ≡ Some new →
     IsWithinLimits kept → IsWithinLimits new
 words-kept kept new [] same limits = cc
 words-kept kept new (word ∷ more) same limits =
-    let outer = chained _ (row_of word spec.keywords) new same in
-    let inner = chained _ (numbers_in more) new outer.1.1 in
-    keyword-kept outer.0 kept new inner.0 (numbers-short more inner.0 inner.1.0) inner.1.1 limits
+    card-kept kept new (row_of word spec.keywords) (card_numbers more) (λ ns is. numbers-short more ns is) same limits
 
 -- adding a control card keeps the limits
 pub added-kept : (kept new : Asked) (text : List ℕ) → spec.added kept text ≡ Some new → IsWithinLimits kept → IsWithinLimits new

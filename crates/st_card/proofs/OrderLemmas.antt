@@ -6,7 +6,7 @@ use Rattle.std.specs.Option.{option_map_or}
 use Rattle.std.proofs.lemmas.Bool.{and_from as both_true, and_parts as holds_both, le-leb as at_most, leb-true as is_at_most, lt-ltb as below}
 use Rattle.std.proofs.lemmas.Option.{slice_get-get_or}
 use Rattle.std.proofs.lemmas.List.{get_or_append_left, get_or_at, get_or_default}
-use Rattle.st_card.specs.Controls.{Asked, is_among, last_passes, with_budget, with_delays, with_signal, with_dump, with_snap, with_back}
+use Rattle.st_card.specs.Controls.{Asked, is_in_range, last_passes, with_budget, with_delays, with_signal, with_dump, with_snap, with_back}
 use Rattle.st_card.specs.Limits.{is_signal, is_part, is_tick, AreDelays, AreSignals, AreDumps, AreSnaps}
 use Rattle.st_card.specs.declared.control_cards.Signal.{Signal}
 
@@ -63,15 +63,15 @@ last_tick done rest t order =
 module _ (a : Asked) where
   pub budget-asked : (n : ℕ) → (a.budget == 0) ≡ true → 1 ≤ n → n ≤ 10000000 → with_budget a (n ∷ []) ≡ Some (record a { budget = n })
   budget-asked n none some few =
-      taken _ _ (both_true (a.budget == 0) (is_among 1 10000000 n) none (both_true _ _ (at_most 1 n some) (at_most n 10000000 few)))
+      taken _ _ (both_true (a.budget == 0) (is_in_range 1 10000000 n) none (both_true _ _ (at_most 1 n some) (at_most n 10000000 few)))
 
   pub delay-asked : (d : ℕ) (rest : List ℕ) → AreDelays (a.delays ++ d ∷ rest) →
       with_delays a (d ∷ []) ≡ Some (record a { delays = a.delays ++ d ∷ [] })
   delay-asked d rest are =
       let room : nat_le (length a.delays + length (d ∷ [])) 4096 ≡ true =
       at_most _ 4096 (omega (arith, are.few, length-append a.delays (d ∷ rest))) in
-      let good : is_among 1 255 d ≡ true = one_passes (is_among 1 255) a.delays rest d are.each in
-      taken _ _ (both_true _ _ room (both_true (is_among 1 255 d) true good refl))
+      let good : is_in_range 1 255 d ≡ true = one_passes (is_in_range 1 255) a.delays rest d are.each in
+      taken _ _ (both_true _ _ room (both_true (is_in_range 1 255 d) true good refl))
 
   pub signal-asked : (s : Signal) (rest : List Signal) → AreSignals (a.signals ++ s ∷ rest) →
       with_signal a (s.count ∷ s.indicator ∷ []) ≡ Some (record a { signals = a.signals ++ s ∷ [] })
@@ -95,7 +95,7 @@ module _ (a : Asked) where
 
   pub back-asked : (k : ℕ) → (a.back == 0) ≡ true → 1 ≤ k → k ≤ 64 → with_back a (k ∷ []) ≡ Some (record a { back = k })
   back-asked k none some few =
-      taken _ _ (both_true (a.back == 0) (is_among 1 64 k) none (both_true _ _ (at_most 1 k some) (at_most k 64 few)))
+      taken _ _ (both_true (a.back == 0) (is_in_range 1 64 k) none (both_true _ _ (at_most 1 k some) (at_most k 64 few)))
 
 -- the numbers that are asked for have 12 digits at most
 abbrev IsShort : ℕ → Type 0
@@ -103,7 +103,7 @@ IsShort n = n ≤ 999999999999
 
 pub delay-short : (done rest : List ℕ) (d : ℕ) → AreDelays (done ++ d ∷ rest) → IsShort d
 delay-short done rest d are =
-    let range = holds_both (nat_le 1 d) (nat_le d 255) (one_passes (is_among 1 255) done rest d are.each) in
+    let range = holds_both (nat_le 1 d) (nat_le d 255) (one_passes (is_in_range 1 255) done rest d are.each) in
     let few : d ≤ 255 = is_at_most d 255 range.1 in omega (arith, few)
 
 pub signal-short : (done rest : List Signal) (s : Signal) → AreSignals (done ++ s ∷ rest) → IsShort s.count × IsShort s.indicator

@@ -2,24 +2,13 @@
 use Rattle.std.proofs.Common.{◌≡◌, ◌⊎◌, inl, inr, ◌≤◌, ◌<◌, ◌+◌, ◌-◌, ◌==◌, ℕ, zero, suc, true, false, List, [], ◌∷◌, ◌++◌, length, take, All, refl, ap, sym, subst, arith, length-append, if◌then◌else◌}
 use Rattle.std.specs.Prelude.{slice_index}
 use Rattle.std.specs.Str.Lines.{strip_carriage_return}
-use Rattle.std.proofs.Math.Seq.{take-length}
-use Rattle.std.proofs.lemmas.List.{length-take-le}
 use Rattle.std.proofs.lemmas.List.Elements.{All-nil, All-cons, All-take}
-use Rattle.st_card.specs.Pieces.{onto_first, parted, IsFront, IsBehind}
+use Rattle.st_text.specs.Pieces.{onto_first, parted, IsFront, IsBehind}
 use Rattle.st_card.specs.Cards.{card_at, cards_from, cards_of, IsCardOf}
 use Rattle.st_card.specs.declared.cards.Card.{Card}
 use Rattle.st_card.proofs.CardLemmas.{card_first}
-use Rattle.st_card.proofs.TextLemmas.{front_of_front, front_of_whole, behind_whole, behind_behind, behind_itself, card_described}
-
--- a text is a front of itself
-front_itself : (text : List ℕ) → IsFront text text
-front_itself text = record { same = sym (take-length text); within = omega arith }
-
--- so many bytes of a text are a front of it
-front_taken : (n : ℕ) (text : List ℕ) → n ≤ length text → IsFront (take n text) text
-front_taken n text few =
-    let long : length (take n text) ≡ n = length-take-le n text few in
-    record { same = ap (λ k. take k text) (sym long); within = omega (arith, long, few) }
+use Rattle.st_text.proofs.FrontLemmas.{front_of_front, front_of_whole, front_itself, front_taken, behind_whole, behind_behind, behind_itself}
+use Rattle.st_card.proofs.TextLemmas.{card_described}
 
 -- a line is one of itself without its return
 front_stripped : (text : List ℕ) → IsFront (strip_carriage_return text) text

@@ -1,40 +1,15 @@
 -- Where the text of a card stands.
-use Rattle.std.proofs.Common.{◌≡◌, ◌≤◌, ◌+◌, ◌-◌, ◌==◌, ◌||◌, ℕ, Bool, nat_lt, List, [], ◌∷◌, ◌++◌, true, false, not, Option, Some, None, if◌then◌else◌, length, take, drop, min, refl, ap, sym, ◌∙◌, arith, append_assoc, length-append}
+use Rattle.std.proofs.Common.{◌≡◌, ◌≤◌, ◌-◌, ◌==◌, ◌||◌, ℕ, Bool, nat_lt, List, [], ◌∷◌, true, false, not, Option, Some, None, if◌then◌else◌, length, take, min, refl, ap, sym, ◌∙◌, arith}
 use Rattle.std.proofs.lemmas.Bool.{not-false as not_false}
-use Rattle.std.proofs.lemmas.List.{take_all, take_min, take-take, drop-drop}
+use Rattle.std.proofs.lemmas.List.{take_all, take_min, take-take}
 use Rattle.std.proofs.lemmas.Bool.Decides.{nat_tests}
-use Rattle.std.proofs.Math.Seq.{take-append_seam, drop-append_seam}
-use Rattle.st_card.specs.Pieces.{IsFront, IsBehind}
-use Rattle.st_card.specs.Cards.{first_column, columns, is_blank, is_printable, kind_of, fault_of, card_at, text_in, IsCardOf}
+use Rattle.st_text.specs.Pieces.{IsFront, IsBehind}
+use Rattle.st_card.specs.Cards.{first_column, columns, is_blank, kind_of, fault_of, card_at, text_in, IsCardOf}
+use Rattle.st_text.specs.Bytes.{is_printable}
 use Rattle.st_card.specs.declared.faults.Fault.{Fault}
 use Rattle.st_card.specs.declared.faults.Fault.TheVariants.{NotAscii, CardTooLong, TooManyCards}
 use Rattle.st_card.specs.declared.cards.CardKind.{CardKind}
 use Rattle.st_card.specs.declared.cards.CardKind.TheVariants.{Comment, Control, Statement}
-
--- a front of a front
-pub front_of_front : (a b text : List ℕ) → IsFront a b → IsFront b text → IsFront a text
-front_of_front a b text first second = record {
-  same = first.same ∙ (ap (λ (s : List ℕ). take (length a) s) second.same
-      ∙ take-take (length a) (length b) text first.within);
-  within = omega arith;
-}
-
--- what stands before a byte, and what stands behind it
-pub front_of_whole : (front back text : List ℕ) (c : ℕ) → text ≡ front ++ c ∷ back → IsFront front text
-front_of_whole front back text c whole = record {
-  same = sym (ap (λ (s : List ℕ). take (length front) s) whole ∙ take-append_seam front (c ∷ back));
-  within = omega (arith, simp length-append at (ap length whole));
-}
-
-pub behind_whole : (front back text : List ℕ) (c : ℕ) → text ≡ front ++ c ∷ back → IsBehind back text
-behind_whole front back text c whole =
-    let lengths : length text ≡ length front + (length back + 1) = omega (arith, simp length-append at (ap length whole)) in
-    let before : length (front ++ c ∷ []) ≡ length text - length back = omega (arith, length-append front (c ∷ [])) in
-    record {
-      same = sym (ap (λ (s : List ℕ). drop (length text - length back) s) (whole ∙ sym (append_assoc front (c ∷ []) back))
-          ∙ (ap (λ n. drop n ((front ++ c ∷ []) ++ back)) (sym before) ∙ drop-append_seam (front ++ c ∷ []) back));
-      within = omega arith;
-    }
 
 -- a test that did not hold, and the tests behind it
 test_passed : (b : Bool) (fault : Fault) (later : Option Fault) → (if b then Some fault else later) ≡ None →
@@ -83,20 +58,3 @@ card_described n job rest shown behind front =
           let parts = no_fault n shown none in
           ap is_printable (same ∙ take_all 80 shown parts.1) ∙ parts.0;
     }
-
--- what is behind a text that is behind another
-pub behind_behind : (a b text : List ℕ) → IsBehind a b → IsBehind b text → IsBehind a text
-behind_behind a b text first second =
-    let count : (length text - length b) + (length b - length a) ≡ length text - length a =
-    omega (arith, first.within, second.within) in
-    record {
-      same = first.same ∙ (ap (λ (s : List ℕ). drop (length b - length a) s) second.same
-          ∙ (drop-drop (length b - length a) (length text - length b) text ∙ ap (λ n. drop n text) count));
-      within = omega (arith, first.within, second.within);
-    }
-
--- a text is behind itself
-pub behind_itself : (text : List ℕ) → IsBehind text text
-behind_itself text =
-    let none : 0 ≡ length text - length text = omega arith in
-    record { same = ap (λ n. drop n text) none; within = omega arith }

@@ -2,25 +2,25 @@
 use Rattle.std.specs.Prelude.{◌≡◌, ◌≢◌, ℕ, Bool, true, false, List, [], ◌++◌, length, Option, Some, None, IsSome}
 use Rattle.st_card.specs.Controls.{Asked}
 use Rattle.st_card.specs.declared.faults.Fault.TheVariants.{BadControlCard}
-use Rattle.st_card.specs.declared.keywords.Outcome.{Outcome}
-use Rattle.st_card.specs.declared.keywords.Outcome.TheVariants.{Added, Refused, NoMemory}
+use Rattle.st_card.specs.declared.keywords.Addition.{Addition}
+use Rattle.st_card.specs.declared.keywords.Addition.TheVariants.{Added, Refused, NoMemory}
 use Rattle.st_card.specs.declared.control_cards.CardError.{CardError}
 use Rattle.st_card.specs.declared.control_cards.CardError.TheVariants.{Refused as CardRefused, NoMemory as CardNoMemory}
 
--- what an outcome says of the controls before and after, and of those with the card
-abbrev pub Settles : Asked → Asked → Option Asked → Outcome → Type 0
+-- what an addition says of the controls before and after, and of those with the card
+abbrev pub Settles : Asked → Asked → Option Asked → Addition → Type 0
 Settles old new wanted Added = wanted ≡ Some new
 Settles old new wanted Refused = (wanted ≡ None) × (new ≡ old)
 Settles old new wanted NoMemory = IsSome wanted × (new ≡ old)
 
--- what an outcome says of a list before and after items are appended
-abbrev pub Appends : {X : Type 0} → List X → List X → List X → Outcome → Type 0
+-- what an addition says of a list before and after items are appended
+abbrev pub Appends : {X : Type 0} → List X → List X → List X → Addition → Type 0
 Appends old new items Added = new ≡ old ++ items
 Appends old new items Refused = ⊥
 Appends old new items NoMemory = new ≡ old
 
--- what an outcome says of a mark before and after numbers stand behind its word
-abbrev pub Marks : Bool → Bool → List ℕ → Outcome → Type 0
+-- what an addition says of a mark before and after numbers stand behind its word
+abbrev pub Marks : Bool → Bool → List ℕ → Addition → Type 0
 Marks old new numbers Added = (old ≡ false) × (new ≡ true) × (numbers ≡ [])
 Marks old new numbers Refused = (new ≡ old) × ((old ≡ false) → length numbers ≢ 0)
 Marks old new numbers NoMemory = ⊥

@@ -1,9 +1,9 @@
 -- The cards of a job: its lines, with their kinds and the faults that a line has by itself.
-use Rattle.std.specs.Prelude.{◌≡◌, ◌≤◌, ℕ, ◌+◌, ◌==◌, ◌&&◌, ◌||◌, Bool, true, not, nat_le, nat_lt, min, List, [], ◌∷◌, length, take, drop, Option, Some, None, if◌then◌else◌}
+use Rattle.std.specs.Prelude.{◌≡◌, ◌≤◌, ℕ, ◌+◌, ◌==◌, ◌||◌, Bool, true, not, nat_lt, min, List, [], ◌∷◌, length, take, drop, Option, Some, None, if◌then◌else◌}
 use Rattle.std.specs.List.{list_all}
 use Rattle.std.specs.Str.Lines.{strip_carriage_return}
-use Rattle.st_text.specs.Bytes.{line_end, blank, asterisk, slash, tilde}
-use Rattle.st_card.specs.Pieces.{parted}
+use Rattle.st_text.specs.Bytes.{line_end, blank, asterisk, slash, is_printable}
+use Rattle.st_text.specs.Pieces.{parted}
 use Rattle.st_card.specs.declared.faults.Fault.{Fault}
 use Rattle.st_card.specs.declared.faults.Fault.TheVariants.{NotAscii, CardTooLong, BadName, TooManyCards}
 use Rattle.st_card.specs.declared.cards.CardKind.{CardKind}
@@ -22,10 +22,6 @@ columns text = take 72 text
 -- whether a text has nothing but blanks
 abbrev pub is_blank : List ℕ → Bool
 is_blank text = list_all (λ c. c == blank) text
-
--- whether a text has only blanks and visible characters of ASCII
-abbrev pub is_printable : List ℕ → Bool
-is_printable text = list_all (λ c. nat_le blank c && nat_le c tilde) text
 
 -- the kind of a card: `*` or blank columns make a comment, `/` a control card
 abbrev pub kind_of : List ℕ → CardKind

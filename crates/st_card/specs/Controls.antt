@@ -1,16 +1,14 @@
 -- What the control cards of a job ask for.
 use Rattle.std.specs.Prelude.{ℕ, ◌+◌, ◌-◌, ◌==◌, ◌&&◌, Bool, true, false, nat_le, nat_lt, List, [], ◌∷◌, ◌++◌, length, slice_get, codes, Option, Some, None, if◌then◌else◌}
 use Rattle.std.specs.List.{list_all}
-use Rattle.std.specs.Option.{option_and_then, option_map_or}
+use Rattle.std.specs.Option.{option_map_or}
 use Rattle.st_bits.specs.declared.limits.TheConstants.{LAST_WORD, MOST_INSTRUCTIONS, LONGEST_LIST}
 use Rattle.st_bits.specs.declared.indicators.TheConstants.{CHANNEL_SIGNAL}
 use Rattle.st_card.specs.declared.limits.TheConstants.{MOST_DELAY, MOST_DUMPS, MOST_SNAPS, MOST_BACK, MOST_NUMBER}
-use Rattle.st_card.specs.Number.{reading}
-use Rattle.st_card.specs.Pieces.{words}
+use Rattle.st_text.specs.Number.{number_up_to}
+use Rattle.st_text.specs.Pieces.{words}
 use Rattle.st_card.specs.Cards.{columns}
-use Rattle.st_card.specs.Tables.{row_of}
-use Rattle.st_card.specs.declared.numbers.Reading.{Reading}
-use Rattle.st_card.specs.declared.numbers.Reading.TheVariants.{Bad, Large, Good}
+use Rattle.st_text.specs.Tables.{row_of}
 use Rattle.st_card.specs.declared.control_cards.Signal.{Signal}
 use Rattle.st_card.specs.declared.keywords.Keyword.{Keyword}
 use Rattle.st_card.specs.declared.keywords.Keyword.TheVariants.{Budget, Delays, Signals, Dump, Snap, Back, Listing, Trace, Time, Chart}
@@ -50,15 +48,9 @@ keywords =
     ∷ (codes "/SNAP", Snap) ∷ (codes "/BACK", Back) ∷ (codes "/LIST", Listing) ∷ (codes "/TRACE", Trace)
     ∷ (codes "/TIME", Time) ∷ (codes "/CHART", Chart) ∷ []
 
--- the number that was read
-abbrev pub good : Reading → Option ℕ
-good (Good n) = Some n
-good Large = None
-good Bad = None
-
 -- the number that a word of a control card is: 1 to 12 digits
-abbrev pub number_in : List ℕ → Option ℕ
-number_in word = if nat_lt 12 (length word) then None else good (reading MOST_NUMBER word)
+abbrev pub card_number : List ℕ → Option ℕ
+card_number word = if nat_lt 12 (length word) then None else number_up_to MOST_NUMBER word
 
 -- a number before numbers, where there are both
 abbrev pub before : Option ℕ → Option (List ℕ) → Option (List ℕ)
@@ -67,13 +59,13 @@ before (Some n) None = None
 before None ns = None
 
 -- the numbers that words are, where each is one
-abbrev pub numbers_in : List (List ℕ) → Option (List ℕ)
-numbers_in [] = Some []
-numbers_in (word ∷ more) = before (number_in word) (numbers_in more)
+abbrev pub card_numbers : List (List ℕ) → Option (List ℕ)
+card_numbers [] = Some []
+card_numbers (word ∷ more) = before (card_number word) (card_numbers more)
 
 -- whether a number is in a range
-abbrev pub is_among : ℕ → ℕ → ℕ → Bool
-is_among least most n = nat_le least n && nat_le n most
+abbrev pub is_in_range : ℕ → ℕ → ℕ → Bool
+is_in_range least most n = nat_le least n && nat_le n most
 
 -- whether the last item, if there is any, passes
 abbrev pub last_passes : {X : Type 0} → (X → Bool) → List X → Bool
@@ -82,14 +74,14 @@ last_passes test items = option_map_or test (slice_get items (length items - 1))
 -- `/BUDGET n`, once, n from 1 to 10,000,000
 abbrev pub with_budget : Asked → List ℕ → Option Asked
 with_budget kept (n ∷ []) =
-    if kept.budget == 0 && is_among 1 MOST_INSTRUCTIONS n then Some (record kept { budget = n }) else None
+    if kept.budget == 0 && is_in_range 1 MOST_INSTRUCTIONS n then Some (record kept { budget = n }) else None
 with_budget kept _ = None
 
 -- `/DELAYS d d`, one delay or more, each from 1 to 255, at most 4,096 over all cards
 abbrev pub with_delays : Asked → List ℕ → Option Asked
 with_delays kept [] = None
 with_delays kept (n ∷ ns) =
-    if nat_le (length kept.delays + length (n ∷ ns)) LONGEST_LIST && list_all (is_among 1 MOST_DELAY) (n ∷ ns)
+    if nat_le (length kept.delays + length (n ∷ ns)) LONGEST_LIST && list_all (is_in_range 1 MOST_DELAY) (n ∷ ns)
     then Some (record kept { delays = kept.delays ++ n ∷ ns }) else None
 
 -- `/SIGNAL count indicator`, at most 4,096, counts up to 10,000,000 and not falling, indicators 0 to 13
@@ -117,22 +109,25 @@ with_snap kept _ = None
 -- `/BACK k`, once, k from 1 to 64
 abbrev pub with_back : Asked → List ℕ → Option Asked
 with_back kept (k ∷ []) =
-    if kept.back == 0 && is_among 1 MOST_BACK k then Some (record kept { back = k }) else None
+    if kept.back == 0 && is_in_range 1 MOST_BACK k then Some (record kept { back = k }) else None
 with_back kept _ = None
 
--- `/LIST`, `/TRACE`, `/TIME` and `/CHART`, each once and alone
+-- `/LIST`, once and alone
 abbrev pub with_list : Asked → List ℕ → Option Asked
 with_list kept [] = if kept.list then None else Some (record kept { list = true })
 with_list kept _ = None
 
+-- `/TRACE`, once and alone
 abbrev pub with_trace : Asked → List ℕ → Option Asked
 with_trace kept [] = if kept.trace then None else Some (record kept { trace = true })
 with_trace kept _ = None
 
+-- `/TIME`, once and alone
 abbrev pub with_time : Asked → List ℕ → Option Asked
 with_time kept [] = if kept.time then None else Some (record kept { time = true })
 with_time kept _ = None
 
+-- `/CHART`, once and alone
 abbrev pub with_chart : Asked → List ℕ → Option Asked
 with_chart kept [] = if kept.chart then None else Some (record kept { chart = true })
 with_chart kept _ = None
@@ -150,11 +145,16 @@ with_keyword Trace = with_trace
 with_keyword Time = with_time
 with_keyword Chart = with_chart
 
--- what is asked for with a card of these words
+-- what is asked for with a card of a keyword and numbers, where there are both
+abbrev pub with_card : Asked → Option Keyword → Option (List ℕ) → Option Asked
+with_card kept (Some keyword) (Some numbers) = with_keyword keyword kept numbers
+with_card kept (Some keyword) None = None
+with_card kept None numbers = None
+
+-- what is asked for with a card of these words: a keyword, and numbers behind it
 abbrev pub with_words : Asked → List (List ℕ) → Option Asked
 with_words kept [] = None
-with_words kept (word ∷ more) = option_and_then
-    (λ keyword. option_and_then (with_keyword keyword kept) (numbers_in more)) (row_of word keywords)
+with_words kept (word ∷ more) = with_card kept (row_of word keywords) (card_numbers more)
 
 -- what is asked for with a further control card, where that card is good
 abbrev pub added : Asked → List ℕ → Option Asked

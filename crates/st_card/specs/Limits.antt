@@ -5,7 +5,7 @@ use Rattle.std.specs.List.Sorted.{IsNonDecreasingBy, IsStrictlyIncreasing}
 use Rattle.st_bits.specs.declared.limits.TheConstants.{LAST_WORD, MOST_INSTRUCTIONS, LONGEST_LIST}
 use Rattle.st_bits.specs.declared.indicators.TheConstants.{CHANNEL_SIGNAL}
 use Rattle.st_card.specs.declared.limits.TheConstants.{MOST_DELAY, MOST_DUMPS, MOST_SNAPS, MOST_BACK, MOST_NUMBER}
-use Rattle.st_card.specs.Controls.{Asked, is_among}
+use Rattle.st_card.specs.Controls.{Asked, is_in_range}
 use Rattle.st_card.specs.declared.control_cards.Signal.{Signal}
 
 -- whether a count and an indicator are within their limits
@@ -20,19 +20,23 @@ is_part p = nat_le p.0 p.1 && nat_le p.1 LAST_WORD
 abbrev pub is_tick : ℕ → Bool
 is_tick tick = nat_le tick MOST_NUMBER
 
+-- delays of 1 to 255 ticks, at most 4,096
 pub record AreDelays (delays : List ℕ) : Type 0 where
-  pub each : AllPass (is_among 1 MOST_DELAY) delays
+  pub each : AllPass (is_in_range 1 MOST_DELAY) delays
   pub few : length delays ≤ LONGEST_LIST
 
+-- signals in the order of their counts, at most 4,096
 pub record AreSignals (signals : List Signal) : Type 0 where
   pub each : AllPass is_signal signals
   pub counts : IsNonDecreasingBy (λ s. s.count) signals
   pub few : length signals ≤ LONGEST_LIST
 
+-- parts of storage, at most 16
 pub record AreDumps (dumps : List (ℕ × ℕ)) : Type 0 where
   pub each : AllPass is_part dumps
   pub few : length dumps ≤ MOST_DUMPS
 
+-- rising ticks, at most 64
 pub record AreSnaps (ticks : List ℕ) : Type 0 where
   pub each : AllPass is_tick ticks
   pub rising : IsStrictlyIncreasing ticks

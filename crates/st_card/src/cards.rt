@@ -2,12 +2,13 @@
 
 ghost use Rattle.std.specs.Prelude.{◌≡◌, ◌+◌, ◌-◌, ◌^◌, ◌<◌, ◌≤◌, ℕ, length, [], ◌∷◌, ◌++◌, OnOk, All, MatchOption, IfSome, IfOk};
 ghost use Rattle.std.specs.Str.Lines.{strip_carriage_return};
+ghost use Rattle.st_text.specs.Bytes.{is_printable};
 ghost use Rattle.st_card.specs.Cards as spec;
-ghost use Rattle.st_card.specs.Pieces.{parted, IsFront, IsBehind};
+ghost use Rattle.st_text.specs.Pieces.{parted, IsFront, IsBehind};
 
 use crate::faults::Fault;
-use crate::pieces::cut;
 use st_bits::NoMemory;
+use st_text::{cut, front};
 use std::alloc::Global;
 
 // How many cards a job may have.
@@ -93,7 +94,7 @@ fn push_card(cards: &mut Vec<Card>, card: Card) -> Result<(), NoMemory>
 pub fn columns(text: &[u8]) -> &[u8]
     ensures { result.now ≡ spec.columns text.now }
 {
-    text.split_at(COLUMNS.min(text.len())).0
+    front(text, COLUMNS)
 }
 
 // The first line of a text without its end, and what stands behind it.
@@ -185,7 +186,7 @@ fn is_blank(text: &[u8]) -> bool
 
 // Whether a text has only blanks and visible characters of ASCII.
 fn is_printable(text: &[u8]) -> bool
-    ensures { result ≡ spec.is_printable text.now }
+    ensures { result ≡ is_printable text.now }
 {
     text.iter().all(|byte| (32..=126).contains(byte))
 }

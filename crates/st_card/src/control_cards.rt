@@ -4,18 +4,18 @@ ghost use Rattle.std.specs.Prelude.{◌≡◌, ◌≤◌, [], ◌∷◌, length,
 ghost use Rattle.std.specs.List.{list_all};
 ghost use Rattle.std.specs.Option.{option_map};
 ghost use Rattle.st_card.specs.Controls as spec;
-ghost use Rattle.st_card.specs.Pieces.{words};
+ghost use Rattle.st_text.specs.Pieces.{words};
 ghost use Rattle.st_card.specs.Limits.{IsWithinLimits};
 ghost use Rattle.st_card.specs.Answers.{Settles, Appends, Marks, Explains};
 
 use crate::cards::columns;
 use crate::faults::Fault;
-use crate::keywords::{Keyword, Outcome, keyword_of, read_numbers};
+use crate::keywords::{Addition, Keyword, keyword_of, read_numbers};
 use crate::limits::{MOST_BACK, MOST_DELAY, MOST_DUMPS, MOST_SNAPS};
-use crate::words::first_word;
 use arrayvec::ArrayVec;
 use st_bits::indicators::CHANNEL_SIGNAL;
 use st_bits::limits::{LAST_WORD, LONGEST_LIST, MOST_INSTRUCTIONS};
+use st_text::first_word;
 use std::alloc::Global;
 use std::marker::Model;
 
@@ -115,12 +115,12 @@ impl Controls {
         ensures limits { IsWithinLimits self.old → IsWithinLimits self.new }
     {
         match self.add_text(columns(text)) {
-            Outcome::Added => Ok(()),
-            Outcome::Refused => Err(CardError::Refused {
+            Addition::Added => Ok(()),
+            Addition::Refused => Err(CardError::Refused {
                 card,
                 fault: Fault::BadControlCard,
             }),
-            Outcome::NoMemory => Err(CardError::NoMemory),
+            Addition::NoMemory => Err(CardError::NoMemory),
         }
     }
 
@@ -128,7 +128,7 @@ impl Controls {
     ///
     /// It is refused with another count of numbers, past a limit, or a second time where once is
     /// allowed. After a refusal, and after want of memory, the controls are as before.
-    pub fn ask(&mut self, keyword: Keyword, numbers: &[u64]) -> Outcome
+    pub fn ask(&mut self, keyword: Keyword, numbers: &[u64]) -> Addition
         requires { length numbers.now ≤ 36 }
         ensures { Settles self.old self.new
             (spec.with_keyword keyword self.old numbers.now) result }
@@ -148,48 +148,48 @@ impl Controls {
     }
 
     // Adds what the words of a control card ask for.
-    fn add_text(&mut self, text: &[u8]) -> Outcome
+    fn add_text(&mut self, text: &[u8]) -> Addition
         requires { length text.now ≤ 72 }
         ensures { Settles self.old self.new (spec.with_words self.old (words text.now)) result }
     {
         let Some((word, rest)) = first_word(text) else {
-            return Outcome::Refused;
+            return Addition::Refused;
         };
         let Some(keyword) = keyword_of(word) else {
-            return Outcome::Refused;
+            return Addition::Refused;
         };
         let Some(numbers) = read_numbers(rest) else {
-            return Outcome::Refused;
+            return Addition::Refused;
         };
         self.ask(keyword, numbers.as_slice())
     }
 
-    fn add_budget(&mut self, numbers: &[u64]) -> Outcome
+    fn add_budget(&mut self, numbers: &[u64]) -> Addition
         ensures { Settles self.old self.new (spec.with_budget self.old numbers.now) result }
     {
         match numbers {
             [budget] if self.budget == 0 && (1..=MOST_INSTRUCTIONS).contains(budget) => {
                 self.budget = *budget;
-                Outcome::Added
+                Addition::Added
             }
-            _ => Outcome::Refused,
+            _ => Addition::Refused,
         }
     }
 
-    fn add_delays(&mut self, numbers: &[u64]) -> Outcome
+    fn add_delays(&mut self, numbers: &[u64]) -> Addition
         requires { length numbers.now ≤ 36 }
         ensures { Settles self.old self.new (spec.with_delays self.old numbers.now) result }
     {
         if numbers.is_empty() || self.delays.len() + numbers.len() > LONGEST_LIST {
-            return Outcome::Refused;
+            return Addition::Refused;
         }
         match delays_in(numbers) {
-            None => Outcome::Refused,
+            None => Addition::Refused,
             Some(delays) => push_delays(&mut self.delays, delays.as_slice()),
         }
     }
 
-    fn add_signal(&mut self, numbers: &[u64]) -> Outcome
+    fn add_signal(&mut self, numbers: &[u64]) -> Addition
         ensures { Settles self.old self.new (spec.with_signal self.old numbers.now) result }
     {
         match numbers {
@@ -204,64 +204,64 @@ impl Controls {
                 };
                 push_signal(&mut self.signals, signal)
             }
-            _ => Outcome::Refused,
+            _ => Addition::Refused,
         }
     }
 
-    fn add_dump(&mut self, numbers: &[u64]) -> Outcome
+    fn add_dump(&mut self, numbers: &[u64]) -> Addition
         ensures { Settles self.old self.new (spec.with_dump self.old numbers.now) result }
     {
         match numbers {
             [first, last]
                 if !self.dumps.is_full() && first <= last && *last <= u64::from(LAST_WORD) => {
                 self.dumps.push((*first as u32, *last as u32));
-                Outcome::Added
+                Addition::Added
             }
-            _ => Outcome::Refused,
+            _ => Addition::Refused,
         }
     }
 
-    fn add_snap(&mut self, numbers: &[u64]) -> Outcome
+    fn add_snap(&mut self, numbers: &[u64]) -> Addition
         ensures { Settles self.old self.new (spec.with_snap self.old numbers.now) result }
     {
         match numbers {
             [tick] if !self.snaps.is_full() && self.snaps.last().is_none_or(|last| last < tick) => {
                 self.snaps.push(*tick);
-                Outcome::Added
+                Addition::Added
             }
-            _ => Outcome::Refused,
+            _ => Addition::Refused,
         }
     }
 
-    fn add_back(&mut self, numbers: &[u64]) -> Outcome
+    fn add_back(&mut self, numbers: &[u64]) -> Addition
         ensures { Settles self.old self.new (spec.with_back self.old numbers.now) result }
     {
         match numbers {
             [back] if self.back == 0 && (1..=MOST_BACK).contains(back) => {
                 self.back = *back as u8;
-                Outcome::Added
+                Addition::Added
             }
-            _ => Outcome::Refused,
+            _ => Addition::Refused,
         }
     }
 }
 
 // Sets a mark that is not set yet, where no numbers stand behind its word.
-fn set_mark(mark: &mut bool, numbers: &[u64]) -> Outcome
+fn set_mark(mark: &mut bool, numbers: &[u64]) -> Addition
     ensures { Marks mark.old mark.new numbers.now result }
 {
     if *mark || !numbers.is_empty() {
-        return Outcome::Refused;
+        return Addition::Refused;
     }
     *mark = true;
-    Outcome::Added
+    Addition::Added
 }
 
 // The delays that numbers are, where each may be one.
 fn delays_in(numbers: &[u64]) -> Option<ArrayVec<u8, 36>>
     requires { length numbers.now ≤ 36 }
     ensures { option_map (λ v. v.items) result
-        ≡ (if list_all (spec.is_among 1 MOST_DELAY) numbers.now then Some numbers.now else None) }
+        ≡ (if list_all (spec.is_in_range 1 MOST_DELAY) numbers.now then Some numbers.now else None) }
 {
     let mut delays = ArrayVec::new();
     let mut rest = numbers;
@@ -276,22 +276,22 @@ fn delays_in(numbers: &[u64]) -> Option<ArrayVec<u8, 36>>
 }
 
 // Appends delays.
-fn push_delays(delays: &mut Vec<u8>, more: &[u8]) -> Outcome
+fn push_delays(delays: &mut Vec<u8>, more: &[u8]) -> Addition
     ensures { Appends delays.old.items delays.new.items more.now result }
 {
     match delays.extend_from_slice(more) {
-        Ok(()) => Outcome::Added,
-        Err(_) => Outcome::NoMemory,
+        Ok(()) => Addition::Added,
+        Err(_) => Addition::NoMemory,
     }
 }
 
 // Appends a signal.
-fn push_signal(signals: &mut Vec<Signal>, signal: Signal) -> Outcome
+fn push_signal(signals: &mut Vec<Signal>, signal: Signal) -> Addition
     ensures { Appends signals.old.items signals.new.items (signal ∷ []) result }
 {
     match signals.push(signal) {
-        Ok(()) => Outcome::Added,
-        Err(_) => Outcome::NoMemory,
+        Ok(()) => Addition::Added,
+        Err(_) => Addition::NoMemory,
     }
 }
 

@@ -2,15 +2,13 @@
 
 ghost use Rattle.std.specs.Prelude.{◌≡◌, ◌≤◌, length};
 ghost use Rattle.std.specs.Option.{option_map};
-ghost use Rattle.st_card.specs.Tables.{row_of as row_in};
-ghost use Rattle.st_card.specs.Pieces.{words};
-ghost use Rattle.st_card.specs.Controls.{keywords, number_in, numbers_in};
+ghost use Rattle.st_text.specs.Tables.{row_of};
+ghost use Rattle.st_text.specs.Pieces.{words};
+ghost use Rattle.st_card.specs.Controls.{keywords, card_number, card_numbers};
 
 use crate::limits::MOST_NUMBER;
-use crate::numbers::{Reading, read_number};
-use crate::tables::row_of;
-use crate::words::first_word;
 use arrayvec::ArrayVec;
+use st_text::{first_word, number_up_to, row_of};
 
 /// What can be asked for, by control cards and by the lines of an object text; each with the numbers that it takes.
 #[derive(Clone, Copy, Debug, PartialEq, Eq)]
@@ -40,7 +38,7 @@ pub enum Keyword {
 
 /// What comes of something that is asked for.
 #[derive(Clone, Copy, Debug, PartialEq, Eq)]
-pub enum Outcome {
+pub enum Addition {
     /// It was added.
     Added,
     /// It was refused, and nothing changed.
@@ -66,7 +64,7 @@ const KEYWORDS: [(&[u8], Keyword); 10] = [
 pub(crate) type Numbers = ArrayVec<u64, 36>;
 
 pub(crate) fn keyword_of(word: &[u8]) -> Option<Keyword>
-    ensures { result ≡ row_in word.now keywords }
+    ensures { result ≡ row_of word.now keywords }
 {
     row_of(&KEYWORDS, word)
 }
@@ -74,26 +72,23 @@ pub(crate) fn keyword_of(word: &[u8]) -> Option<Keyword>
 // The numbers that the words of a text are, where each is one.
 pub(crate) fn read_numbers(text: &[u8]) -> Option<Numbers>
     requires { length text.now ≤ 72 }
-    ensures { option_map (λ v. v.items) result ≡ numbers_in (words text.now) }
+    ensures { option_map (λ v. v.items) result ≡ card_numbers (words text.now) }
 {
     let mut numbers = ArrayVec::new();
     let mut rest = text;
     'words: while let Some((word, after)) = first_word(rest) {
-        numbers.push(number_in(word)?);
+        numbers.push(card_number(word)?);
         rest = after;
     }
     Some(numbers)
 }
 
 // The number that a word is: 1 to 12 digits.
-fn number_in(word: &[u8]) -> Option<u64>
-    ensures { result ≡ number_in word.now }
+fn card_number(word: &[u8]) -> Option<u64>
+    ensures { result ≡ card_number word.now }
 {
     if word.len() > 12 {
         return None;
     }
-    match read_number(word, MOST_NUMBER) {
-        Reading::Good(number) => Some(number),
-        Reading::Large | Reading::Bad => None,
-    }
+    number_up_to(word, MOST_NUMBER)
 }

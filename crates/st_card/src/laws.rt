@@ -1,4 +1,5 @@
 //! What holds of the cards of each job.
+
 ghost use Rattle.std.specs.Prelude.{ℕ, List, All};
 ghost use Rattle.st_card.specs.Cards.{cards_of, IsCardOf};
 

@@ -5,11 +5,11 @@ use Rattle.std.proofs.lemmas.Bool.Decides.{nat_tests}
 use Rattle.std.proofs.lemmas.List.{take_all}
 use Rattle.std.proofs.lemmas.Fmt.{length-decimal-le}
 use Rattle.std.specs.List.{list_all}
-use Rattle.std.specs.Option.{option_and_then}
-use Rattle.st_card.specs.Number.{is_filled, reading}
-use Rattle.st_card.specs.Pieces.{parted, lacks, words}
+use Rattle.st_card.specs.declared.keywords.Keyword.TheVariants.{Budget, Delays, Signals, Dump, Snap, Back}
+use Rattle.st_text.specs.Number.{is_filled, reading, good}
+use Rattle.st_text.specs.Pieces.{parted, lacks, words}
 use Rattle.st_card.specs.Cards.{columns}
-use Rattle.st_card.specs.Controls.{Asked, nothing, good, number_in, before, numbers_in, with_budget, with_delays, with_signal, with_dump, with_snap, with_back, with_trace, with_time, with_chart, with_words, added}
+use Rattle.st_card.specs.Controls.{Asked, nothing, card_number, before, card_numbers, with_budget, with_delays, with_signal, with_dump, with_snap, with_back, with_trace, with_time, with_chart, with_card, with_words, added}
 use Rattle.st_card.specs.Limits.{IsWithinLimits, AreDelays, AreSignals, AreDumps, AreSnaps}
 use Rattle.st_card.specs.declared.control_cards.Signal.{Signal}
 use Rattle.st_card.proofs.OrderLemmas.{budget-asked, delay-asked, signal-asked, dump-asked, snap-asked, back-asked, delay-short, signal-short, dump-short, snap-short}
@@ -74,19 +74,19 @@ two-numbers word a b lack filled few short_a short_b =
     ∙ filter-three word (decimal a) (decimal b) filled (decimal-filled a short_a) (decimal-filled b short_b))
 
 -- numbers are read
-number-read : (n : ℕ) → IsShort n → number_in (decimal n) ≡ Some n
+number-read : (n : ℕ) → IsShort n → card_number (decimal n) ≡ Some n
 number-read n short =
     let few = decimal-short n short in
     let fits : nat_lt 12 (length (decimal n)) ≡ false = grind (arith, nat_tests, few) in
     let value = reading-decimal 999999999999 n short (omega (arith, short)) in
     ap (λ b. if b then None else good (reading 999999999999 (decimal n))) fits ∙ ap (λ r. good r) value
 
-numbers-one : (n : ℕ) → IsShort n → numbers_in (decimal n ∷ []) ≡ Some (n ∷ [])
+numbers-one : (n : ℕ) → IsShort n → card_numbers (decimal n ∷ []) ≡ Some (n ∷ [])
 numbers-one n short = ap (λ o. before o (Some [])) (number-read n short)
 
-numbers-two : (a b : ℕ) → IsShort a → IsShort b → numbers_in (decimal a ∷ decimal b ∷ []) ≡ Some (a ∷ b ∷ [])
+numbers-two : (a b : ℕ) → IsShort a → IsShort b → card_numbers (decimal a ∷ decimal b ∷ []) ≡ Some (a ∷ b ∷ [])
 numbers-two a b short_a short_b =
-    ap (λ o. before o (numbers_in (decimal b ∷ []))) (number-read a short_a)
+    ap (λ o. before o (card_numbers (decimal b ∷ []))) (number-read a short_a)
     ∙ ap (λ (o : Option (List ℕ)). before (Some a) o) (numbers-one b short_b)
 
 module _ (kept : Asked) where
@@ -94,22 +94,22 @@ module _ (kept : Asked) where
   budget-card : (n : ℕ) → IsShort n → added kept (codes "/BUDGET " ++ decimal n) ≡ with_budget kept (n ∷ [])
   budget-card n short =
       ap (λ (ws : List (List ℕ)). with_words kept ws) (one-number (codes "/BUDGET") n refl refl (omega arith) short)
-      ∙ ap (λ (ns : Option (List ℕ)). option_and_then (with_budget kept) ns) (numbers-one n short)
+      ∙ ap (λ (ns : Option (List ℕ)). with_card kept (Some Budget) ns) (numbers-one n short)
 
   delay-card : (n : ℕ) → IsShort n → added kept (codes "/DELAYS " ++ decimal n) ≡ with_delays kept (n ∷ [])
   delay-card n short =
       ap (λ (ws : List (List ℕ)). with_words kept ws) (one-number (codes "/DELAYS") n refl refl (omega arith) short)
-      ∙ ap (λ (ns : Option (List ℕ)). option_and_then (with_delays kept) ns) (numbers-one n short)
+      ∙ ap (λ (ns : Option (List ℕ)). with_card kept (Some Delays) ns) (numbers-one n short)
 
   snap-card : (n : ℕ) → IsShort n → added kept (codes "/SNAP " ++ decimal n) ≡ with_snap kept (n ∷ [])
   snap-card n short =
       ap (λ (ws : List (List ℕ)). with_words kept ws) (one-number (codes "/SNAP") n refl refl (omega arith) short)
-      ∙ ap (λ (ns : Option (List ℕ)). option_and_then (with_snap kept) ns) (numbers-one n short)
+      ∙ ap (λ (ns : Option (List ℕ)). with_card kept (Some Snap) ns) (numbers-one n short)
 
   back-card : (n : ℕ) → IsShort n → added kept (codes "/BACK " ++ decimal n) ≡ with_back kept (n ∷ [])
   back-card n short =
       ap (λ (ws : List (List ℕ)). with_words kept ws) (one-number (codes "/BACK") n refl refl (omega arith) short)
-      ∙ ap (λ (ns : Option (List ℕ)). option_and_then (with_back kept) ns) (numbers-one n short)
+      ∙ ap (λ (ns : Option (List ℕ)). with_card kept (Some Back) ns) (numbers-one n short)
 
   signal-card : (a b : ℕ) → IsShort a → IsShort b →
       added kept (codes "/SIGNAL " ++ decimal a ++ codes " " ++ decimal b) ≡ with_signal kept (a ∷ b ∷ [])
@@ -117,7 +117,7 @@ module _ (kept : Asked) where
       let same : codes "/SIGNAL " ++ decimal a ++ codes " " ++ decimal b ≡ codes "/SIGNAL" ++ 32 ∷ (decimal a ++ 32 ∷ decimal b) = simp append_assoc refl in
       ap (λ (t : List ℕ). added kept t) same
       ∙ (ap (λ (ws : List (List ℕ)). with_words kept ws) (two-numbers (codes "/SIGNAL") a b refl refl (omega arith) short_a short_b)
-      ∙ ap (λ (ns : Option (List ℕ)). option_and_then (with_signal kept) ns) (numbers-two a b short_a short_b))
+      ∙ ap (λ (ns : Option (List ℕ)). with_card kept (Some Signals) ns) (numbers-two a b short_a short_b))
 
   dump-card : (a b : ℕ) → IsShort a → IsShort b →
       added kept (codes "/DUMP " ++ decimal a ++ codes " " ++ decimal b) ≡ with_dump kept (a ∷ b ∷ [])
@@ -125,7 +125,7 @@ module _ (kept : Asked) where
       let same : codes "/DUMP " ++ decimal a ++ codes " " ++ decimal b ≡ codes "/DUMP" ++ 32 ∷ (decimal a ++ 32 ∷ decimal b) = simp append_assoc refl in
       ap (λ (t : List ℕ). added kept t) same
       ∙ (ap (λ (ws : List (List ℕ)). with_words kept ws) (two-numbers (codes "/DUMP") a b refl refl (omega arith) short_a short_b)
-      ∙ ap (λ (ns : Option (List ℕ)). option_and_then (with_dump kept) ns) (numbers-two a b short_a short_b))
+      ∙ ap (λ (ns : Option (List ℕ)). with_card kept (Some Dump) ns) (numbers-two a b short_a short_b))
 
   trace-card : added kept (codes "/TRACE") ≡ with_trace kept []
   trace-card = refl

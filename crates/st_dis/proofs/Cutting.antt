@@ -8,8 +8,8 @@ use Rattle.std.proofs.lemmas.Bool.Decides.{nat_tests}
 use Rattle.std.specs.List.{All, list_all}
 use Rattle.std.specs.Prelude.{slice_index}
 use Rattle.std.specs.Str.Lines.{strip_carriage_return}
-use Rattle.st_report.specs.Line.{lf}
-use Rattle.st_card.specs.Cards.{first_fault, fault_of, kind_of, card_at, cards_from, cards_of, text_in, is_printable, is_column_1, first_column}
+use Rattle.st_text.specs.Bytes.{lf, is_printable}
+use Rattle.st_card.specs.Cards.{first_fault, fault_of, kind_of, card_at, cards_from, cards_of, text_in, is_column_1, first_column}
 use Rattle.st_card.specs.declared.cards.Card.{Card}
 use Rattle.st_card.specs.declared.faults.Fault.{Fault}
 use Rattle.st_card.specs.declared.faults.Fault.TheVariants.{NotAscii, CardTooLong, BadName, TooManyCards}

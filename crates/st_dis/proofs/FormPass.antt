@@ -16,9 +16,9 @@ use Rattle.st_strap.specs.Table.{operation_of, other_operations, index_operation
 use Rattle.st_strap.specs.Text.{clean, stop}
 use Rattle.st_strap.specs.Saying.{said, is_misnamed, clean_statement_of, statement_of}
 use Rattle.st_strap.specs.declared.statement.Statement.{Statement}
-use Rattle.st_asm.specs.Pass.{Refusal, onward, pass, then_for, unless_faulty}
+use Rattle.st_asm.specs.Pass.{Refusal, onward, pass, and_then, unless_faulty}
 use Rattle.st_asm.specs.Lines.{name_field, statement_field, name_in, silent, saying}
-use Rattle.st_asm.specs.Forming.{Found, unread, first_fault_of, is_end, with_statement, with_asked, form_control, form_statement, form_kind, form_card, with_end, form_pass}
+use Rattle.st_asm.specs.Forming.{Found, unread, first_fault_of, is_end, with_statement, with_control, form_control, form_statement, form_kind, form_card, with_end, form_pass}
 use Rattle.st_dis.specs.Deck.{statement_card, deck_of}
 use Rattle.st_dis.specs.Read.{CardsLead}
 use Rattle.st_dis.proofs.Printable.{IsWritten}
@@ -186,7 +186,7 @@ unfolding form_control
 control-formed asked next lines n card is adds =
     let found = found_as true asked lines in
     ap (λ (k : CardKind). form_kind k found n None card) is
-    ∙ ap (λ (o : Option Asked). judged BadControlCard o (λ a. Ok (with_asked found n a))) adds
+    ∙ ap (λ (o : Option Asked). judged BadControlCard o (λ a. Ok (with_control found n a))) adds
 
 controls-lead : (asked to : Asked) (lines : List Line) (n : ℕ) (cards : List (List ℕ)) → All IsControl cards → CardsLead asked cards to →
     TextsLead (found_as true asked lines) n cards (found_as true to (lines ++ silent_lines n (length cards)))
@@ -305,4 +305,4 @@ job-formed texts final controls before last asked is written short few =
     let found = found_in_job (before ++ last ∷ []) (length controls) asked in
     let passes = cards-pass job unread found 1 lines cards (lines_cut lines written short few).each
     (job-leads texts final controls before last asked is short) in
-    ap (λ (r : Result Found Refusal). then_for (with_end (length cards)) r) passes
+    ap (λ (r : Result Found Refusal). and_then r (with_end (length cards))) passes

@@ -4,9 +4,10 @@ use Rattle.std.specs.List.{All}
 use Rattle.std.proofs.lemmas.List.Elements.{All-nil, All-cons, All-head, All-tail, All-append}
 use Rattle.std.proofs.lemmas.Bool.Decides.{nat_tests}
 use Rattle.std.proofs.lemmas.Fmt.{length-decimal-le}
-use Rattle.st_report.specs.Line.{lf, half_address}
+use Rattle.st_text.specs.Bytes.{lf}
+use Rattle.st_text.specs.Numerals.{half_address}
 use Rattle.st_bits.specs.Storage.{words_of_storage_is}
-use Rattle.st_card.specs.Controls.{Asked, is_among}
+use Rattle.st_card.specs.Controls.{Asked, is_in_range}
 use Rattle.st_card.specs.Limits.{IsWithinLimits, is_signal, is_part, is_tick}
 use Rattle.st_card.specs.declared.control_cards.Signal.{Signal}
 use Rattle.st_object.specs.Object.{Program, IsProgram, AreWords}
@@ -128,7 +129,7 @@ if_asked : (asked : Bool) (card : List ℕ) → length card ≤ 63 → All IsCar
 if_asked true card short = one_card card short
 if_asked false card short = All-nil IsCard
 
-delay-small : (n : ℕ) → is_among 1 255 n ≡ true → n < 2 ^ 64
+delay-small : (n : ℕ) → is_in_range 1 255 n ≡ true → n < 2 ^ 64
 delay-small n is = let most : n ≤ 255 = grind (arith, nat_tests, is) in omega arith
 
 signal-small : (s : Signal) → is_signal s ≡ true → (s.count < 2 ^ 64) × (s.indicator < 2 ^ 64)
@@ -156,7 +157,7 @@ paired_card word a b few small_a small_b = let short = paired word a b few small
 pub order_cards-short : (a : Asked) → IsWithinLimits a → All IsCard (order_cards a)
 order_cards-short a limits =
     let delays : All IsCard (map (λ d. codes "/DELAYS " ++ decimal d) a.delays) =
-    mapped_short (λ d. codes "/DELAYS " ++ decimal d) (λ n. is_among 1 255 n ≡ true)
+    mapped_short (λ d. codes "/DELAYS " ++ decimal d) (λ n. is_in_range 1 255 n ≡ true)
     (λ n is. labelled_card (codes "/DELAYS ") n (omega arith) (delay-small n is)) a.delays limits.delays.each in
     let signals : All IsCard (map (λ s. codes "/SIGNAL " ++ decimal s.count ++ codes " " ++ decimal s.indicator) a.signals) =
     mapped_short (λ s. codes "/SIGNAL " ++ decimal s.count ++ codes " " ++ decimal s.indicator) (λ s. is_signal s ≡ true)

@@ -8,7 +8,7 @@ use Rattle.st_strap.specs.declared.statement.Statement.{Statement}
 use Rattle.st_object.specs.Object.{Program, IsProgram, AreWords}
 use Rattle.st_asm.specs.Pass.{pass, onward, unless_faulty}
 use Rattle.st_asm.specs.Lines.{silent, saying}
-use Rattle.st_asm.specs.Symbols.{table, accepts_all, is_among, is_defined, names_of}
+use Rattle.st_asm.specs.Symbols.{table, accepts_all, has_name, is_defined, names_of}
 use Rattle.st_asm.specs.Values.{values_of}
 use Rattle.st_asm.specs.Places.{role_of, length_in, needs_earlier}
 use Rattle.st_asm.specs.Naming.{Named, unnamed, is_statement_earlier, name_fault, name_step, name_card, name_pass}
@@ -30,7 +30,7 @@ laid_at here rows = record { image = here.image; start = here.start; rows = rows
 -- both go from a stand to another over lines
 pub record Passed (lines : List Line) (here there : Stand) : Type 0 where
   pub places : List (Option ℕ)
-  pub names : (before : List (Option ℕ)) → pass (name_card (is_among [])) (λ line. line.card) (named_at here before) lines
+  pub names : (before : List (Option ℕ)) → pass (name_card (has_name [])) (λ line. line.card) (named_at here before) lines
       ≡ Ok (named_at there (before ++ places))
   pub rows : List Listed
   pub values : (before : List Listed) → pass (value_card []) (λ p. p.0.card) (laid_at here before) (zip lines places)
@@ -49,10 +49,10 @@ no_fault : (a b : Bool) → a ≡ true → b ≡ true →
 no_fault a b first second = rw (first, second)
 
 no-name_fault : (here : Stand) (places : List (Option ℕ)) (n : ℕ) (s : Statement) → accepts_all (is_defined []) s ≡ true →
-    name_fault (is_among []) (named_at here places) (saying n None s) ≡ None
+    name_fault (has_name []) (named_at here places) (saying n None s) ≡ None
 unfolding name_fault
 no-name_fault here places n s known =
-    no_fault (accepts_all (is_among []) s) (is_statement_earlier [] s) known (earlier s known)
+    no_fault (accepts_all (has_name []) s) (is_statement_earlier [] s) known (earlier s known)
 
 step-named : (here there : Stand) (places : List (Option ℕ)) (n : ℕ) (s : Statement) → Steps s here there →
     name_step (named_at here places) (saying n None s) ≡ named_at there (places ++ place_at here s ∷ [])
@@ -61,7 +61,7 @@ step-named here there places n s steps =
     ap (λ a. record { location = a; symbols = []; places = places ++ place_at here s ∷ [] }) steps.location
 
 spoken-named : (here there : Stand) (places : List (Option ℕ)) (n : ℕ) (s : Statement) → Steps s here there →
-    name_card (is_among []) (named_at here places) (saying n None s) ≡ Ok (named_at there (places ++ place_at here s ∷ []))
+    name_card (has_name []) (named_at here places) (saying n None s) ≡ Ok (named_at there (places ++ place_at here s ∷ []))
 unfolding name_card
 spoken-named here there places n s steps =
     ap (λ o. unless_faulty o (Ok (name_step (named_at here places) (saying n None s)))) (no-name_fault here places n s steps.known)
@@ -87,7 +87,7 @@ spoken-laid here there rows n s steps =
 
 -- a card that says nothing
 silent-named : (here : Stand) (places : List (Option ℕ)) (n : ℕ) →
-    name_card (is_among []) (named_at here places) (silent n) ≡ Ok (named_at here (places ++ None ∷ []))
+    name_card (has_name []) (named_at here places) (silent n) ≡ Ok (named_at here (places ++ None ∷ []))
 unfolding name_card name_fault name_step
 silent-named here places n = refl
 
@@ -107,13 +107,13 @@ none-passed here = record {
 }
 
 more-passed : (line : Line) (lines : List Line) (here next there : Stand) (place : Option ℕ) (row : Listed) →
-    ((before : List (Option ℕ)) → name_card (is_among []) (named_at here before) line ≡ Ok (named_at next (before ++ place ∷ []))) →
+    ((before : List (Option ℕ)) → name_card (has_name []) (named_at here before) line ≡ Ok (named_at next (before ++ place ∷ []))) →
     ((before : List Listed) → value_card [] (laid_at here before) (line, place) ≡ Ok (laid_at next (before ++ row ∷ []))) →
     Passed lines next there → Passed (line ∷ lines) here there
 more-passed line lines here next there place row named laid rest = record {
   places = place ∷ rest.places;
   names = λ before.
-      ap (λ r. onward (λ s. pass (name_card (is_among [])) (λ l. l.card) s lines) line.card r) (named before)
+      ap (λ r. onward (λ s. pass (name_card (has_name [])) (λ l. l.card) s lines) line.card r) (named before)
       ∙ (rest.names (before ++ place ∷ []) ∙ ap (λ k. Ok (named_at there k)) (append_assoc before (place ∷ []) rest.places));
   rows = row ∷ rest.rows;
   values = λ before.
@@ -163,7 +163,7 @@ passed-gives lines words start behind none passed =
     let there = stand behind words start in
     record {
       named = named_at there passed.places;
-      names = ap (λ (ns : List (List ℕ)). pass (name_card (is_among ns)) (λ line. line.card) unnamed lines) none ∙ passed.names [];
+      names = ap (λ (ns : List (List ℕ)). pass (name_card (has_name ns)) (λ line. line.card) unnamed lines) none ∙ passed.names [];
       no_symbols = refl;
       laid = laid_at there passed.rows;
       values = passed.values [];

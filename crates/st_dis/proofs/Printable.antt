@@ -18,10 +18,11 @@ use Rattle.st_format.specs.Halves.{is_full}
 use Rattle.st_format.specs.Formats.{instruction_of, is_valid}
 use Rattle.st_format.specs.declared.instruction.Instr.{Instr}
 use Rattle.st_format.specs.declared.instruction.Instr.TheVariants.{Half, Branch, Floating, Vfl, Connect, Move, BitBranch, IndBranch, StoreCounter, Transfer, Invalid}
-use Rattle.st_card.specs.Pieces.{parted, lacks}
-use Rattle.st_card.specs.Cards.{is_printable, is_column_1, first_column}
+use Rattle.st_text.specs.Pieces.{parted, lacks}
+use Rattle.st_card.specs.Cards.{is_column_1, first_column}
+use Rattle.st_text.specs.Bytes.{is_printable}
 use Rattle.st_object.proofs.ReadBack.{parted_line}
-use Rattle.st_report.specs.Line.{bit_address, half_address, flag, place}
+use Rattle.st_text.specs.Numerals.{bit_address, half_address, flag, place}
 use Rattle.st_object.specs.Object.{Program}
 use Rattle.st_card.specs.Controls.{Asked}
 use Rattle.st_asm.specs.declared.alone.LaidBits.{LaidBits}

@@ -1,7 +1,8 @@
 -- The deck of a program.
 use Rattle.std.specs.Prelude.{ℕ, ◌+◌, ◌==◌, Bool, List, [], ◌∷◌, ◌++◌, length, map, replicate, codes, decimal, if◌then◌else◌}
 use Rattle.std.specs.List.{flat_map}
-use Rattle.st_report.specs.Line.{lf, half_address}
+use Rattle.st_text.specs.Bytes.{lf}
+use Rattle.st_text.specs.Numerals.{half_address}
 use Rattle.st_card.specs.Controls.{Asked}
 use Rattle.st_object.specs.Object.{Program}
 use Rattle.st_dis.specs.Spelling.{statements_of}

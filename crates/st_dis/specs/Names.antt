@@ -8,7 +8,7 @@ use Rattle.st_bits.specs.declared.operations.VflOp.{VflOp}
 use Rattle.st_bits.specs.declared.operations.VflOp.TheVariants.{L, Lwf, Ltrs, Lft, St, Add, AddMg, MAdd, MAddMg, MAdd1, K, Kf, Ke, Kfe, Kr, Kfr, Mul, MulAdd, Div, Lcv}
 use Rattle.st_bits.specs.declared.operations.ConnKind.{ConnKind}
 use Rattle.st_bits.specs.declared.operations.ConnKind.TheVariants.{C, Cm, Ct}
-use Rattle.st_report.specs.Line.{flag}
+use Rattle.st_text.specs.Numerals.{flag}
 
 -- operations of the half-word format
 abbrev pub half_name : HalfOp → List ℕ
@@ -91,10 +91,11 @@ truth_digits truth =
 abbrev pub move_name : Bool → List ℕ
 move_name swap = if swap then codes "SWAP" else codes "T"
 
--- what becomes of a bit on which a branch was tried
+-- what may become of a bit on which a branch was tried, by number
 abbrev pub changes : List (List ℕ)
 changes = [] ∷ codes "Z" ∷ codes "S" ∷ codes "V" ∷ []
 
+-- what becomes of it
 abbrev pub change_name : ℕ → List ℕ
 change_name change = slice_index_or changes change []
 
@@ -112,11 +113,12 @@ mode_name decimal unsigned =
     if decimal then (if unsigned then codes "DU" else codes "D")
     else (if unsigned then codes "BU" else codes "B")
 
--- progressive forms
+-- progressive forms by their numbers
 abbrev pub forms : List (List ℕ)
 forms =
     [] ∷ codes "(IM)" ∷ codes "(V+I)" ∷ codes "(V+IC)" ∷ codes "(V+ICR)" ∷ codes "(V-I)" ∷ codes "(V-IC)"
     ∷ codes "(V-ICR)" ∷ []
 
+-- a progressive form
 abbrev pub form_name : ℕ → List ℕ
 form_name p = slice_index_or forms p []

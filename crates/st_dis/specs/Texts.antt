@@ -1,6 +1,6 @@
 -- The texts of instructions.
 use Rattle.std.specs.Prelude.{ℕ, suc, zero, ◌-◌, ◌/◌, ◌%◌, ◌^◌, ◌==◌, Bool, true, false, List, [], ◌++◌, codes, decimal, if◌then◌else◌}
-use Rattle.st_report.specs.Line.{bit_address, half_address, flag}
+use Rattle.st_text.specs.Numerals.{bit_address, half_address, flag}
 use Rattle.st_bits.specs.declared.operations.HalfOp.{HalfOp}
 use Rattle.st_bits.specs.declared.operations.HalfOp.TheVariants.{Lvs, R, Ex}
 use Rattle.st_bits.specs.declared.operations.BranchOp.{BranchOp}
@@ -17,13 +17,15 @@ index_field j = codes ",$X" ++ decimal j
 abbrev pub index_part : ℕ → List ℕ
 index_part i = if i == 0 then [] else codes "($X" ++ decimal i ++ codes ")"
 
--- a half-word address, a bit address and a second address as fields
+-- a half-word address as a field
 abbrev pub half_field : ℕ → ℕ → List ℕ
 half_field address i = codes "," ++ half_address address ++ index_part i
 
+-- a bit address as a field
 abbrev pub bit_field : ℕ → ℕ → List ℕ
 bit_field address i = codes "," ++ bit_address address ++ index_part i
 
+-- a second address as a field
 abbrev pub second_field : ℕ → List ℕ
 second_field second = codes "," ++ half_address second
 

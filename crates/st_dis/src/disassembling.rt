@@ -2,7 +2,7 @@
 
 ghost use Rattle.std.specs.Prelude.{◌≡◌, ◌≤◌, IfOk, IfErr, length};
 ghost use Rattle.st_object.specs.Object.{IsProgram, AreWords};
-ghost use Rattle.st_dis.specs.Deck.{program, deck_text, card_count as count_of};
+ghost use Rattle.st_dis.specs.Deck.{program, deck_text, card_count};
 ghost use Rattle.st_dis.specs.Answers.{Explains};
 
 use crate::counting::card_count;
@@ -40,7 +40,7 @@ pub fn disassemble(
     ensures deck { let p = program words.now start controls.now in
         IfOk result (λ deck. deck.items ≡ deck_text p) }
     ensures few { let p = program words.now start controls.now in
-        IfOk result (λ deck. count_of p ≤ 20000) }
+        IfOk result (λ deck. card_count p ≤ 20000) }
     ensures err { IfErr result (Explains (program words.now start controls.now)) }
     ensures short { IfOk result (λ deck. length deck.items ≤ 2000000) }
 {

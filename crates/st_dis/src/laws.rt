@@ -1,9 +1,9 @@
 //! What holds of the cards of a deck, and not of one call.
 
 ghost use Rattle.std.specs.Prelude.{◌≡◌, ◌≤◌, ◌<◌, ◌*◌, ◌^◌, ◌++◌, ℕ, [], ◌∷◌, All, map, true, false, None, Some, Ok};
-ghost use Rattle.st_text.specs.Bytes.{line_end};
-ghost use Rattle.st_card.specs.Cards.{is_printable, text_in, cards_of};
-ghost use Rattle.st_card.specs.Pieces.{parted};
+ghost use Rattle.st_text.specs.Bytes.{line_end, is_printable};
+ghost use Rattle.st_card.specs.Cards.{text_in, cards_of};
+ghost use Rattle.st_text.specs.Pieces.{parted};
 ghost use Rattle.st_card.specs.Controls.{Asked, nothing};
 ghost use Rattle.st_card.specs.Limits.{IsWithinLimits};
 ghost use Rattle.st_strap.specs.Reading.{number_expr};

@@ -1,4 +1,4 @@
-//! The disassembler: a program in storage as a deck that assembles to it. `docs/disassembly.md` has the rules.
+//! The disassembler: a program in storage as a deck that assembles to it, by the rules of `docs/disassembly.md`.
 #![tactic(auto)]
 
 mod counting;

@@ -1,7 +1,7 @@
 //! The words by which instructions name their operations.
 
 ghost use Rattle.std.specs.Prelude.{◌≡◌, ◌≤◌, length};
-ghost use Rattle.st_report.specs.Line.{flag};
+ghost use Rattle.st_text.specs.Numerals.{flag};
 ghost use Rattle.st_dis.specs.Names as spec;
 
 use st_bits::{BranchOp, ConnKind, HalfOp, VflOp};

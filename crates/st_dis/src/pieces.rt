@@ -7,19 +7,10 @@ ghost use Rattle.st_dis.specs.Texts as spec;
 
 use crate::names::{digit, form_name, mode_name};
 use itoa::Buffer;
-use st_report::Line;
-
-// Appends a number of at most ten decimal digits.
-pub(crate) fn push_number(line: &mut Line, n: u32)
-    requires { array_string_len line.old + 10 ≤ 128 }
-    ensures text { line.new.bytes ≡ line.old.bytes ++ decimal n }
-    ensures room { array_string_len line.new ≤ array_string_len line.old + 10 }
-{
-    line.push_str(Buffer::new().format(n));
-}
+use st_text::{Line, push_bit_address, push_half_address, push_short_decimal};
 
 // Appends a number below 256.
-pub(crate) fn push_small(line: &mut Line, n: u8)
+fn push_small(line: &mut Line, n: u8)
     requires { array_string_len line.old + 3 ≤ 128 }
     ensures text { line.new.bytes ≡ line.old.bytes ++ decimal n }
     ensures room { array_string_len line.new ≤ array_string_len line.old + 3 }
@@ -58,9 +49,7 @@ pub(crate) fn push_second_field(line: &mut Line, second: u32)
     ensures room { array_string_len line.new ≤ array_string_len line.old + 15 }
 {
     line.push_str(",");
-    push_number(line, second / 2);
-    line.push_str(".");
-    push_small(line, 32 * (second % 2) as u8);
+    push_half_address(line, second);
 }
 
 // Appends a half-word address as a field.
@@ -80,9 +69,7 @@ pub(crate) fn push_bit_field(line: &mut Line, address: u32, i: u8)
     ensures room { array_string_len line.new ≤ array_string_len line.old + 22 }
 {
     line.push_str(",");
-    push_number(line, address / 64);
-    line.push_str(".");
-    push_small(line, (address % 64) as u8);
+    push_bit_address(line, address);
     push_index_part(line, i);
 }
 
@@ -93,7 +80,7 @@ pub(crate) fn push_number_field(line: &mut Line, n: u32)
     ensures room { array_string_len line.new ≤ array_string_len line.old + 11 }
 {
     line.push_str(",");
-    push_number(line, n);
+    push_short_decimal(line, n);
 }
 
 // Appends an offset as a field, where it is not 0.

@@ -8,7 +8,7 @@ use crate::texts::text_of;
 use st_asm::{LaidBits, laid_alone};
 use st_expr::Symbols;
 use st_format::{Instr, decode};
-use st_report::Line;
+use st_text::Line;
 
 // The most characters that a statement has on a card.
 const MOST_CHARACTERS: usize = 63;

@@ -13,8 +13,7 @@ use crate::pieces::{
 };
 use st_bits::{BranchOp, HalfOp};
 use st_format::Instr;
-use st_report::Line;
-use st_report::pieces::begun;
+use st_text::{Line, begun};
 
 // An instruction on an index word.
 fn half_text(op: HalfOp, address: u32, j: u8, i: u8) -> Line

@@ -4,12 +4,10 @@ ghost use Rattle.std.specs.Prelude.{◌≡◌, ◌≤◌, ◌++◌, [], ◌∷�
 ghost use Rattle.st_dis.specs.Deck as spec;
 ghost use Rattle.st_dis.specs.Spelling.{statements_of};
 
-use crate::pieces::{push_number, push_small};
 use crate::spelling::{half_spelling, left_half, right_half, word_spelling};
 use st_card::{Controls, Signal};
 use st_expr::Symbols;
-use st_report::Line;
-use st_report::pieces::{begun, push_decimal};
+use st_text::{Line, begun, push_decimal, push_half_address, push_short_decimal};
 use std::alloc::AllocError;
 
 // The columns before a statement.
@@ -71,7 +69,7 @@ fn push_location(deck: &mut Vec<u8>, w: u32, before: u64) -> Result<(), AllocErr
         return Ok(());
     }
     let mut text = begun("SLC,");
-    push_number(&mut text, w);
+    push_short_decimal(&mut text, w);
     text.push_str(".0");
     push_statement(deck, &text)
 }
@@ -121,9 +119,7 @@ fn push_end(deck: &mut Vec<u8>, start: u32) -> Result<(), AllocError>
         ≡ deck.old.items ++ spec.deck_of (spec.statement_card (spec.end_text start) ∷ [])) }
 {
     let mut text = begun("END,");
-    push_number(&mut text, start / 2);
-    text.push_str(".");
-    push_small(&mut text, 32 * (start % 2) as u8);
+    push_half_address(&mut text, start);
     push_statement(deck, &text)
 }
 

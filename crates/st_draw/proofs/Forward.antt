@@ -3,7 +3,8 @@ use Rattle.std.proofs.Common.{◌≡◌, ◌≤◌, refl, ℕ, nat_le, Bool, tru
 use Rattle.std.proofs.lemmas.Bool.{leb-true, leb-false}
 use Rattle.st_draw.specs.Moments.{inserted, in_order}
 use Rattle.st_draw.specs.Terminal.{plain, plain_byte}
-use Rattle.st_draw.specs.WellFormed.{GoForward, is_printable}
+use Rattle.st_text.specs.Bytes.{is_printable, is_printable_byte}
+use Rattle.st_draw.specs.WellFormed.{GoForward}
 use Rattle.st_draw.specs.declared.moments.Moment.{Moment}
 use Rattle.std.specs.List.{list_all}
 
@@ -30,12 +31,12 @@ in_order_forward [] = tt
 in_order_forward (m ∷ ms) = inserted_forward 0 m (in_order ms) (omega arith) (in_order_forward ms)
 
 -- a byte as a terminal may show it, by the test on it
-byte_by : (shown : Bool) (c : ℕ) → is_printable c ≡ shown → is_printable (plain_byte c) ≡ true
+byte_by : (shown : Bool) (c : ℕ) → is_printable_byte c ≡ shown → is_printable_byte (plain_byte c) ≡ true
 byte_by true c test = rw test test
 byte_by false c test = rw test refl
 
 -- a text as a terminal may show it
-pub plain_printable : (text : List ℕ) → list_all is_printable (plain text) ≡ true
+pub plain_printable : (text : List ℕ) → is_printable (plain text) ≡ true
 plain_printable [] = refl
 plain_printable (c ∷ cs) =
-    let here = byte_by (is_printable c) c refl in let there = plain_printable cs in rw (here, there) refl
+    let here = byte_by (is_printable_byte c) c refl in let there = plain_printable cs in rw (here, there) refl

@@ -1,18 +1,14 @@
 -- The text of a card, from the listing at the front of a report.
 use Rattle.std.specs.Prelude.{ℕ, ◌==◌, ◌&&◌, not, Bool, false, if◌then◌else◌, List, [], ◌∷◌, take, drop, Option, None, Some}
 use Rattle.std.specs.Option.{is_some}
-use Rattle.st_card.specs.Pieces.{parted}
+use Rattle.st_text.specs.Blanks.{without_front_blanks}
+use Rattle.st_text.specs.Pieces.{parted}
 use Rattle.st_draw.specs.Report.{number, place}
 use Rattle.st_draw.specs.declared.report.Place.{Place}
 
--- a text without the blanks at its front
-abbrev pub unindented : List ℕ → List ℕ
-unindented [] = []
-unindented (c ∷ cs) = if c == 32 then unindented cs else c ∷ cs
-
 -- whether a line is one of the listing: it begins with a number, at the right of five places
 unfoldable pub is_listed : List ℕ → Bool
-is_listed line = is_some (number (unindented (take 5 line)))
+is_listed line = is_some (number (without_front_blanks (take 5 line)))
 
 -- whether a place was read, and is this one
 abbrev pub is_place : Option Place → Place → Bool
@@ -26,11 +22,11 @@ is_filled (c ∷ cs) = not (c == 32)
 
 -- whether the card of a listed line lays bits at a place
 unfoldable pub lays : List ℕ → Place → Bool
-lays line here = is_place (place (unindented (take 9 (drop 6 line)))) here && is_filled (drop 16 line)
+lays line here = is_place (place (without_front_blanks (take 9 (drop 6 line)))) here && is_filled (drop 16 line)
 
 -- the front of the card's text
 unfoldable pub card_text : List ℕ → List ℕ
-card_text line = take 24 (unindented (drop 33 line))
+card_text line = take 24 (without_front_blanks (drop 33 line))
 
 -- the text of the first card of a listing that lays bits at a place
 abbrev pub card_at : Place → List (List ℕ) → List ℕ

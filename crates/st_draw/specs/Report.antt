@@ -2,10 +2,8 @@
 use Rattle.std.specs.Prelude.{ℕ, ◌-◌, ◌^◌, nat_eq, ◌&&◌, Bool, if◌then◌else◌, List, [], get_or, codes, Option, None, Some}
 use Rattle.std.specs.Option.{option_map, option_and_then}
 use Rattle.std.specs.Cmp.Lexicographic.{pointwise}
-use Rattle.st_card.specs.Number.{reading}
-use Rattle.st_card.specs.Pieces.{parted}
-use Rattle.st_card.specs.declared.numbers.Reading.{Reading}
-use Rattle.st_card.specs.declared.numbers.Reading.TheVariants.{Bad, Large, Good}
+use Rattle.st_text.specs.Number.{number_up_to}
+use Rattle.st_text.specs.Pieces.{parted}
 use Rattle.st_draw.specs.declared.report.Item.{Item}
 use Rattle.st_draw.specs.declared.report.Item.TheVariants.{Row, Drop, Interrupt, Snapshot}
 use Rattle.st_draw.specs.declared.report.Place.{Place}
@@ -18,15 +16,9 @@ piece at text k = get_or (parted at text) k []
 unfoldable pub word : List ℕ → ℕ → List ℕ
 word line k = piece 32 line k
 
--- what was read, where it is a number
-abbrev pub good : Reading → Option ℕ
-good Bad = None
-good Large = None
-good (Good n) = Some n
-
 -- the number that a word is, if it is one and fits 64 bits
 unfoldable pub number : List ℕ → Option ℕ
-number text = good (reading (2 ^ 64 - 1) text)
+number text = number_up_to (2 ^ 64 - 1) text
 
 -- the place that a word is, written as word.bit
 unfoldable pub place : List ℕ → Option Place

@@ -1,6 +1,6 @@
 -- The timetable that the lines of a report tell, as far as a part of it is asked for.
 use Rattle.std.specs.Prelude.{ℕ, nat_le, nat_lt, ◌&&◌, Bool, if◌then◌else◌, List, [], ◌∷◌, ◌++◌, reverse, Option, None, Some}
-use Rattle.st_card.specs.Pieces.{parted}
+use Rattle.st_text.specs.Pieces.{parted}
 use Rattle.st_io.specs.Count.{counted}
 use Rattle.st_draw.specs.Report.{item}
 use Rattle.st_draw.specs.declared.report.Item.{Item}

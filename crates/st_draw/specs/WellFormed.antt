@@ -1,12 +1,13 @@
 -- What holds of every picture: its elements are known ones, each is closed, and no text breaks out of its element; and of every
 -- log: its ticks go forward, and no label breaks out of its line.
-use Rattle.std.specs.Prelude.{◌≡◌, ◌⊎◌, ℕ, ◌==◌, ◌≤◌, ◌&&◌, not, nat_le, Bool, true, List, [], ◌∷◌, ◌++◌, ⊤, codes}
+use Rattle.std.specs.Prelude.{◌≡◌, ◌⊎◌, ℕ, ◌==◌, ◌≤◌, ◌&&◌, not, Bool, true, List, [], ◌∷◌, ◌++◌, ⊤, codes}
 use Rattle.std.specs.List.{list_all}
+use Rattle.st_text.specs.Bytes.{is_printable_byte}
 use Rattle.st_draw.specs.declared.moments.Moment.{Moment}
 
 -- whether a byte is a printable character that begins or ends no element
 abbrev pub is_inner : ℕ → Bool
-is_inner c = nat_le 32 c && nat_le c 126 && not (c == 60) && not (c == 62)
+is_inner c = is_printable_byte c && not (c == 60) && not (c == 62)
 
 -- whether a text has such bytes alone
 abbrev pub are_inner : List ℕ → Bool
@@ -27,10 +28,6 @@ pub record IsFull (name bytes : List ℕ) : Type 0 where
 -- one of the known elements, closed
 abbrev pub IsClosed : List ℕ → Type 0
 IsClosed bytes = IsEmpty (codes "rect") bytes ⊎ IsEmpty (codes "line") bytes ⊎ IsFull (codes "text") bytes
-
--- whether a byte is a printable character
-abbrev pub is_printable : ℕ → Bool
-is_printable c = nat_le 32 c && nat_le c 126
 
 -- moments that come after a tick, or at it, and none before the one that stands before it
 abbrev pub GoForward : ℕ → List Moment → Type 0

@@ -3,9 +3,10 @@ ghost use Rattle.std.specs.Prelude.{◌≡◌, IfOk, decimal};
 ghost use Rattle.st_draw.specs.Caption as spec;
 
 use crate::element::push_decimal;
-use crate::label::{behind, front, label_at};
+use crate::label::label_at;
 use crate::report::Place;
 use crate::timetable::Entry;
+use st_text::{behind, front};
 use std::alloc::{AllocError, Global};
 
 // The names of the indicators 0 to 63, each in four places.

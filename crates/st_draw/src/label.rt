@@ -1,48 +1,17 @@
 //! The text of a card, from the listing at the front of a report.
-ghost use Rattle.std.specs.Prelude.{◌≡◌, take, drop};
+ghost use Rattle.std.specs.Prelude.{◌≡◌};
 ghost use Rattle.st_draw.specs.Label as spec;
 ghost use Rattle.st_draw.specs.Report.{place};
 
 use crate::report::{Place, number, place_of};
-use st_card::cut;
-
-/// The first n bytes of a text, or all of it.
-pub fn front(text: &[u8], n: usize) -> &[u8]
-    ensures { result.now ≡ take n text.now }
-{
-    if text.len() <= n {
-        return text;
-    }
-    text.split_at(n).0
-}
-
-/// What stands behind the first n bytes of a text.
-pub fn behind(text: &[u8], n: usize) -> &[u8]
-    ensures { result.now ≡ drop n text.now }
-{
-    if text.len() <= n {
-        return &[];
-    }
-    text.split_at(n).1
-}
-
-// A text without the blanks at its front.
-fn unindented(text: &[u8]) -> &[u8]
-    ensures { result.now ≡ spec.unindented text.now }
-{
-    let mut rest = text;
-    'blanks: while let [b' ', after @ ..] = rest {
-        rest = after;
-    }
-    rest
-}
+use st_text::{behind, cut, front, without_front_blanks};
 
 // Whether a line is one of the listing: it begins with a number, at the right of five places.
 #[tactic(auto, unfolding(crate::specs::Label::is_listed))]
 fn is_listed(line: &[u8]) -> bool
     ensures { result ≡ spec.is_listed line.now }
 {
-    number(unindented(front(line, 5))).is_some()
+    number(without_front_blanks(front(line, 5))).is_some()
 }
 
 // Whether a text spells a place.
@@ -70,7 +39,7 @@ fn is_filled(text: &[u8]) -> bool
 fn lays(line: &[u8], here: Place) -> bool
     ensures { result ≡ spec.lays line.now here }
 {
-    is_place(unindented(front(behind(line, 6), 9)), here) && is_filled(behind(line, 16))
+    is_place(without_front_blanks(front(behind(line, 6), 9)), here) && is_filled(behind(line, 16))
 }
 
 // The front of the text of a listed card.
@@ -78,7 +47,7 @@ fn lays(line: &[u8], here: Place) -> bool
 fn card_text(line: &[u8]) -> &[u8]
     ensures { result.now ≡ spec.card_text line.now }
 {
-    front(unindented(behind(line, 33)), 24)
+    front(without_front_blanks(behind(line, 33)), 24)
 }
 
 /// The text of the card that lays what stands at a place; nothing, where the report has no listing of it.

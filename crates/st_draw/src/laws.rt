@@ -5,7 +5,8 @@ ghost use Rattle.st_draw.specs.Element.{Element, element_text};
 ghost use Rattle.st_draw.specs.Escape.{escaped};
 ghost use Rattle.st_draw.specs.Moments.{happenings};
 ghost use Rattle.st_draw.specs.Terminal.{plain};
-ghost use Rattle.st_draw.specs.WellFormed.{are_inner, is_printable, GoForward, IsClosed};
+ghost use Rattle.st_text.specs.Bytes.{is_printable};
+ghost use Rattle.st_draw.specs.WellFormed.{are_inner, GoForward, IsClosed};
 ghost use Rattle.st_draw.specs.declared.timetable.Entry.{Entry};
 
 /// A text as it stands in a picture is printable, and begins or ends no element.
@@ -25,5 +26,5 @@ pub fn logs_go_forward()
 
 /// The label of an entry in a log is printable, and so stays in its line.
 pub fn labels_stay_in_their_lines()
-    ensures { (text : List ℕ) → list_all is_printable (plain text) ≡ true }
+    ensures { (text : List ℕ) → is_printable (plain text) ≡ true }
 {}

@@ -2,7 +2,7 @@
 ghost use Rattle.std.specs.Prelude.{◌≡◌};
 ghost use Rattle.st_draw.specs.Report as spec;
 
-use st_card::{Reading, cut, read_number};
+use st_text::{cut, number_up_to};
 
 /// An address: a word, and a bit of it.
 #[derive(Clone, Copy)]
@@ -63,10 +63,7 @@ pub fn word(line: &[u8], k: usize) -> &[u8]
 pub fn number(text: &[u8]) -> Option<u64>
     ensures { result ≡ spec.number text.now }
 {
-    match read_number(text, u64::MAX) {
-        Reading::Good(n) => Some(n),
-        _ => None,
-    }
+    number_up_to(text, u64::MAX)
 }
 
 /// The place that a word is, written as word.bit.

@@ -2,10 +2,10 @@
 ghost use Rattle.std.specs.Prelude.{◌≡◌, ◌++◌, IfOk, [], reverse};
 ghost use Rattle.st_draw.specs.Timetable as spec;
 ghost use Rattle.st_draw.specs.Timetable.{kept_by};
-ghost use Rattle.st_card.specs.Pieces.{parted};
+ghost use Rattle.st_text.specs.Pieces.{parted};
 
 use crate::report::{Item, Place, item_of};
-use st_card::cut;
+use st_text::cut;
 use std::alloc::{AllocError, Global};
 
 /// The rows that are asked for, by their numbers.

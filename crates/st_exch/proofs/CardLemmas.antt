@@ -4,7 +4,7 @@ use Rattle.std.proofs.Common.{◌≡◌, ℕ, zero, suc, ◌+◌, ◌<◌, ◌^�
 use Rattle.std.proofs.lemmas.List.Elements.{All-nil, All-cons, All-head, All-tail}
 use Rattle.st_card.specs.Cards.{cards_of, text_in}
 use Rattle.st_card.specs.declared.cards.Card.{Card}
-use Rattle.st_exch.specs.Reader.{column, word_from, words_read, is_comment, behind_statements, texts_in, reader_cards}
+use Rattle.st_exch.specs.Reader.{column, word_from, card_words, is_comment, behind_statements, texts_in, reader_cards}
 
 abbrev AreBytes : List ℕ → Type 0
 AreBytes = All (λ x. x < 256)
@@ -39,16 +39,16 @@ word-below text c are =
     let at : (k : ℕ) → column text k < 256 = λ k. item-below text _ are in
     omega (arith, at c, at (c + 1), at (c + 2), at (c + 3), at (c + 4), at (c + 5), at (c + 6), at (c + 7))
 
-words-size : (text : List ℕ) → length (words_read text) ≡ 8
-unfolding words_read
+words-size : (text : List ℕ) → length (card_words text) ≡ 8
+unfolding card_words
 words-size text = refl
 
 all-map : {A B : Type 0} (P : B → Type 0) (f : A → B) (xs : List A) → ((x : A) → P (f x)) → All P (map f xs)
 all-map P f [] each = All-nil P
 all-map P f (x ∷ xs) each = All-cons P (f x) (map f xs) (each x) (all-map P f xs each)
 
-words-below : (text : List ℕ) → AreBytes text → AreWords (words_read text)
-unfolding words_read
+words-below : (text : List ℕ) → AreBytes text → AreWords (card_words text)
+unfolding card_words
 words-below text are =
     all-map (λ (x : ℕ). x < 2 ^ 64) (word_from text) (2 ∷ 10 ∷ 18 ∷ 26 ∷ 34 ∷ 42 ∷ 50 ∷ 58 ∷ []) (λ c. word-below text c are)
 
@@ -57,12 +57,12 @@ words-below text are =
 pub cards-size : (job : List ℕ) → All (λ (card : List ℕ). length card ≡ 8) (reader_cards job)
 unfolding reader_cards texts_in
 cards-size job =
-    all-map (λ (card : List ℕ). length card ≡ 8) (λ (card : Card). words_read (text_in job card))
+    all-map (λ (card : List ℕ). length card ≡ 8) (λ (card : Card). card_words (text_in job card))
     (filter (λ (card : Card). is_comment card.kind) (behind_statements (cards_of job))) (λ card. words-size (text_in job card))
 
 pub cards-below : (job : List ℕ) → All (λ x. x < 256) job → All (All (λ x. x < 2 ^ 64)) (reader_cards job)
 unfolding reader_cards texts_in
 cards-below job are =
-    all-map AreWords (λ (card : Card). words_read (text_in job card))
+    all-map AreWords (λ (card : Card). card_words (text_in job card))
     (filter (λ (card : Card). is_comment card.kind) (behind_statements (cards_of job)))
     (λ card. words-below (text_in job card) (bytes-take card.len (drop card.start job) (bytes-drop card.start job are)))

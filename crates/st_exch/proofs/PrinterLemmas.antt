@@ -3,7 +3,7 @@ use Rattle.std.proofs.Common.{◌≡◌, ◌-◌, ◌==◌, ◌&&◌, ℕ, zero,
 use Rattle.std.proofs.lemmas.Bool.{and_from as all-both}
 use Rattle.std.proofs.lemmas.List.Folds.{list_all-append}
 use Rattle.std.specs.List.{flat_map, suffix_len}
-use Rattle.st_card.specs.Cards.{is_printable}
+use Rattle.st_text.specs.Bytes.{is_printable}
 use Rattle.st_exch.specs.Printer.{bytes_of, character, characters_of, printed}
 
 is_character : ℕ → Bool

@@ -1,7 +1,7 @@
 -- What the printer prints of eight words.
-use Rattle.std.specs.Prelude.{ℕ, ◌&&◌, nat_le, if◌then◌else◌, List, [], ◌∷◌, map}
+use Rattle.std.specs.Prelude.{ℕ, if◌then◌else◌, List, [], ◌∷◌, map}
 use Rattle.std.specs.List.{flat_map}
-use Rattle.st_text.specs.Bytes.{blank, tilde}
+use Rattle.st_text.specs.Bytes.{blank, is_printable_byte}
 use Rattle.st_bits.specs.Bits.{part}
 use Rattle.st_text.specs.Blanks.{without_end_blanks}
 
@@ -12,7 +12,7 @@ bytes_of x =
 
 -- a byte that has no character is a blank
 abbrev pub character : ℕ → ℕ
-character b = if nat_le blank b && nat_le b tilde then b else blank
+character b = if is_printable_byte b then b else blank
 
 -- the characters of a word
 unfoldable pub characters_of : ℕ → List ℕ

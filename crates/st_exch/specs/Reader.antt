@@ -18,16 +18,18 @@ word_from text c =
     + column text (c + 4) * 2 ^ 24 + column text (c + 5) * 2 ^ 16 + column text (c + 6) * 2 ^ 8 + column text (c + 7)
 
 -- the words that the reader reads of a card: its columns 2 to 65
-unfoldable pub words_read : List ℕ → List ℕ
-words_read text =
+unfoldable pub card_words : List ℕ → List ℕ
+card_words text =
     word_from text 2 ∷ word_from text 10 ∷ word_from text 18 ∷ word_from text 26
     ∷ word_from text 34 ∷ word_from text 42 ∷ word_from text 50 ∷ word_from text 58 ∷ []
 
+-- whether a card is a comment card
 abbrev pub is_comment : CardKind → Bool
 is_comment Comment = true
 is_comment Control = false
 is_comment Statement = false
 
+-- whether a card is a statement card
 abbrev pub is_statement : CardKind → Bool
 is_statement Comment = false
 is_statement Control = false
@@ -45,7 +47,7 @@ behind_statements (card ∷ cards) =
 
 -- what is read of the comment cards behind the last statement card
 unfoldable pub texts_in : List ℕ → List Card → List (List ℕ)
-texts_in job cards = map (λ card. words_read (text_in job card)) (filter (λ card. is_comment card.kind) (behind_statements cards))
+texts_in job cards = map (λ card. card_words (text_in job card)) (filter (λ card. is_comment card.kind) (behind_statements cards))
 
 -- the cards that the reader holds of a job
 unfoldable pub reader_cards : List ℕ → List (List ℕ)

@@ -1,6 +1,6 @@
 //! The cards that stand in the card reader.
 
-ghost use Rattle.std.specs.Prelude.{◌≡◌, ◌+◌, ◌^◌, ◌<◌, ◌≤◌, List, [], ◌∷◌, ◌++◌, length, MatchOption, IfOk, OnOk};
+ghost use Rattle.std.specs.Prelude.{◌≡◌, ◌+◌, ◌-◌, ◌^◌, ◌<◌, ◌≤◌, ℕ, List, [], ◌∷◌, ◌++◌, length, take, drop, MatchOption, IfOk, OnOk};
 ghost use Rattle.st_card.specs.Cards.{IsCardOf, cards_of};
 ghost use Rattle.st_card.specs.declared.cards.Card.{Card as CardRow};
 ghost use Rattle.st_exch.specs.Reader as spec;
@@ -59,7 +59,8 @@ impl Hopper {
     {
         cards_stand_in_their_job();
         let mut waiting = VecDeque::new(alloc);
-        for card in cards {
+        let behind = behind_statements(cards);
+        for card in behind {
             stack(&mut waiting, job, *card)?;
         }
         Ok(Hopper {
@@ -76,6 +77,33 @@ impl Hopper {
     }
 }
 
+// The cards behind the last statement card. None of those before it is left to the reader.
+fn behind_statements(cards: &[Card]) -> &[Card]
+    ensures back { result.now ≡ drop (length cards.now - length result.now) cards.now }
+    ensures within { length result.now ≤ length cards.now }
+    ensures before { (job : List ℕ) →
+        spec.texts_in job (take (length cards.now - length result.now) cards.now) ≡ [] }
+{
+    let mut count = cards.len();
+    'cards: while count > 0 {
+        if is_statement(cards[count - 1].kind) {
+            return cards.split_at(count).1;
+        }
+        count -= 1;
+    }
+    cards
+}
+
+// Whether a card is a statement card.
+fn is_statement(kind: CardKind) -> bool
+    ensures { result ≡ spec.is_statement kind }
+{
+    match kind {
+        CardKind::Statement => true,
+        CardKind::Comment | CardKind::Control => false,
+    }
+}
+
 // Goes on by a card: a comment card waits behind the others, and a statement card takes them away.
 fn stack(waiting: &mut VecDeque<[u64; 8]>, job: &[u8], card: Card) -> Result<(), NoMemory>
     requires { IsCardOf job.now card }
@@ -83,7 +111,7 @@ fn stack(waiting: &mut VecDeque<[u64; 8]>, job: &[u8], card: Card) -> Result<(),
         → OnOk result (waiting.new.items ≡ spec.texts_in job.now (cards ++ card ∷ [])) }
 {
     match card.kind {
-        CardKind::Comment => push_card(waiting, words_read(card.text(job)))?,
+        CardKind::Comment => push_card(waiting, card_words(card.text(job)))?,
         CardKind::Control => {}
         CardKind::Statement => waiting.clear(),
     }
@@ -98,9 +126,9 @@ fn push_card(cards: &mut VecDeque<[u64; 8]>, card: [u64; 8]) -> Result<(), NoMem
 }
 
 // The eight words that the reader reads of a card's text.
-#[tactic(auto, unfolding(crate::specs::Reader::words_read))]
-fn words_read(text: &[u8]) -> [u64; 8]
-    ensures { result ≡ spec.words_read text.now }
+#[tactic(auto, unfolding(crate::specs::Reader::card_words))]
+fn card_words(text: &[u8]) -> [u64; 8]
+    ensures { result ≡ spec.card_words text.now }
 {
     [
         word_from(text, 2),

@@ -1,4 +1,5 @@
 //! What holds of the cards that the reader holds of a job.
+
 ghost use Rattle.std.specs.Prelude.{◌≡◌, ◌<◌, ◌^◌, ℕ, List, length, All};
 ghost use Rattle.st_exch.specs.Reader.{reader_cards};
 

@@ -2,12 +2,11 @@
 
 ghost use Rattle.std.specs.Prelude.{◌≡◌, ◌+◌, ◌<◌, ◌≤◌, ◌++◌, IsTrue};
 ghost use Rattle.arrayvec.specs.ArrayString.{array_string_len};
-ghost use Rattle.st_card.specs.Cards.{is_printable};
-ghost use Rattle.st_text.specs.Blanks.{without_end_blanks};
+ghost use Rattle.st_text.specs.Bytes.{is_printable};
 ghost use Rattle.st_exch.specs.Printer as spec;
 
 use arrayvec::ArrayString;
-use st_text::filled_len;
+use st_text::drop_end_blanks;
 
 /// The text that the printer prints of eight words: their 64 bytes, the leftmost first, with a blank
 /// in place of each byte outside 32 to 126, and without the blanks at the end. It may be empty.
@@ -43,14 +42,6 @@ fn character(byte: u8) -> u8
         b' '..=b'~' => byte,
         _ => b' ',
     }
-}
-
-// Drops the blanks at the end of a text.
-fn drop_end_blanks(text: &mut ArrayString<64>)
-    ensures { text.new.bytes ≡ without_end_blanks text.old.bytes }
-{
-    let filled = filled_len(text.as_str().as_bytes());
-    text.truncate(filled);
 }
 
 #[cfg(test)]

@@ -1,7 +1,7 @@
 -- Places with more than two parts.
 use Rattle.std.proofs.Common.{◌≡◌, ℕ, List, ◌∷◌, ap, sym, ◌∙◌}
-use Rattle.st_card.specs.Pieces.{parted}
-use Rattle.st_card.proofs.PieceLemmas.{first_piece}
+use Rattle.st_text.specs.Pieces.{parted}
+use Rattle.st_text.proofs.PieceLemmas.{first_piece}
 use Rattle.st_expr.specs.Term.{place_of}
 use Rattle.st_expr.specs.declared.terms.AtomReading.TheVariants.{Bad}
 

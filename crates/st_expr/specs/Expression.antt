@@ -35,6 +35,7 @@ term_in minus (Good atom) = Some (record { minus = minus; atom = atom })
 term_in minus Large = None
 term_in minus Bad = None
 
+-- the term that a part with its sign says
 abbrev pub term_of : Bool × List ℕ → Option Term
 term_of part = term_in part.0 (atom_of part.1)
 
@@ -50,12 +51,15 @@ is_large Large = true
 is_large Bad = false
 is_large (Good atom) = false
 
+-- whether any part says nothing
 abbrev pub any_bad : List (Bool × List ℕ) → Bool
 any_bad parts = list_any (λ part. is_bad (atom_of part.1)) parts
 
+-- whether any part is such a number
 abbrev pub any_large : List (Bool × List ℕ) → Bool
 any_large parts = list_any (λ part. is_large (atom_of part.1)) parts
 
+-- the terms that parts say
 abbrev pub terms_of : List (Bool × List ℕ) → List Term
 terms_of parts = filter_map term_of parts
 

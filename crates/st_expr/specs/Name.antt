@@ -3,7 +3,7 @@ use Rattle.std.specs.Prelude.{ℕ, ◌-◌, ◌==◌, ◌&&◌, ◌||◌, Bool, 
 use Rattle.std.specs.Char.{is_ascii_digit, is_ascii_uppercase}
 use Rattle.std.specs.List.{list_all}
 use Rattle.st_text.specs.Bytes.{blank, dollar}
-use Rattle.st_card.specs.Number.{is_filled}
+use Rattle.st_text.specs.Number.{is_filled}
 
 -- whether a byte may stand in a name
 abbrev pub is_name_byte : ℕ → Bool

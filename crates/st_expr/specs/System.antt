@@ -8,8 +8,8 @@ abbrev pub bit : ℕ → ℕ → ℕ
 bit w b = 64 * w + b
 
 -- an index word as a bit address
-abbrev pub index_word : ℕ → ℕ
-index_word j = bit (FIRST_INDEX_WORD + j) 0
+abbrev pub index_word_address : ℕ → ℕ
+index_word_address j = bit (FIRST_INDEX_WORD + j) 0
 
 -- an indicator as a bit address
 abbrev pub indicator : ℕ → ℕ
@@ -27,12 +27,12 @@ registers =
 -- the index words
 abbrev pub index_words : List (List ℕ × ℕ)
 index_words =
-    (codes "$X0", index_word 0) ∷ (codes "$X1", index_word 1) ∷ (codes "$X2", index_word 2)
-    ∷ (codes "$X3", index_word 3) ∷ (codes "$X4", index_word 4) ∷ (codes "$X5", index_word 5)
-    ∷ (codes "$X6", index_word 6) ∷ (codes "$X7", index_word 7) ∷ (codes "$X8", index_word 8)
-    ∷ (codes "$X9", index_word 9) ∷ (codes "$X10", index_word 10) ∷ (codes "$X11", index_word 11)
-    ∷ (codes "$X12", index_word 12) ∷ (codes "$X13", index_word 13) ∷ (codes "$X14", index_word 14)
-    ∷ (codes "$X15", index_word 15) ∷ []
+    (codes "$X0", index_word_address 0) ∷ (codes "$X1", index_word_address 1) ∷ (codes "$X2", index_word_address 2)
+    ∷ (codes "$X3", index_word_address 3) ∷ (codes "$X4", index_word_address 4) ∷ (codes "$X5", index_word_address 5)
+    ∷ (codes "$X6", index_word_address 6) ∷ (codes "$X7", index_word_address 7) ∷ (codes "$X8", index_word_address 8)
+    ∷ (codes "$X9", index_word_address 9) ∷ (codes "$X10", index_word_address 10) ∷ (codes "$X11", index_word_address 11)
+    ∷ (codes "$X12", index_word_address 12) ∷ (codes "$X13", index_word_address 13) ∷ (codes "$X14", index_word_address 14)
+    ∷ (codes "$X15", index_word_address 15) ∷ []
 
 -- the indicators
 abbrev pub indicators : List (List ℕ × ℕ)

@@ -3,11 +3,11 @@ use Rattle.std.specs.Prelude.{◌≡◌, ℕ, ◌+◌, ◌*◌, false, List, [],
 use Rattle.std.specs.Option.{option_map_or}
 use Rattle.st_expr.specs.declared.terms.TheConstants.{LAST_ADDRESS, LAST_BIT}
 use Rattle.st_text.specs.Bytes.{period}
-use Rattle.st_card.specs.Number.{reading}
-use Rattle.st_card.specs.Pieces.{parted}
-use Rattle.st_card.specs.Tables.{row_of}
-use Rattle.st_card.specs.declared.numbers.Reading.{Reading}
-use Rattle.st_card.specs.declared.numbers.Reading.TheVariants.{Bad, Large, Good}
+use Rattle.st_text.specs.Number.{reading}
+use Rattle.st_text.specs.Pieces.{parted}
+use Rattle.st_text.specs.Tables.{row_of}
+use Rattle.st_text.specs.declared.numbers.Reading.{Reading}
+use Rattle.st_text.specs.declared.numbers.Reading.TheVariants.{Bad, Large, Good}
 use Rattle.st_expr.specs.Name.{is_name, is_system_word, padded}
 use Rattle.st_expr.specs.System.{system_symbols}
 use Rattle.st_expr.specs.declared.terms.Term.{Term}

@@ -1,4 +1,4 @@
-//! Expressions, and the symbols that they name. `docs/strap.md` has the rules.
+//! Expressions, and the symbols that they name, by the rules of `docs/strap.md`.
 #![tactic(auto)]
 
 mod expressions;

@@ -1,11 +1,11 @@
 //! The system symbols: words of `$` whose values are fixed.
 
 ghost use Rattle.std.specs.Prelude.{◌≡◌};
-ghost use Rattle.st_card.specs.Tables.{row_of as row_in};
+ghost use Rattle.st_text.specs.Tables.{row_of};
 ghost use Rattle.st_expr.specs.System.{system_symbols};
 
 use st_bits::{indicators, register};
-use st_card::row_of;
+use st_text::row_of;
 
 // The bit address of the first indicator.
 const IND: u32 = 64 * register::INDICATORS;
@@ -122,7 +122,7 @@ const SYSTEM: [(&[u8], u32); 83] = [
 // The value of a system symbol, a bit address; nothing where the word is none.
 #[tactic(auto, unfolding(crate::specs::System::system_symbols))]
 pub(crate) fn system_value(word: &[u8]) -> Option<u32>
-    ensures { result ≡ row_in word.now system_symbols }
+    ensures { result ≡ row_of word.now system_symbols }
 {
     row_of(&SYSTEM, word)
 }

@@ -2,13 +2,13 @@
 
 ghost use Rattle.std.specs.Prelude.{◌≡◌, ◌≤◌, length};
 ghost use Rattle.st_text.specs.Bytes.{period};
-ghost use Rattle.st_card.specs.Number.{IsWithin};
-ghost use Rattle.st_card.specs.Pieces.{parted};
+ghost use Rattle.st_text.specs.Number.{IsWithin};
+ghost use Rattle.st_text.specs.Pieces.{parted};
 ghost use Rattle.st_expr.specs.Term as spec;
 
 use crate::names::{is_name, is_system_word, padded};
 use crate::system::system_value;
-use st_card::{Reading, cut, read_number};
+use st_text::{Reading, cut, read_number};
 
 // The last word address, also past storage, and the last bit of a word.
 const LAST_ADDRESS: u64 = 262_143;

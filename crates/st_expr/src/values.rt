@@ -1,7 +1,7 @@
 //! Symbols, and the values of expressions.
 
 ghost use Rattle.std.specs.Prelude.{◌≡◌, ◌≤◌, ◌*◌, ◌^◌, ℤ, pos, ◌-ℤ◌, ◌≤ℤ◌, [], length, None, IfOk, OnErr, IfSome};
-ghost use Rattle.st_card.specs.Tables.{row_of};
+ghost use Rattle.st_text.specs.Tables.{row_of};
 ghost use Rattle.st_expr.specs.Value as spec;
 
 use crate::expressions::Expr;

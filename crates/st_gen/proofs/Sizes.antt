@@ -2,8 +2,8 @@
 use Rattle.std.proofs.Common.{◌≡◌, ◌≤◌, ◌<◌, ◌+◌, ◌*◌, ◌++◌, ◌^◌, ℕ, zero, suc, List, length, codes, decimal, length-append, arith, sym, subst}
 use Rattle.std.proofs.lemmas.Fmt.{length-decimal-le}
 use Rattle.std.specs.Prelude.{replicate}
-use Rattle.st_text.specs.Bytes.{blank}
-use Rattle.st_gen.specs.Deck.{next, after, draw, below, index, word, bit, offset, field_length, byte_field_length, field_operands, statement, form_after, lf, card, control, drawn_card, after_cards, drawn_cards, delay_card, delay_cards, closing_cards, made_deck}
+use Rattle.st_text.specs.Bytes.{blank, lf}
+use Rattle.st_gen.specs.Deck.{next, after, draw, below, index, word, bit, offset, field_length, byte_field_length, field_operands, statement, form_after, card, control, drawn_card, after_cards, drawn_cards, delay_card, delay_cards, closing_cards, made_deck}
 use Rattle.st_gen.specs.declared.form.Form.{Form}
 use Rattle.st_gen.specs.declared.form.Form.TheVariants.{LoadValue, AddValue, LoadWord, Add, Store, AddOne, Connect, Multiply}
 

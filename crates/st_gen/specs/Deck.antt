@@ -1,6 +1,6 @@
 -- The made deck: which cards a seed and a number of cards give.
 use Rattle.std.specs.Prelude.{ℕ, suc, zero, ◌+◌, ◌*◌, ◌/◌, ◌%◌, ◌^◌, List, [], ◌∷◌, ◌++◌, replicate, slice_index_or, codes, decimal}
-use Rattle.st_text.specs.Bytes.{line_end, blank}
+use Rattle.st_text.specs.Bytes.{blank, lf}
 use Rattle.st_gen.specs.declared.form.Form.{Form}
 use Rattle.st_gen.specs.declared.form.Form.TheVariants.{LoadValue, AddValue, LoadWord, Add, Store, AddOne, Connect, Multiply}
 
@@ -90,10 +90,6 @@ form_of number = slice_index_or forms number Multiply
 -- the form that is drawn first for a card
 abbrev pub form_after : ℕ → Form
 form_after x = form_of (draw 1 8 x)
-
--- the line end
-abbrev pub lf : List ℕ
-lf = line_end ∷ []
 
 -- a statement card: the statement stands from column 10 on
 unfoldable pub card : List ℕ → List ℕ

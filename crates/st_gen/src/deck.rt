@@ -1,12 +1,13 @@
 //! The cards of the deck.
+
 ghost use Rattle.std.specs.Prelude.{◌≡◌, ◌+◌, ◌*◌, ◌≤◌, ◌++◌, OnOk, IfOk, length};
 ghost use Rattle.st_gen.specs.Deck.{next, after_card, after_cards, card, drawn_card, drawn_cards, control, delay_card, delay_cards, closing_cards, made_deck};
 
 use crate::form::form_of;
 use crate::generator::Generator;
-use crate::statement::{begun, draw_statement, push_decimal};
-use itoa::Buffer;
+use crate::statement::draw_statement;
 use st_bits::NoMemory;
+use st_text::{begun, push_decimal, push_short_decimal};
 use std::alloc::{AllocError, Global};
 
 // Appends a statement card.
@@ -60,7 +61,7 @@ fn push_delay_card(deck: &mut Vec<u8>, generator: &mut Generator) -> Result<(), 
     ensures ok { OnOk result (deck.new.items ≡ deck.old.items ++ delay_card generator.new.x) }
 {
     let mut text = begun("/DELAYS ");
-    push_decimal(&mut text, 1 + generator.draw(20));
+    push_short_decimal(&mut text, 1 + generator.draw(20));
     push_control(deck, text.as_str())
 }
 
@@ -88,7 +89,7 @@ fn push_closing_cards(
     ensures { OnOk result (deck.new.items ≡ deck.old.items ++ closing_cards cards generator.old.x) }
 {
     let mut budget = begun("/BUDGET ");
-    budget.push_str(Buffer::new().format(u64::from(cards) + 2));
+    push_decimal(&mut budget, u64::from(cards) + 2);
     push_card(deck, "BEW")?;
     push_card(deck, "END,32.0")?;
     push_control(deck, budget.as_str())?;

@@ -1,4 +1,5 @@
 //! The eight forms of a drawn card.
+
 ghost use Rattle.std.specs.Prelude.{◌≡◌};
 ghost use Rattle.st_gen.specs.Deck.{form_of};
 

@@ -1,4 +1,5 @@
 //! The generator of numbers.
+
 ghost use Rattle.std.specs.Prelude.{◌≡◌, ◌<◌};
 ghost use Rattle.st_gen.specs.Deck.{next, below};
 

@@ -1,4 +1,4 @@
-//! A deck of cards made from a seed, as `soak` runs it. `docs/deck.md` has the rules.
+//! A deck of cards made from a seed, as `soak` runs it, by the rules of `docs/deck.md`.
 #![tactic(auto)]
 
 mod deck;
@@ -6,11 +6,7 @@ mod form;
 mod generator;
 mod statement;
 
-use arrayvec::ArrayString;
 pub use deck::make_deck;
-
-/// The text of a statement, or of a control card.
-type Text = ArrayString<80>;
 
 #[cfg(test)]
 mod tests;

@@ -1,112 +1,92 @@
 //! The statements of the drawn cards.
-ghost use Rattle.std.specs.Prelude.{◌≡◌, ◌+◌, ◌≤◌, ◌++◌, length, decimal};
-ghost use Rattle.arrayvec.specs.ArrayString.{array_string_len};
+
+ghost use Rattle.std.specs.Prelude.{◌≡◌, ◌≤◌, ◌++◌, length};
 ghost use Rattle.st_gen.specs.Deck.{after, field_operands, statement, letters};
 ghost use Rattle.st_gen.specs.declared.form.Form.TheVariants.{LoadValue, AddValue, LoadWord, AddOne, Multiply};
 
-use crate::Text;
 use crate::form::Form;
 use crate::generator::Generator;
-use itoa::Buffer;
+use st_text::{Line, begun, push_short_decimal};
 
-// A text that begins with these words.
-pub(crate) fn begun(words: &str) -> Text
-    requires { length words.now ≤ 80 }
-    ensures { result.bytes ≡ words.now }
-{
-    let mut text = Text::new();
-    text.push_str(words);
-    text
-}
-
-// Appends a number in decimal digits.
-pub(crate) fn push_decimal(text: &mut Text, n: u32)
-    requires { array_string_len text.old + 10 ≤ 80 }
-    ensures bytes { text.new.bytes ≡ text.old.bytes ++ decimal n }
-    ensures room { array_string_len text.new ≤ array_string_len text.old + 10 }
-{
-    text.push_str(Buffer::new().format(n));
-}
-
-fn load_value(generator: &mut Generator) -> Text
+fn load_value(generator: &mut Generator) -> Line
     ensures drawn { generator.new.x ≡ after 2 generator.old.x }
     ensures text { result.bytes ≡ statement LoadValue generator.old.x }
 {
     let mut text = begun("LVI,$X");
-    push_decimal(&mut text, 1 + generator.draw(7));
+    push_short_decimal(&mut text, 1 + generator.draw(7));
     text.push_str(",");
-    push_decimal(&mut text, 4096 + generator.draw(256));
+    push_short_decimal(&mut text, 4096 + generator.draw(256));
     text.push_str(".0");
     text
 }
 
-fn add_value(generator: &mut Generator) -> Text
+fn add_value(generator: &mut Generator) -> Line
     ensures drawn { generator.new.x ≡ after 2 generator.old.x }
     ensures text { result.bytes ≡ statement AddValue generator.old.x }
 {
     let mut text = begun("V+I,$X");
-    push_decimal(&mut text, 1 + generator.draw(7));
+    push_short_decimal(&mut text, 1 + generator.draw(7));
     text.push_str(",");
-    push_decimal(&mut text, generator.draw(4));
+    push_short_decimal(&mut text, generator.draw(4));
     text.push_str(".0");
     text
 }
 
-fn load_word(generator: &mut Generator) -> Text
+fn load_word(generator: &mut Generator) -> Line
     ensures drawn { generator.new.x ≡ after 1 generator.old.x }
     ensures text { result.bytes ≡ statement LoadWord generator.old.x }
 {
     let mut text = begun("L(BU,64),");
-    push_decimal(&mut text, 4096 + generator.draw(256));
+    push_short_decimal(&mut text, 4096 + generator.draw(256));
     text.push_str(".0");
     text
 }
 
 // An operation on an unsigned binary field.
-fn field_operation(operation: &str, generator: &mut Generator) -> Text
+fn field_operation(operation: &str, generator: &mut Generator) -> Line
     requires { length operation.now ≤ 8 }
     ensures drawn { generator.new.x ≡ after 4 generator.old.x }
     ensures text { result.bytes ≡ operation.now ++ field_operands generator.old.x }
 {
     let mut text = begun(operation);
     text.push_str("(BU,");
-    push_decimal(&mut text, 1 + generator.draw(64));
+    push_short_decimal(&mut text, 1 + generator.draw(64));
     text.push_str("),");
-    push_decimal(&mut text, 4096 + generator.draw(256));
+    push_short_decimal(&mut text, 4096 + generator.draw(256));
     text.push_str(".");
-    push_decimal(&mut text, generator.draw(64));
+    push_short_decimal(&mut text, generator.draw(64));
     text.push_str(",");
-    push_decimal(&mut text, generator.draw(64));
+    push_short_decimal(&mut text, generator.draw(64));
     text
 }
 
-fn add_one(generator: &mut Generator) -> Text
+fn add_one(generator: &mut Generator) -> Line
     ensures drawn { generator.new.x ≡ after 3 generator.old.x }
     ensures text { result.bytes ≡ statement AddOne generator.old.x }
 {
     let mut text = begun("M+1(B,");
-    push_decimal(&mut text, 8 + generator.draw(57));
+    push_short_decimal(&mut text, 8 + generator.draw(57));
     text.push_str(",8),");
-    push_decimal(&mut text, 4096 + generator.draw(256));
+    push_short_decimal(&mut text, 4096 + generator.draw(256));
     text.push_str(".");
-    push_decimal(&mut text, generator.draw(64));
+    push_short_decimal(&mut text, generator.draw(64));
     text
 }
 
-fn multiply(generator: &mut Generator) -> Text
+fn multiply(generator: &mut Generator) -> Line
     ensures drawn { generator.new.x ≡ after 2 generator.old.x }
     ensures text { result.bytes ≡ statement Multiply generator.old.x }
 {
     let mut text = begun("*(BU,");
-    push_decimal(&mut text, 1 + generator.draw(64));
+    push_short_decimal(&mut text, 1 + generator.draw(64));
     text.push_str(")(V+I),0.32($X");
-    push_decimal(&mut text, 1 + generator.draw(7));
+    push_short_decimal(&mut text, 1 + generator.draw(7));
     text.push_str(")");
     text
 }
 
 // The statement of this form, with its letters drawn.
-pub(crate) fn draw_statement(form: Form, generator: &mut Generator) -> Text
+pub(crate) fn draw_statement(form: Form, generator: &mut Generator) -> Line
     ensures drawn { generator.new.x ≡ after (letters form) generator.old.x }
     ensures text { result.bytes ≡ statement form generator.old.x }
 {

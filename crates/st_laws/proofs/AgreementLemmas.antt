@@ -1,12 +1,11 @@
 -- Rules that stand in two crates are one rule.
 use Rattle.std.proofs.Common.{◌≡◌, ◌≤◌, ◌<◌, ◌+◌, ◌-◌, ◌*◌, ◌/◌, ◌%◌, ◌^◌, ◌==◌, ◌&&◌, ◌||◌, ℕ, zero, suc, Bool, true, false, nat_le, nat_lt, List, [], ◌∷◌, length, take, get_or, sum, decimal, None, if◌then◌else◌, refl, ap, sym, ◌∙◌, arith, rules}
-use Rattle.std.specs.List.{list_all, suffix_len}
+use Rattle.std.specs.List.{list_all}
 use Rattle.std.proofs.lemmas.Bool.Decides.{nat_tests}
 use Rattle.std.proofs.lemmas.Fmt.{length-decimal-le, digits_value-decimal}
-use Rattle.std.proofs.lemmas.List.Sums.{prefix_len-le-length, suffix_len_is}
+use Rattle.std.proofs.lemmas.List.Sums.{prefix_len-le-length}
 use Rattle.std.proofs.lemmas.Str.Parse.{IsNumeralModel, numerals_by_fold}
 use Rattle.std.specs.Char.{is_ascii_digit}
-use Rattle.st_text.specs.Blanks.{without_end_blanks}
 use Rattle.st_bits.specs.Bits.{part}
 use Rattle.st_bits.specs.Registers.{fixed}
 use Rattle.st_bits.specs.Storage.{words_of_storage, words_of_storage_is}
@@ -15,12 +14,11 @@ use Rattle.st_dec.specs.DigitLists.{bytes, joined, value, decimal as digits}
 use Rattle.st_dec.proofs.DigitLemmas.{value_of-first, joined-decimal}
 use Rattle.st_conn.specs.Connective.{leading_zeros}
 use Rattle.st_exec.specs.Outcome.{counts_of}
-use Rattle.st_card.specs.Number.{is_number, value as text_value, value_after}
-use Rattle.st_card.specs.Controls.{good, number_in as number_on_card}
+use Rattle.st_text.specs.Number.{is_number, value as text_value, value_after, good}
+use Rattle.st_card.specs.Controls.{card_number}
 use Rattle.st_card.specs.Limits.{is_part}
-use Rattle.st_card.specs.declared.numbers.Reading.TheVariants.{Bad, Large, Good}
-use Rattle.st_object.specs.Meaning.{number_in as number_on_line}
-use Rattle.st_asm.specs.Lines.{onto_filled, without_end}
+use Rattle.st_text.specs.declared.numbers.Reading.TheVariants.{Bad, Large, Good}
+use Rattle.st_object.specs.Meaning.{short_number}
 use Rattle.st_asm.specs.Checks.{in_storage}
 
 -- ---- digits
@@ -68,71 +66,6 @@ pub laid-in : (place bits : ℕ) → in_storage place bits
 unfolding in_storage
 laid-in place bits = ap (λ n. bits == 0 || (nat_le 2048 place && nat_le (place + bits) (64 * n))) (sym words_of_storage_is)
 
--- ---- blanks at the end
-
--- a text without its last blanks is a front of it, behind which there are blanks alone
-record IsFilledFront (short text : List ℕ) : Type 0 where
-  same : short ≡ take (length short) text
-  within : length short ≤ length text
-  blanks : (k : ℕ) → length short ≤ k → k < length text → (get_or text k 0 == 32) ≡ true
-  last : 0 < length short → (get_or text (length short - 1) 0 == 32) ≡ false
-
-blanks-all : (c : ℕ) (cs : List ℕ) → (c == 32) ≡ true → ((k : ℕ) → 0 ≤ k → k < length cs → (get_or cs k 0 == 32) ≡ true) →
-    (k : ℕ) → 0 ≤ k → k < length (c ∷ cs) → (get_or (c ∷ cs) k 0 == 32) ≡ true
-blanks-all c cs test behind zero low high = test
-blanks-all c cs test behind (suc k) low high = behind k (omega arith) (omega (arith, high))
-
-blanks-behind : (n c : ℕ) (cs : List ℕ) → ((k : ℕ) → n ≤ k → k < length cs → (get_or cs k 0 == 32) ≡ true) →
-    (k : ℕ) → suc n ≤ k → k < length (c ∷ cs) → (get_or (c ∷ cs) k 0 == 32) ≡ true
-blanks-behind n c cs behind zero low high = let no : ⊥ = omega (arith, low) in absurd no
-blanks-behind n c cs behind (suc k) low high = behind k (omega (arith, low)) (omega (arith, high))
-
-last-behind : (n c : ℕ) (cs : List ℕ) → (get_or cs (suc n - 1) 0 == 32) ≡ false → (get_or (c ∷ cs) (suc (suc n) - 1) 0 == 32) ≡ false
-last-behind n c cs is =
-    let first : suc (suc n) - 1 ≡ suc n = omega arith in
-    let second : suc n - 1 ≡ n = omega arith in
-    ap (λ k. get_or (c ∷ cs) k 0 == 32) first ∙ (ap (λ k. get_or cs k 0 == 32) (sym second) ∙ is)
-
-front-first : (c : ℕ) (cs : List ℕ) (b : Bool) → (c == 32) ≡ b → IsFilledFront [] cs → IsFilledFront (if b then [] else c ∷ []) (c ∷ cs)
-front-first c cs true test front = record {
-  same = refl;
-  within = omega arith;
-  blanks = blanks-all c cs test front.blanks;
-  last = λ some. absurd (omega (arith, some));
-}
-front-first c cs false test front = record {
-  same = refl;
-  within = omega arith;
-  blanks = blanks-behind 0 c cs front.blanks;
-  last = λ some. test;
-}
-
-front-further : (c : ℕ) (cs short : List ℕ) → IsFilledFront short cs → IsFilledFront (onto_filled c short) (c ∷ cs)
-front-further c cs [] front = front-first c cs (c == 32) refl front
-front-further c cs (d ∷ ds) front = record {
-  same = ap (λ (s : List ℕ). c ∷ s) front.same;
-  within = omega (arith, front.within);
-  blanks = blanks-behind (suc (length ds)) c cs front.blanks;
-  last = λ some. last-behind (length ds) c cs (front.last (omega arith));
-}
-
-end-filled : (text : List ℕ) → IsFilledFront (without_end text) text
-end-filled [] = record {
-  same = refl;
-  within = omega arith;
-  blanks = λ k low high. absurd (omega (arith, high));
-  last = λ some. absurd (omega (arith, some));
-}
-end-filled (c ∷ cs) = front-further c cs (without_end cs) (end-filled cs)
-
-pub end-blanks : (text : List ℕ) → without_end text ≡ without_end_blanks text
-end-blanks text =
-    let front = end-filled text in
-    let n = length (without_end text) in
-    let last : suffix_len (λ c. c == 32) text ≡ length text - n = suffix_len_is (λ c. c == 32) text n 0 front.within front.blanks front.last in
-    let whole : length text - (length text - n) ≡ n = omega (arith, front.within) in
-    front.same ∙ sym (ap (λ k. take (length text - k) text) last ∙ ap (λ k. take k text) whole)
-
 -- ---- numbers
 
 own : IsNumeralModel (λ ds. list_all is_ascii_digit ds ≡ true) (value_after 0)
@@ -153,16 +86,16 @@ past n small long =
     ] refl
 
 -- a number with more digits than a card may have is past the most on a line too
-long-none : (n : ℕ) → n < 2 ^ 64 → 12 < length (decimal n) → number_on_line (decimal n) ≡ None
+long-none : (n : ℕ) → n < 2 ^ 64 → 12 < length (decimal n) → short_number (decimal n) ≡ None
 long-none n small long =
     let same : text_value (decimal n) ≡ n = digits_value-decimal own n small in
     let large : nat_le (text_value (decimal n)) 999999999999 ≡ false = ap (λ v. nat_le v 999999999999) same ∙ past n small long in
     past-most (is_number (decimal n)) (nat_le (text_value (decimal n)) 999999999999) (text_value (decimal n)) large
 
-pub spelled-agree : (n : ℕ) → n < 2 ^ 64 → number_on_card (decimal n) ≡ number_on_line (decimal n)
+pub spelled-agree : (n : ℕ) → n < 2 ^ 64 → card_number (decimal n) ≡ short_number (decimal n)
 spelled-agree n small =
     elim (nat_lt 12 (length (decimal n))) as (λ b. nat_lt 12 (length (decimal n)) ≡ b →
-    (if b then None else number_on_line (decimal n)) ≡ number_on_line (decimal n)) [
+    (if b then None else short_number (decimal n)) ≡ short_number (decimal n)) [
       | true ↦ λ test. sym (long-none n small (grind (arith, nat_tests)))
       | false ↦ λ test. refl
     ] refl

@@ -7,11 +7,11 @@ use Rattle.std.proofs.lemmas.List.Sorted.{IsNonDecreasingBy-short}
 use Rattle.std.specs.Fmt.{digits}
 use Rattle.std.specs.List.{All, AllPass}
 use Rattle.st_bits.specs.Storage.{words_of_storage}
-use Rattle.st_card.specs.Controls.{Asked, is_among}
+use Rattle.st_card.specs.Controls.{Asked, is_in_range}
 use Rattle.st_card.specs.Limits.{IsWithinLimits, is_signal, is_part, is_tick}
 use Rattle.st_card.specs.declared.control_cards.Signal.{Signal}
 use Rattle.st_card.specs.Cards.{cards_of}
-use Rattle.st_report.specs.Line.{lf}
+use Rattle.st_text.specs.Bytes.{lf}
 use Rattle.st_strap.specs.Reading.{number_expr}
 use Rattle.st_strap.specs.Saying.{statement_of}
 use Rattle.st_strap.specs.declared.statement.Statement.{Statement}
@@ -121,17 +121,17 @@ drawn_delays : ℕ → ℕ → List ℕ
 drawn_delays zero x = []
 drawn_delays (suc n) x = drawn_delays n x ++ (1 + below 20 (next (after n x))) ∷ []
 
-one-delay : (y : ℕ) → is_among 1 255 (1 + below 20 y) ≡ true
+one-delay : (y : ℕ) → is_in_range 1 255 (1 + below 20 y) ≡ true
 one-delay y = both_true (nat_le 1 (1 + below 20 y)) (nat_le (1 + below 20 y) 255) (within 1 (1 + below 20 y) (omega arith))
     (within (1 + below 20 y) 255 (omega arith))
 
-drawn_delays-among : (n x : ℕ) → AllPass (is_among 1 255) (drawn_delays n x)
+drawn_delays-among : (n x : ℕ) → AllPass (is_in_range 1 255) (drawn_delays n x)
 unfolding drawn_delays
-drawn_delays-among zero x = All-nil (λ d. is_among 1 255 d ≡ true)
+drawn_delays-among zero x = All-nil (λ d. is_in_range 1 255 d ≡ true)
 drawn_delays-among (suc n) x =
     let d : ℕ = 1 + below 20 (next (after n x)) in
-    All-append (λ e. is_among 1 255 e ≡ true) (drawn_delays n x) (d ∷ []) (drawn_delays-among n x)
-    (All-cons (λ e. is_among 1 255 e ≡ true) d [] (one-delay (next (after n x))) (All-nil (λ e. is_among 1 255 e ≡ true)))
+    All-append (λ e. is_in_range 1 255 e ≡ true) (drawn_delays n x) (d ∷ []) (drawn_delays-among n x)
+    (All-cons (λ e. is_in_range 1 255 e ≡ true) d [] (one-delay (next (after n x))) (All-nil (λ e. is_in_range 1 255 e ≡ true)))
 
 drawn_delays-length : (n x : ℕ) → length (drawn_delays n x) ≡ n
 unfolding drawn_delays
@@ -156,7 +156,7 @@ asked_with budget delays = record {
   back = 0;
 }
 
-asked-within : (budget : ℕ) (delays : List ℕ) → budget ≤ 10000000 → AllPass (is_among 1 255) delays → length delays ≤ 4096 →
+asked-within : (budget : ℕ) (delays : List ℕ) → budget ≤ 10000000 → AllPass (is_in_range 1 255) delays → length delays ≤ 4096 →
     IsWithinLimits (asked_with budget delays)
 asked-within budget delays small each few = record {
   budget = small;

@@ -1,6 +1,5 @@
 //! What holds of rules that stand in two crates: they are one rule.
 ghost use Rattle.std.specs.Prelude.{◌≡◌, ◌≤◌, ◌<◌, ◌+◌, ◌*◌, ◌^◌, ◌==◌, ◌&&◌, ◌||◌, nat_le, nat_lt, All, ℕ, List, Some, map, codes, length, sum, decimal};
-ghost use Rattle.st_text.specs.Blanks.{without_end_blanks};
 ghost use Rattle.st_bits.specs.Bits.{part};
 ghost use Rattle.st_bits.specs.declared.register.TheConstants.{COUNTS, FIRST_INDEX_WORD, FIRST_STORAGE_WORD};
 ghost use Rattle.st_bits.specs.Registers.{fixed};
@@ -11,13 +10,12 @@ ghost use Rattle.st_dec.specs.DigitLists.{bytes, joined, value, decimal as digit
 ghost use Rattle.st_conn.specs.Connective.{leading_zeros};
 ghost use Rattle.st_state.specs.Interrupts.{is_on};
 ghost use Rattle.st_exec.specs.Outcome.{counts_of};
-ghost use Rattle.st_card.specs.Controls.{number_in as number_on_card};
+ghost use Rattle.st_card.specs.Controls.{card_number};
 ghost use Rattle.st_card.specs.Limits.{is_part};
-ghost use Rattle.st_card.specs.Tables.{row_of};
+ghost use Rattle.st_text.specs.Tables.{row_of};
 ghost use Rattle.st_expr.specs.System.{index_words, system_symbols};
 ghost use Rattle.st_strap.specs.Reading.{index_fields};
-ghost use Rattle.st_object.specs.Meaning.{number_in as number_on_line};
-ghost use Rattle.st_asm.specs.Lines.{without_end};
+ghost use Rattle.st_object.specs.Meaning.{short_number};
 ghost use Rattle.st_asm.specs.Checks.{in_storage};
 
 /// The digits of a number and their value are the same in binary operations, which see one number of codes of four bits, and
@@ -52,11 +50,6 @@ pub fn indicators_agree()
     ensures { (x n : ℕ) → n < 64 → is_on_in_operands x n ≡ is_on x n }
 {}
 
-/// The blanks at the end of a name are those at the end of a printed line.
-pub fn end_blanks_agree()
-    ensures { (text : List ℕ) → without_end text ≡ without_end_blanks text }
-{}
-
 /// What is laid, and what is shown of storage, ends where storage does.
 pub fn sizes_of_storage_agree()
     ensures shown { (p : ℕ × ℕ) → is_part p ≡ (nat_le p.0 p.1 && nat_lt p.1 words_of_storage) }
@@ -68,7 +61,7 @@ pub fn sizes_of_storage_agree()
 /// with leading zeros too, where they have 12 digits at most.
 pub fn numbers_agree()
     ensures short { (text : List ℕ) → length text ≤ 12
-        → number_on_card text ≡ number_on_line text }
+        → card_number text ≡ short_number text }
     ensures spelled { (n : ℕ) → n < 2 ^ 64
-        → number_on_card (decimal n) ≡ number_on_line (decimal n) }
+        → card_number (decimal n) ≡ short_number (decimal n) }
 {}

@@ -3,13 +3,13 @@ use Rattle.std.proofs.Common.{◌≡◌, ◌≤◌, ◌<◌, ◌+◌, ◌-◌, �
 use Rattle.std.specs.List.{flat_map}
 use Rattle.std.specs.Option.{option_map_or, option_and_then}
 use Rattle.std.proofs.lemmas.Bool.Decides.{nat_tests}
-use Rattle.st_report.specs.Line.{lf}
-use Rattle.st_card.specs.Pieces.{onto_first, parted, lacks}
-use Rattle.st_card.proofs.PieceLemmas.{first_piece}
+use Rattle.st_text.specs.Bytes.{lf}
+use Rattle.st_text.specs.Pieces.{onto_first, parted, lacks}
+use Rattle.st_text.proofs.PieceLemmas.{first_piece}
 use Rattle.st_object.specs.Lines.{spelled, text_of}
 use Rattle.st_object.specs.Draft.{Draft, blank, IsDraft, is_empty, lines_of, is_whole, with_item}
 use Rattle.st_object.specs.Meaning.{item_in}
-use Rattle.st_object.specs.Object.{Program, object_lines, program_of, with_line, finished, unended, end_of, read_from, read_text, lines_in, text_lines, IsObjectText, IsFront, IsBadLine}
+use Rattle.st_object.specs.Object.{Program, object_lines, program_of, with_line, finished, unended, end_of, read_from, read_text, lines_in, text_lines, IsObjectText, BeginsObjectText, IsBadLine}
 use Rattle.st_object.specs.declared.items.Item.{Item}
 use Rattle.st_object.proofs.LineMeanings.{chained}
 use Rattle.st_object.proofs.LineByLine.{line_kept}
@@ -178,7 +178,7 @@ front_good (line ∷ lines) (item ∷ items) rest d e leads same some bad =
     front_good lines items rest leads.0 e leads.3 behind some
     (sym (ap (λ (o : Option Draft). option_and_then (λ x. add_lines x lines) o) good) ∙ bad)
 
-not_front : (lines : List (List ℕ)) → AreLines lines → add_lines blank lines ≡ None → IsFront (closed lines) → ⊥
+not_front : (lines : List (List ℕ)) → AreLines lines → add_lines blank lines ≡ None → BeginsObjectText (closed lines) → ⊥
 not_front lines are bad front =
     let p : Program = front.0 in
     let makes = made_again p front.1 front.2 in
@@ -189,7 +189,7 @@ not_front lines are bad front =
     ∙ (ap (λ (s : List ℕ). parted 10 s) (sym front.4) ∙ parted-text_of (object_lines p) blank makes.last makes.steps)) some bad
 
 -- lines that were read begin an object text
-is_front : (d : Draft) (front : List ℕ) → IsDraft d → IsOrderly d → text_of (lines_of d) ≡ front → IsFront front
+is_front : (d : Draft) (front : List ℕ) → IsDraft d → IsOrderly d → text_of (lines_of d) ≡ front → BeginsObjectText front
 is_front d front draft orderly same =
     let c = completed d draft orderly in (
       program_of c.last,
@@ -217,7 +217,7 @@ bad_line text n read =
     record {
       none = never_read text n read;
       counted = (omega (arith, bad.counted), omega (arith, bad.counted, bad.within));
-      good_before = subst (λ (k : ℕ). IsFront (closed (take k lines))) (sym before)
+      good_before = subst (λ (k : ℕ). BeginsObjectText (closed (take k lines))) (sym before)
           (is_front bad.last (closed (take bad.good lines)) bad.draft bad.orderly bad.before);
       bad = λ inside front.
           not_front (take n lines) (taken_lines n lines (lines_in_lines (parted 10 text) (parted_lines text)))
@@ -236,7 +236,7 @@ fewer_lines (suc n) (suc k) (line ∷ more) less =
     )
 
 -- what begins a text with which an object text begins
-shorter_front : (front rest whole : List ℕ) → whole ≡ front ++ rest → IsFront whole → IsFront front
+shorter_front : (front rest whole : List ℕ) → whole ≡ front ++ rest → BeginsObjectText whole → BeginsObjectText front
 shorter_front front rest whole cut is =
     (is.0, is.1, is.2, rest ++ is.3, is.4 ∙ (ap (λ (s : List ℕ). s ++ is.3) cut ∙ append_assoc front rest is.3))
 

@@ -4,7 +4,7 @@ use Rattle.std.proofs.lemmas.Bool.{and_from as both_true, and_parts as holds_bot
 use Rattle.std.proofs.lemmas.Bool.Decides.{nat_tests}
 use Rattle.std.proofs.lemmas.List.Sums.{AllPass-from_list_all}
 use Rattle.std.specs.List.{flat_map}
-use Rattle.st_card.specs.Controls.{is_among}
+use Rattle.st_card.specs.Controls.{is_in_range}
 use Rattle.st_card.specs.Limits.{AreDelays, IsWithinLimits}
 use Rattle.st_object.specs.Lines.{marked, budget_lines}
 use Rattle.st_object.specs.Order.{order, row, before, behind, kind_of, is_met, are_met, none_stands}
@@ -50,7 +50,7 @@ or_true false b holds = holds
 -- each line that is added keeps the order
 put_orderly : (kind : Kind) (d e : Draft) (item : Item) → IsPut kind d item e → IsOrderly e
 put_orderly kind d e item is =
-    let here : is_met (stands e) kind ≡ true = or_true (not (row kind).2) (stands e kind) is.there in
+    let here : is_met (stands e) kind ≡ true = or_true (not (row kind).required) (stands e kind) is.there in
     subst (λ ks. orderly e ks ≡ true) (cut kind)
     (met_orderly e (before kind) (kind ∷ behind kind) is.met
     (ap (λ b. if b then orderly e (behind kind) else none_stands (stands e) (kind ∷ behind kind)) here
@@ -124,7 +124,7 @@ some_budget : (n : ℕ) → n ≤ 10000000 → (if n == 0 then 1 else n) ≤ 100
 some_budget n few = elim (n == 0) as (λ b. (if b then 1 else n) ≤ 10000000) [ true ↦ omega arith | false ↦ few ]
 
 one_delay : AreDelays (1 ∷ [])
-one_delay = record { each = AllPass-from_list_all (is_among 1 255) (1 ∷ []) refl; few = omega arith }
+one_delay = record { each = AllPass-from_list_all (is_in_range 1 255) (1 ∷ []) refl; few = omega arith }
 
 some_delays : (ds : List ℕ) → AreDelays ds → AreDelays (if is_empty ds then 1 ∷ [] else ds)
 some_delays ds are = elim (is_empty ds) as (λ b. AreDelays (if b then 1 ∷ [] else ds)) [ true ↦ one_delay | false ↦ are ]

@@ -6,7 +6,7 @@ use Rattle.std.proofs.lemmas.List.Concat.{flat_map-append}
 use Rattle.std.proofs.lemmas.Bool.Decides.{nat_tests}
 use Rattle.std.specs.List.{flat_map}
 use Rattle.std.specs.Option.{option_map}
-use Rattle.st_card.specs.Controls.{Asked, is_among}
+use Rattle.st_card.specs.Controls.{Asked, is_in_range}
 use Rattle.st_card.specs.declared.control_cards.Signal.{Signal as GivenSignal}
 use Rattle.st_object.specs.Lines.{marked, word_lines}
 use Rattle.st_object.specs.Order.{order, row, before, behind, kind_of, are_met, none_stands}
@@ -53,15 +53,15 @@ put : (kind : Kind) (d e : Draft) (item : Item) → has_place d kind ≡ true �
     kind_lines e kind ≡ kind_lines d kind ++ item ∷ [] → stands e kind ≡ true → IsPut kind d item e
 unfolding has_place
 put kind d e item placed front met none here there =
-    let outer = holds_both (are_met (stands d) (before kind) && ((row kind).1 || not (stands d kind))) _ placed in
+    let outer = holds_both (are_met (stands d) (before kind) && ((row kind).repeats || not (stands d kind))) _ placed in
     let inner = holds_both (are_met (stands d) (before kind)) _ outer.0 in
     record { front = front; here = here; there = there; met = met ∙ inner.0; none_then = outer.1; none_now = none ∙ outer.1 }
 
 -- what has its place and may not repeat was not read
-alone : (kind : Kind) (d : Draft) → has_place d kind ≡ true → (row kind).1 ≡ false → not (stands d kind) ≡ true
+alone : (kind : Kind) (d : Draft) → has_place d kind ≡ true → (row kind).repeats ≡ false → not (stands d kind) ≡ true
 unfolding has_place
 alone kind d placed once =
-    let outer = holds_both (are_met (stands d) (before kind) && ((row kind).1 || not (stands d kind))) _ placed in
+    let outer = holds_both (are_met (stands d) (before kind) && ((row kind).repeats || not (stands d kind))) _ placed in
     let inner = holds_both (are_met (stands d) (before kind)) _ outer.0 in
     sym (ap (λ b. b || not (stands d kind)) once) ∙ inner.1
 
@@ -157,7 +157,7 @@ mark_step d e true true new same = cc
 mark_step d e true false new same = (refl, refl, the_one _ e same)
 mark_step d e false mark new same = cc
 
-among_filled : (n most : ℕ) → is_among 1 most n ≡ true → not (n == 0) ≡ true
+among_filled : (n most : ℕ) → is_in_range 1 most n ≡ true → not (n == 0) ≡ true
 among_filled n most test = grind (arith, nat_tests)
 
 -- each line that is added is put in
@@ -186,7 +186,7 @@ added d e (Word w x) same =
     (put kinds.Word d new (Word w x) step.0 refl refl refl more (filled_more (d.words ++ zeros) x))
 added d e (Budget n) same =
     let new : Asked = record d.asked { budget = n } in
-    let step = asked_step d e _ (d.asked.budget == 0 && is_among 1 10000000 n) new same in
+    let step = asked_step d e _ (d.asked.budget == 0 && is_in_range 1 10000000 n) new same in
     let some = among_filled n 10000000 (holds_both _ _ step.1).1 in
     let none = not_not (d.asked.budget == 0) (alone kinds.Budget d step.0 refl) in
     subst (λ (x : Draft). IsPut kinds.Budget d (Budget n) x) step.2
@@ -237,7 +237,7 @@ added d e (Snap t) same =
     (mapped_more (λ (k : ℕ). Snap k) d.asked.snaps t) (filled_more d.asked.snaps t))
 added d e (Back k) same =
     let new : Asked = record d.asked { back = k } in
-    let step = asked_step d e _ (d.asked.back == 0 && is_among 1 64 k) new same in
+    let step = asked_step d e _ (d.asked.back == 0 && is_in_range 1 64 k) new same in
     let some = among_filled k 64 (holds_both _ _ step.1).1 in
     let none = not_not (d.asked.back == 0) (alone kinds.Back d step.0 refl) in
     subst (λ (x : Draft). IsPut kinds.Back d (Back k) x) step.2

@@ -1,8 +1,8 @@
 -- A text line by line.
 use Rattle.std.proofs.Common.{◌≡◌, ◌+◌, ℕ, List, ◌∷◌, Option, Some, None, Result, Err, ap, sym, ◌∙◌}
 use Rattle.std.specs.Option.{option_map_or}
-use Rattle.st_card.specs.Pieces.{parted}
-use Rattle.st_card.proofs.PieceLemmas.{first_piece}
+use Rattle.st_text.specs.Pieces.{parted}
+use Rattle.st_text.proofs.PieceLemmas.{first_piece}
 use Rattle.st_object.specs.Draft.{Draft, IsDraft, with_item}
 use Rattle.st_object.specs.Meaning.{item_in}
 use Rattle.st_object.specs.Object.{Program, with_line, read_from}

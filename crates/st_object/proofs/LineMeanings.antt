@@ -3,12 +3,11 @@ use Rattle.std.proofs.Common.{◌≡◌, ◌≤◌, ◌<◌, ◌+◌, ◌*◌, �
 use Rattle.std.specs.Option.{option_map, option_and_then}
 use Rattle.std.specs.Cmp.Lexicographic.{same_text}
 use Rattle.std.proofs.lemmas.Bool.Decides.{nat_tests}
-use Rattle.st_card.specs.Number.{is_number, value}
-use Rattle.st_card.specs.Controls.{good}
-use Rattle.st_card.specs.Tables.{is_same, row_of}
-use Rattle.st_card.specs.declared.numbers.Reading.TheVariants.{Bad, Large, Good}
+use Rattle.st_text.specs.Number.{is_number, value, good}
+use Rattle.st_text.specs.Tables.{is_same, row_of}
+use Rattle.st_text.specs.declared.numbers.Reading.TheVariants.{Bad, Large, Good}
 use Rattle.st_object.specs.Lines.{spelled}
-use Rattle.st_object.specs.Meaning.{parts_at, number_in, IsShort, hex_digit_in, hex_after, keywords, item_behind, item_of, item_loosely, if_spelled, item_in}
+use Rattle.st_object.specs.Meaning.{parts_at, short_number, IsShort, hex_digit_in, hex_after, keywords, item_behind, item_of, item_loosely, if_spelled, item_in}
 use Rattle.st_object.specs.declared.items.Item.{Item}
 use Rattle.st_object.specs.declared.items.Item.TheVariants.{Object, Word, Trace, Time, Chart, Snap, Fin}
 use Rattle.st_object.specs.declared.items.Kind.{Kind}
@@ -54,7 +53,7 @@ short_good true true v n test same =
 short_good true false v n test same = cc
 short_good false b v n test same = cc
 
-number_short : (text : List ℕ) (n : ℕ) → number_in text ≡ Some n → IsShort n
+number_short : (text : List ℕ) (n : ℕ) → short_number text ≡ Some n → IsShort n
 number_short text n same = short_good (is_number text) (nat_le (value text) 999999999999) (value text) n refl same
 
 mapped_narrow : {X : Type 0} (f : X → Item) (o : Option X) (item : Item) → ((x : X) → IsNarrow (f x)) → option_map f o ≡ Some item → IsNarrow item
@@ -65,7 +64,7 @@ behind_narrow kinds.Object text item same = subst (λ (i : Item). IsNarrow i) (t
 behind_narrow kinds.Start text item same = mapped_narrow _ _ item (λ p. tt) same
 behind_narrow kinds.Word text item same =
     let outer = chained _ (parts_at 32 text) item same in
-    mapped_narrow (λ w. Word w (hex_after 0 outer.0.1)) (number_in outer.0.0) item (λ w. hex_after-lt 0 outer.0.1 (omega arith)) outer.1.1
+    mapped_narrow (λ w. Word w (hex_after 0 outer.0.1)) (short_number outer.0.0) item (λ w. hex_after-lt 0 outer.0.1 (omega arith)) outer.1.1
 behind_narrow kinds.Budget text item same = mapped_narrow _ _ item (λ n. tt) same
 behind_narrow kinds.Delay text item same = mapped_narrow _ _ item (λ n. tt) same
 behind_narrow kinds.Signal text item same = mapped_narrow _ _ item (λ p. tt) same
@@ -75,7 +74,7 @@ behind_narrow kinds.Time text item same = subst (λ (i : Item). IsNarrow i) (the
 behind_narrow kinds.Chart text item same = subst (λ (i : Item). IsNarrow i) (the_one Chart item same) tt
 behind_narrow kinds.Fin text item same = subst (λ (i : Item). IsNarrow i) (the_one Fin item same) tt
 behind_narrow kinds.Snap text item same =
-    let parts = mapped (λ n. Snap n) (number_in text) item same in
+    let parts = mapped (λ n. Snap n) (short_number text) item same in
     subst (λ (i : Item). IsNarrow i) parts.1.1 (number_short text parts.0 parts.1.0)
 behind_narrow kinds.Back text item same = mapped_narrow _ _ item (λ n. tt) same
 

@@ -3,7 +3,7 @@ use Rattle.std.proofs.Common.{◌≡◌, ℕ, ◌==◌, ◌&&◌, Bool, true, fa
 use Rattle.std.specs.Option.{option_map}
 use Rattle.std.specs.Borrow.{Bor}
 use Rattle.std.proofs.lemmas.Bool.Decides.{nat_tests}
-use Rattle.st_card.specs.Pieces.{lacks}
+use Rattle.st_text.specs.Pieces.{lacks}
 use Rattle.st_object.specs.Meaning.{parts_at}
 
 -- a first byte that is another, and a rest that lacks the byte

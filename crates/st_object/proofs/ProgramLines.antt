@@ -173,7 +173,7 @@ filled_again last words zeros whole size =
 -- kinds that stand one behind the other from a place on
 abbrev AreNext : ℕ → List Kind → Type 0
 AreNext i [] = Unit {0}
-AreNext i (kind ∷ more) = ((row kind).0 ≡ i) × AreNext (i + 1) more
+AreNext i (kind ∷ more) = ((row kind).place ≡ i) × AreNext (i + 1) more
 
 -- the lines of a program, kind by kind
 module _ (p : Program) (ws : List ℕ) where
@@ -227,7 +227,7 @@ module _ (p : Program) (ws : List ℕ) where
         )
 
     -- the lines of a kind lead from what the kinds before say to what they say with it
-    add_kind : (kind : Kind) → Leads (draft_before (row kind).0) (lines_at kind) (draft_before ((row kind).0 + 1))
+    add_kind : (kind : Kind) → Leads (draft_before (row kind).place) (lines_at kind) (draft_before ((row kind).place + 1))
     unfolding has_place with_value
     add_kind kinds.Object = one (draft_before 0) (draft_before 1) Object (refl, tt)
     add_kind kinds.Start = one (draft_before 1) (draft_before 2) (Start p.start)

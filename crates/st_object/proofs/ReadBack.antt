@@ -3,8 +3,8 @@ use Rattle.std.proofs.Common.{◌≡◌, ◌+◌, ◌*◌, ◌/◌, ◌%◌, ◌
 use Rattle.std.proofs.lemmas.Bool.{and_from as and_true}
 use Rattle.std.specs.Option.{option_map_or, option_and_then}
 use Rattle.std.proofs.lemmas.List.Folds.{list_all-append}
-use Rattle.st_report.specs.Line.{hex_word}
-use Rattle.st_card.specs.Pieces.{onto_first, parted, lacks}
+use Rattle.st_text.specs.Numerals.{hex_word}
+use Rattle.st_text.specs.Pieces.{onto_first, parted, lacks}
 use Rattle.st_object.specs.Lines.{spelled, text_of}
 use Rattle.st_object.specs.Draft.{Draft, blank, with_item, is_whole}
 use Rattle.st_object.specs.Meaning.{IsShort, IsItem}

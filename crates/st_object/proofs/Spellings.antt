@@ -10,14 +10,13 @@ use Rattle.std.proofs.lemmas.Str.Parse.{IsNumeralModel, numerals_by_fold}
 use Rattle.std.proofs.lemmas.Fmt.{digits_decimal, digits_value-decimal, decimal_nonempty}
 use Rattle.std.proofs.lemmas.List.Folds.{list_all-append}
 use Rattle.std.proofs.Math.Nat.{mod-eq_of_lt, pow-succ'}
-use Rattle.st_report.specs.Line.{hex_digit, hex_text, hex_word, half_address}
-use Rattle.st_card.specs.Number.{is_filled, is_number, value, value_after}
-use Rattle.st_card.specs.Controls.{good}
-use Rattle.st_card.specs.Pieces.{lacks}
-use Rattle.st_card.specs.Tables.{is_same}
-use Rattle.st_card.specs.declared.numbers.Reading.TheVariants.{Bad, Large, Good}
+use Rattle.st_text.specs.Numerals.{hex_digit, hex_text, hex_word, half_address}
+use Rattle.st_text.specs.Number.{is_filled, is_number, value, value_after, good}
+use Rattle.st_text.specs.Pieces.{lacks}
+use Rattle.st_text.specs.Tables.{is_same}
+use Rattle.st_text.specs.declared.numbers.Reading.TheVariants.{Bad, Large, Good}
 use Rattle.st_object.specs.Lines.{spelled}
-use Rattle.st_object.specs.Meaning.{parts_at, number_in, both, numbers_in, IsShort, IsItem, hex_digit_in, hex_after, word_in, item_behind, item_loosely, if_spelled, item_in}
+use Rattle.st_object.specs.Meaning.{parts_at, short_number, both, two_numbers, IsShort, IsItem, hex_digit_in, hex_after, word_in, item_behind, item_loosely, if_spelled, item_in}
 use Rattle.st_object.specs.declared.items.Item.{Item}
 use Rattle.st_object.specs.declared.items.Item.TheVariants.{Object, Start, Word, Budget, Delay, Signal, Dump, Trace, Time, Chart, Snap, Back, Fin}
 use Rattle.st_object.specs.declared.items.Kind.TheVariants as kinds
@@ -38,8 +37,8 @@ read_good true false v first second = cc
 read_good false b v first second = cc
 
 -- a number is read from its digits
-pub number_in-decimal : (n : ℕ) → IsShort n → number_in (decimal n) ≡ Some n
-number_in-decimal n short =
+pub short_number-decimal : (n : ℕ) → IsShort n → short_number (decimal n) ≡ Some n
+short_number-decimal n short =
     let small = short_small n short in
     let digits : list_all is_ascii_digit (decimal n) ≡ true = digits_decimal own n small in
     let same : value (decimal n) ≡ n = digits_value-decimal own n small in
@@ -145,13 +144,13 @@ read_again item line spelling meaning =
     ∙ (ap (λ (s : List ℕ). if is_same (spelled item) s then Some item else None) spelling
     ∙ ap (λ b. if b then Some item else None) (is_same-refl (spelled item)))
 
-both_numbers : (at a b : ℕ) → at < 48 → IsShort a → IsShort b → numbers_in at (decimal a ++ at ∷ [] ++ decimal b) ≡ Some (a, b)
+both_numbers : (at a b : ℕ) → at < 48 → IsShort a → IsShort b → two_numbers at (decimal a ++ at ∷ [] ++ decimal b) ≡ Some (a, b)
 both_numbers at a b low short_a short_b =
     let cut = ap (λ (s : List ℕ). parts_at at s) (append_assoc (decimal a) (at ∷ []) (decimal b))
     ∙ parts_around at (decimal a) (decimal b) (lacks-decimal at a low (short_small a short_a)) in
-    ap (λ (o : Option (List ℕ × List ℕ)). option_and_then (λ p. both (number_in p.0) (number_in p.1)) o) cut
-    ∙ (ap (λ (o : Option ℕ). both o (number_in (decimal b))) (number_in-decimal a short_a)
-    ∙ ap (λ (o : Option ℕ). both (Some a) o) (number_in-decimal b short_b))
+    ap (λ (o : Option (List ℕ × List ℕ)). option_and_then (λ p. both (short_number p.0) (short_number p.1)) o) cut
+    ∙ (ap (λ (o : Option ℕ). both o (short_number (decimal b))) (short_number-decimal a short_a)
+    ∙ ap (λ (o : Option ℕ). both (Some a) o) (short_number-decimal b short_b))
 
 word_again : (w x : ℕ) → IsShort w → x < 2 ^ 64 → word_in (decimal w ++ 32 ∷ [] ++ hex_word x) ≡ Some (Word w x)
 word_again w x short small =
@@ -160,8 +159,8 @@ word_again w x short small =
     let cut = ap (λ (s : List ℕ). parts_at 32 s) (append_assoc (decimal w) (32 ∷ []) (hex_word x))
     ∙ parts_around 32 (decimal w) (hex_word x) (lacks-decimal 32 w low (short_small w short)) in
     ap (λ (o : Option (List ℕ × List ℕ)). option_and_then
-    (λ p. option_map (λ v. Word v (hex_after 0 p.1)) (number_in p.0)) o) cut
-    ∙ (ap (λ (o : Option ℕ). option_map (λ v. Word v (hex_after 0 (hex_word x))) o) (number_in-decimal w short)
+    (λ p. option_map (λ v. Word v (hex_after 0 p.1)) (short_number p.0)) o) cut
+    ∙ (ap (λ (o : Option ℕ). option_map (λ v. Word v (hex_after 0 (hex_word x))) o) (short_number-decimal w short)
     ∙ ap (λ n. Some (Word w n)) (hex_after-hex_text 16 x room small))
 
 start_again : (h : ℕ) → IsShort (h / 2) → item_behind kinds.Start (half_address h) ≡ Some (Start h)
@@ -178,8 +177,8 @@ unfolding spelled
 spelled_again Object short = read_again Object _ refl refl
 spelled_again (Start h) short = read_again (Start h) _ refl (start_again h short)
 spelled_again (Word w x) short = read_again (Word w x) _ refl (word_again w x short.0 short.1)
-spelled_again (Budget n) short = read_again (Budget n) _ refl (ap (λ (o : Option ℕ). option_map (λ v. Budget v) o) (number_in-decimal n short))
-spelled_again (Delay n) short = read_again (Delay n) _ refl (ap (λ (o : Option ℕ). option_map (λ v. Delay v) o) (number_in-decimal n short))
+spelled_again (Budget n) short = read_again (Budget n) _ refl (ap (λ (o : Option ℕ). option_map (λ v. Budget v) o) (short_number-decimal n short))
+spelled_again (Delay n) short = read_again (Delay n) _ refl (ap (λ (o : Option ℕ). option_map (λ v. Delay v) o) (short_number-decimal n short))
 spelled_again (Signal c i) short = read_again (Signal c i) _ refl
     (let low : 32 < 48 = omega arith in ap (λ (o : Option (ℕ × ℕ)). option_map (λ p. Signal p.0 p.1) o) (both_numbers 32 c i low short.0 short.1))
 spelled_again (Dump f t) short = read_again (Dump f t) _ refl
@@ -187,6 +186,6 @@ spelled_again (Dump f t) short = read_again (Dump f t) _ refl
 spelled_again Trace short = read_again Trace _ refl refl
 spelled_again Time short = read_again Time _ refl refl
 spelled_again Chart short = read_again Chart _ refl refl
-spelled_again (Snap t) short = read_again (Snap t) _ refl (ap (λ (o : Option ℕ). option_map (λ v. Snap v) o) (number_in-decimal t short))
-spelled_again (Back k) short = read_again (Back k) _ refl (ap (λ (o : Option ℕ). option_map (λ v. Back v) o) (number_in-decimal k short))
+spelled_again (Snap t) short = read_again (Snap t) _ refl (ap (λ (o : Option ℕ). option_map (λ v. Snap v) o) (short_number-decimal t short))
+spelled_again (Back k) short = read_again (Back k) _ refl (ap (λ (o : Option ℕ). option_map (λ v. Back v) o) (short_number-decimal k short))
 spelled_again Fin short = read_again Fin _ refl refl

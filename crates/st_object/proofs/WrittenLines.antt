@@ -2,7 +2,7 @@
 use Rattle.std.proofs.Common.{◌≡◌, ◌<◌, ◌+◌, ◌==◌, ℕ, Bool, true, false, not, List, [], ◌∷◌, ◌++◌, length, map, take, get_or, Result, Ok, Err, OnOk, if◌then◌else◌, refl, ap, sym, ◌∙◌, append_assoc, arith, Some}
 use Rattle.std.proofs.lemmas.List.{take_more, length-take-le}
 use Rattle.std.proofs.lemmas.List.Concat.{flat_map-append}
-use Rattle.st_report.specs.Line.{lf}
+use Rattle.st_text.specs.Bytes.{lf}
 use Rattle.st_object.specs.Lines.{spelled, text_of, marked, word_lines, budget_lines, back_lines}
 use Rattle.st_object.specs.Draft.{Draft, lines_of}
 use Rattle.st_object.specs.Object.{Program, object_lines}

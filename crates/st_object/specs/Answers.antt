@@ -5,17 +5,17 @@ use Rattle.st_object.specs.Draft.{Draft}
 use Rattle.st_object.specs.Object.{Program, IsBadLine}
 use Rattle.st_object.specs.declared.reading.ObjectError.{ObjectError}
 use Rattle.st_object.specs.declared.reading.ObjectError.TheVariants.{Refused as ObjectRefused, NoMemory as ObjectNoMemory}
-use Rattle.st_card.specs.declared.keywords.Outcome.{Outcome}
-use Rattle.st_card.specs.declared.keywords.Outcome.TheVariants.{Added, Refused, NoMemory}
+use Rattle.st_card.specs.declared.keywords.Addition.{Addition}
+use Rattle.st_card.specs.declared.keywords.Addition.TheVariants.{Added, Refused, NoMemory}
 
--- what an outcome says of a draft after a line: it is the one that is wanted, or none is; there may be no memory
-abbrev pub Settles : Draft → Option Draft → Outcome → Type 0
+-- what an addition says of a draft after a line: it is the one that is wanted, or none is; there may be no memory
+abbrev pub Settles : Draft → Option Draft → Addition → Type 0
 Settles new wanted Added = wanted ≡ Some new
 Settles new wanted Refused = wanted ≡ None
 Settles new wanted NoMemory = Unit {0}
 
--- what an outcome says of a list before and after items are appended
-abbrev pub Appends : {X : Type 0} → List X → List X → List X → Outcome → Type 0
+-- what an addition says of a list before and after items are appended
+abbrev pub Appends : {X : Type 0} → List X → List X → List X → Addition → Type 0
 Appends old new items Added = new ≡ old ++ items
 Appends old new items Refused = ⊥
 Appends old new items NoMemory = Unit {0}

@@ -89,6 +89,7 @@ with_start d h = if nat_lt h (2 ^ 19) then Some (record d { start = Some h }) el
 abbrev pub may_hold : ℕ → ℕ → ℕ → Bool
 may_hold next w x = nat_le FIRST_STORAGE_WORD w && nat_le next w && nat_lt w words_of_storage && not (x == 0)
 
+-- the draft with a word at a place, with zeros up to it
 abbrev pub with_word : Draft → ℕ → ℕ → Option Draft
 with_word d w x =
     if may_hold (length d.words) w x

@@ -1,7 +1,8 @@
 -- The lines of an object text, and their bytes.
 use Rattle.std.specs.Prelude.{ℕ, ◌+◌, ◌==◌, Bool, List, [], ◌∷◌, ◌++◌, map, codes, decimal, if◌then◌else◌}
 use Rattle.std.specs.List.{flat_map}
-use Rattle.st_report.specs.Line.{lf, hex_word, half_address}
+use Rattle.st_text.specs.Bytes.{lf}
+use Rattle.st_text.specs.Numerals.{hex_word, half_address}
 use Rattle.st_card.specs.Controls.{Asked}
 use Rattle.st_object.specs.declared.items.Item.{Item}
 use Rattle.st_object.specs.declared.items.Item.TheVariants.{Object, Start, Word, Budget, Delay, Signal, Dump, Trace, Time, Chart, Snap, Back, Fin}
@@ -43,11 +44,12 @@ budget_lines n = if n == 0 then [] else Budget n ∷ []
 abbrev pub back_lines : ℕ → List Item
 back_lines k = if k == 0 then [] else Back k ∷ []
 
--- what is asked for up to the parts of storage, and what is to be shown
+-- what is asked for up to the parts of storage
 abbrev pub order_lines : Asked → List Item
 order_lines a = budget_lines a.budget ++ map (λ n. Delay n) a.delays
     ++ map (λ s. Signal s.count s.indicator) a.signals ++ map (λ p. Dump p.0 p.1) a.dumps
 
+-- what is to be shown
 abbrev pub show_lines : Asked → List Item
 show_lines a = marked a.trace Trace ++ marked a.time Time ++ marked a.chart Chart
     ++ map (λ t. Snap t) a.snaps ++ back_lines a.back

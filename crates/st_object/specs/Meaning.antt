@@ -3,9 +3,8 @@ use Rattle.std.specs.Prelude.{ℕ, ◌≤◌, ◌<◌, ◌+◌, ◌*◌, ◌-◌
 use Rattle.std.specs.Option.{option_map, option_and_then}
 use Rattle.st_card.specs.declared.limits.TheConstants.{MOST_NUMBER}
 use Rattle.st_text.specs.Bytes.{blank, period, digit_zero, letter_a}
-use Rattle.st_card.specs.Number.{reading}
-use Rattle.st_card.specs.Controls.{good}
-use Rattle.st_card.specs.Tables.{is_same, row_of}
+use Rattle.st_text.specs.Number.{number_up_to}
+use Rattle.st_text.specs.Tables.{is_same, row_of}
 use Rattle.st_object.specs.Lines.{spelled}
 use Rattle.st_object.specs.declared.items.Item.{Item}
 use Rattle.st_object.specs.declared.items.Item.TheVariants.{Object, Start, Word, Budget, Delay, Signal, Dump, Trace, Time, Chart, Snap, Back, Fin}
@@ -18,8 +17,8 @@ parts_at at [] = None
 parts_at at (c ∷ cs) = if c == at then Some ([], cs) else option_map (λ p. (c ∷ p.0, p.1)) (parts_at at cs)
 
 -- the number that a text is, of 12 digits at most
-abbrev pub number_in : List ℕ → Option ℕ
-number_in text = good (reading MOST_NUMBER text)
+abbrev pub short_number : List ℕ → Option ℕ
+short_number text = number_up_to MOST_NUMBER text
 
 -- a pair of values, where there are both
 abbrev pub both : {X Y : Type 0} → Option X → Option Y → Option (X × Y)
@@ -28,8 +27,8 @@ both (Some x) None = None
 both None y = None
 
 -- two numbers with a byte between them
-abbrev pub numbers_in : ℕ → List ℕ → Option (ℕ × ℕ)
-numbers_in at text = option_and_then (λ p. both (number_in p.0) (number_in p.1)) (parts_at at text)
+abbrev pub two_numbers : ℕ → List ℕ → Option (ℕ × ℕ)
+two_numbers at text = option_and_then (λ p. both (short_number p.0) (short_number p.1)) (parts_at at text)
 
 -- a hexadecimal digit
 abbrev pub hex_digit_in : ℕ → ℕ
@@ -43,7 +42,7 @@ hex_after n (c ∷ cs) = hex_after (n % 2 ^ 60 * 16 + hex_digit_in c) cs
 -- a word of storage: its address and what it holds
 abbrev pub word_in : List ℕ → Option Item
 word_in text = option_and_then
-    (λ p. option_map (λ w. Word w (hex_after 0 p.1)) (number_in p.0)) (parts_at blank text)
+    (λ p. option_map (λ w. Word w (hex_after 0 p.1)) (short_number p.0)) (parts_at blank text)
 
 -- the first words of lines
 abbrev pub keywords : List (List ℕ × Kind)
@@ -56,17 +55,17 @@ keywords =
 -- what stands behind a first word
 abbrev pub item_behind : Kind → List ℕ → Option Item
 item_behind kinds.Object text = Some Object
-item_behind kinds.Start text = option_map (λ p. Start (2 * p.0 + p.1 / 32)) (numbers_in period text)
+item_behind kinds.Start text = option_map (λ p. Start (2 * p.0 + p.1 / 32)) (two_numbers period text)
 item_behind kinds.Word text = word_in text
-item_behind kinds.Budget text = option_map (λ n. Budget n) (number_in text)
-item_behind kinds.Delay text = option_map (λ n. Delay n) (number_in text)
-item_behind kinds.Signal text = option_map (λ p. Signal p.0 p.1) (numbers_in blank text)
-item_behind kinds.Dump text = option_map (λ p. Dump p.0 p.1) (numbers_in blank text)
+item_behind kinds.Budget text = option_map (λ n. Budget n) (short_number text)
+item_behind kinds.Delay text = option_map (λ n. Delay n) (short_number text)
+item_behind kinds.Signal text = option_map (λ p. Signal p.0 p.1) (two_numbers blank text)
+item_behind kinds.Dump text = option_map (λ p. Dump p.0 p.1) (two_numbers blank text)
 item_behind kinds.Trace text = Some Trace
 item_behind kinds.Time text = Some Time
 item_behind kinds.Chart text = Some Chart
-item_behind kinds.Snap text = option_map (λ n. Snap n) (number_in text)
-item_behind kinds.Back text = option_map (λ n. Back n) (number_in text)
+item_behind kinds.Snap text = option_map (λ n. Snap n) (short_number text)
+item_behind kinds.Back text = option_map (λ n. Back n) (short_number text)
 item_behind kinds.Fin text = Some Fin
 
 -- what a first word says with what stands behind it

@@ -2,13 +2,12 @@
 use Rattle.std.specs.Prelude.{ℕ, ◌≡◌, ◌≤◌, ◌<◌, ◌+◌, ◌-◌, ◌^◌, false, List, [], ◌∷◌, ◌++◌, length, take, replicate, slice_index, Option, is_some, unwrap_or, Result, Ok, Err, if◌then◌else◌}
 use Rattle.std.specs.List.{All, flat_map}
 use Rattle.std.specs.Option.{option_and_then, option_map_or}
-use Rattle.st_text.specs.Bytes.{line_end}
+use Rattle.st_text.specs.Bytes.{line_end, lf}
 use Rattle.st_bits.specs.declared.register.TheConstants.{FIRST_STORAGE_WORD}
 use Rattle.st_bits.specs.Storage.{words_of_storage}
-use Rattle.st_report.specs.Line.{lf}
 use Rattle.st_card.specs.Controls.{Asked}
 use Rattle.st_card.specs.Limits.{IsWithinLimits}
-use Rattle.st_card.specs.Pieces.{parted}
+use Rattle.st_text.specs.Pieces.{parted}
 use Rattle.st_object.specs.Lines.{text_of, word_lines, order_lines, show_lines}
 use Rattle.st_object.specs.Draft.{Draft, blank, is_empty, is_whole, with_item}
 use Rattle.st_object.specs.Meaning.{item_in}
@@ -79,12 +78,13 @@ read_from d n (line ∷ next ∷ more) =
 unfoldable pub read_text : List ℕ → Result Program ℕ
 read_text text = read_from blank 1 (parted line_end text)
 
--- the lines of a text: what stands behind the last line end is a line too, where it is not empty
+-- the lines that pieces between line ends are: what stands behind the last line end is a line too, where it is not empty
 abbrev pub lines_in : List (List ℕ) → List (List ℕ)
 lines_in [] = []
 lines_in (rest ∷ []) = if is_empty rest then [] else rest ∷ []
 lines_in (line ∷ next ∷ more) = line ∷ lines_in (next ∷ more)
 
+-- the lines of a text
 abbrev pub text_lines : List ℕ → List (List ℕ)
 text_lines text = lines_in (parted line_end text)
 
@@ -93,8 +93,8 @@ abbrev pub first_lines : ℕ → List ℕ → List ℕ
 first_lines n text = flat_map (λ line. line ++ lf) (take n (text_lines text))
 
 -- a text that some object text begins with
-abbrev pub IsFront : List ℕ → Type 0
-IsFront front = (p : Program) × IsProgram p × AreWords p.words
+abbrev pub BeginsObjectText : List ℕ → Type 0
+BeginsObjectText front = (p : Program) × IsProgram p × AreWords p.words
     × (rest : List ℕ) × (object_text p ≡ front ++ rest)
 
 -- the text of some program
@@ -106,5 +106,5 @@ IsObjectText text = (p : Program) × IsProgram p × AreWords p.words × (text �
 pub record IsBadLine (text : List ℕ) (n : ℕ) : Type 0 where
   pub none : IsObjectText text → ⊥
   pub counted : (1 ≤ n) × (n ≤ length (text_lines text) + 1)
-  pub good_before : IsFront (first_lines (n - 1) text)
-  pub bad : n ≤ length (text_lines text) → IsFront (first_lines n text) → ⊥
+  pub good_before : BeginsObjectText (first_lines (n - 1) text)
+  pub bad : n ≤ length (text_lines text) → BeginsObjectText (first_lines n text) → ⊥

@@ -6,10 +6,10 @@ ghost use Rattle.st_object.specs.Order.{is_met, are_met, none_stands};
 ghost use Rattle.st_object.specs.Answers.{Settles, Appends};
 
 use crate::items::{Item, Kind};
-use crate::order::{ORDER, kind_of, row};
+use crate::order::{KindRow, ORDER, kind_of, row};
 use st_bits::WORDS;
 use st_bits::register::FIRST_STORAGE_WORD;
-use st_card::{Controls, Keyword, Outcome};
+use st_card::{Addition, Controls, Keyword};
 use std::alloc::{AllocError, Global};
 use std::marker::Model;
 
@@ -67,7 +67,7 @@ impl Draft {
     fn is_met(&self, kind: Kind) -> bool
         ensures { result ≡ is_met (spec.stands self.now) kind }
     {
-        let (_, _, needed) = row(kind);
+        let needed = row(kind).required;
         !needed || self.stands(kind)
     }
 
@@ -112,7 +112,7 @@ impl Draft {
     fn has_place(&self, kind: Kind) -> bool
         ensures { result ≡ spec.has_place self.now kind }
     {
-        let (place, repeats, _) = row(kind);
+        let KindRow { place, repeats, .. } = row(kind);
         let (before, _) = ORDER.split_at(place);
         let (_, behind) = ORDER.split_at(place + 1);
         self.are_met(before) && (repeats || !self.stands(kind)) && self.none_stands(behind)
@@ -134,19 +134,19 @@ impl Draft {
     }
 
     // Adds what a line says, where that line may follow.
-    pub(crate) fn add(&mut self, item: Item) -> Outcome
+    pub(crate) fn add(&mut self, item: Item) -> Addition
         ensures { Settles self.new (spec.with_item self.old item) result }
     {
         if self.has_place(kind_of(item)) {
             self.put(item)
         } else {
-            Outcome::Refused
+            Addition::Refused
         }
     }
 
     // Puts in what a line says.
     #[tactic(auto, unfolding(crate::specs::Draft::with_value))]
-    pub(crate) fn put(&mut self, item: Item) -> Outcome
+    pub(crate) fn put(&mut self, item: Item) -> Addition
         ensures { Settles self.new (spec.with_value self.old item) result }
     {
         match item {
@@ -167,46 +167,46 @@ impl Draft {
     }
 
     // Adds what is asked for, within the limits of control cards.
-    fn ask(&mut self, keyword: Keyword, numbers: &[u64]) -> Outcome
+    fn ask(&mut self, keyword: Keyword, numbers: &[u64]) -> Addition
         requires { length numbers.now ≤ 36 }
         ensures { Settles self.new (spec.with_order self.old keyword numbers.now) result }
     {
         self.controls.ask(keyword, numbers)
     }
 
-    fn put_object(&mut self) -> Outcome
+    fn put_object(&mut self) -> Addition
         ensures { Settles self.new (Some (record self.old { begun = true })) result }
     {
         self.begun = true;
-        Outcome::Added
+        Addition::Added
     }
 
-    fn put_start(&mut self, half: u64) -> Outcome
+    fn put_start(&mut self, half: u64) -> Addition
         ensures { Settles self.new (spec.with_start self.old half) result }
     {
         if half < STARTS {
             self.start = Some(half as u32);
-            Outcome::Added
+            Addition::Added
         } else {
-            Outcome::Refused
+            Addition::Refused
         }
     }
 
-    fn put_word(&mut self, address: u64, word: u64) -> Outcome
+    fn put_word(&mut self, address: u64, word: u64) -> Addition
         ensures { Settles self.new (spec.with_word self.old address word) result }
     {
         if may_hold(self.words.len() as u64, address, word) {
             push_word(&mut self.words, address as usize, word)
         } else {
-            Outcome::Refused
+            Addition::Refused
         }
     }
 
-    fn put_fin(&mut self) -> Outcome
+    fn put_fin(&mut self) -> Addition
         ensures { Settles self.new (Some (record self.old { ended = true })) result }
     {
         self.ended = true;
-        Outcome::Added
+        Addition::Added
     }
 }
 
@@ -230,14 +230,14 @@ pub(crate) fn fill_up(words: &mut Vec<u64>, length: usize) -> Result<(), AllocEr
 }
 
 // Appends a word at its address, behind zeros.
-fn push_word(words: &mut Vec<u64>, address: usize, word: u64) -> Outcome
+fn push_word(words: &mut Vec<u64>, address: usize, word: u64) -> Addition
     requires { length words.old.items ≤ address }
     ensures { let zeros = replicate (address - length words.old.items) 0 in
         Appends words.old.items words.new.items (zeros ++ word ∷ []) result }
 {
     if fill_up(words, address).is_err() || words.push(word).is_err() {
-        Outcome::NoMemory
+        Addition::NoMemory
     } else {
-        Outcome::Added
+        Addition::Added
     }
 }

@@ -1,4 +1,4 @@
-//! Object texts: a program as text, and back. `docs/object-text.md` has the format.
+//! Object texts: a program as text in the format of `docs/object-text.md`, and back.
 #![tactic(auto, using(st_bits::specs::Storage::words_of_storage_is))]
 
 mod drafts;

@@ -9,7 +9,7 @@ ghost use Rattle.st_object.specs.declared.items.Kind.TheVariants as kinds;
 use crate::items::{Item, Kind};
 use crate::spelling::spelled;
 use st_card::limits::MOST_NUMBER;
-use st_card::{Reading, cut, read_number, row_of};
+use st_text::{cut, number_up_to, row_of};
 
 // The first words of lines.
 const KEYWORDS: [(&[u8], Kind); 13] = [
@@ -36,23 +36,20 @@ fn parts_at(at: u8, text: &[u8]) -> Option<(&[u8], &[u8])>
 }
 
 // The number that a text is, of 12 digits at most.
-fn number_in(text: &[u8]) -> Option<u64>
-    ensures value { result ≡ spec.number_in text.now }
+fn short_number(text: &[u8]) -> Option<u64>
+    ensures value { result ≡ spec.short_number text.now }
     ensures short { IfSome result (λ n. n ≤ 999999999999) }
 {
-    match read_number(text, MOST_NUMBER) {
-        Reading::Good(number) => Some(number),
-        Reading::Large | Reading::Bad => None,
-    }
+    number_up_to(text, MOST_NUMBER)
 }
 
 // Two numbers with a byte between them.
-fn numbers_in(at: u8, text: &[u8]) -> Option<(u64, u64)>
-    ensures value { result ≡ spec.numbers_in at text.now }
+fn two_numbers(at: u8, text: &[u8]) -> Option<(u64, u64)>
+    ensures value { result ≡ spec.two_numbers at text.now }
     ensures short { IfSome result (λ p. p.0 ≤ 999999999999) }
 {
     let (first, second) = parts_at(at, text)?;
-    Some((number_in(first)?, number_in(second)?))
+    Some((short_number(first)?, short_number(second)?))
 }
 
 // A hexadecimal digit.
@@ -86,28 +83,28 @@ fn word_in(text: &[u8]) -> Option<Item>
     ensures { result ≡ spec.word_in text.now }
 {
     let (address, word) = parts_at(b' ', text)?;
-    Some(Item::Word(number_in(address)?, hex_in(word)))
+    Some(Item::Word(short_number(address)?, hex_in(word)))
 }
 
 // A start as a half-word address.
 fn start_in(text: &[u8]) -> Option<Item>
     ensures { result ≡ spec.item_behind kinds.Start text.now }
 {
-    let (word, bit) = numbers_in(b'.', text)?;
+    let (word, bit) = two_numbers(b'.', text)?;
     Some(Item::Start(2 * word + bit / 32))
 }
 
 fn signal_in(text: &[u8]) -> Option<Item>
     ensures { result ≡ spec.item_behind kinds.Signal text.now }
 {
-    let (count, indicator) = numbers_in(b' ', text)?;
+    let (count, indicator) = two_numbers(b' ', text)?;
     Some(Item::Signal(count, indicator))
 }
 
 fn dump_in(text: &[u8]) -> Option<Item>
     ensures { result ≡ spec.item_behind kinds.Dump text.now }
 {
-    let (first, last) = numbers_in(b' ', text)?;
+    let (first, last) = two_numbers(b' ', text)?;
     Some(Item::Dump(first, last))
 }
 
@@ -119,15 +116,15 @@ fn item_behind(kind: Kind, text: &[u8]) -> Option<Item>
         Kind::Object => Some(Item::Object),
         Kind::Start => start_in(text),
         Kind::Word => word_in(text),
-        Kind::Budget => Some(Item::Budget(number_in(text)?)),
-        Kind::Delay => Some(Item::Delay(number_in(text)?)),
+        Kind::Budget => Some(Item::Budget(short_number(text)?)),
+        Kind::Delay => Some(Item::Delay(short_number(text)?)),
         Kind::Signal => signal_in(text),
         Kind::Dump => dump_in(text),
         Kind::Trace => Some(Item::Trace),
         Kind::Time => Some(Item::Time),
         Kind::Chart => Some(Item::Chart),
-        Kind::Snap => Some(Item::Snap(number_in(text)?)),
-        Kind::Back => Some(Item::Back(number_in(text)?)),
+        Kind::Snap => Some(Item::Snap(short_number(text)?)),
+        Kind::Back => Some(Item::Back(short_number(text)?)),
         Kind::Fin => Some(Item::Fin),
     }
 }

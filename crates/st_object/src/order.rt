@@ -22,25 +22,47 @@ pub(crate) const ORDER: [Kind; 13] = [
     Kind::Fin,
 ];
 
+// Where a kind of line stands.
+#[derive(Clone, Copy)]
+pub(crate) struct KindRow {
+    // Its place in that order.
+    pub place: usize,
+    // Whether it may stand more than once.
+    pub repeats: bool,
+    // Whether it must stand.
+    pub required: bool,
+}
+
+// A row of the table of the kinds of lines.
+fn kind_row(place: usize, repeats: bool, required: bool) -> KindRow
+    ensures { result ≡ record { place = place; repeats = repeats; required = required } }
+{
+    KindRow {
+        place,
+        repeats,
+        required,
+    }
+}
+
 // A kind's place in that order, whether it may stand more than once, and whether it must stand.
-pub(crate) fn row(kind: Kind) -> (usize, bool, bool)
+pub(crate) fn row(kind: Kind) -> KindRow
     ensures row { result ≡ spec.row kind }
-    ensures within { result.0 < 13 }
+    ensures within { result.place < 13 }
 {
     match kind {
-        Kind::Object => (0, false, true),
-        Kind::Start => (1, false, true),
-        Kind::Word => (2, true, false),
-        Kind::Budget => (3, false, true),
-        Kind::Delay => (4, true, true),
-        Kind::Signal => (5, true, false),
-        Kind::Dump => (6, true, false),
-        Kind::Trace => (7, false, false),
-        Kind::Time => (8, false, false),
-        Kind::Chart => (9, false, false),
-        Kind::Snap => (10, true, false),
-        Kind::Back => (11, false, false),
-        Kind::Fin => (12, false, true),
+        Kind::Object => kind_row(0, false, true),
+        Kind::Start => kind_row(1, false, true),
+        Kind::Word => kind_row(2, true, false),
+        Kind::Budget => kind_row(3, false, true),
+        Kind::Delay => kind_row(4, true, true),
+        Kind::Signal => kind_row(5, true, false),
+        Kind::Dump => kind_row(6, true, false),
+        Kind::Trace => kind_row(7, false, false),
+        Kind::Time => kind_row(8, false, false),
+        Kind::Chart => kind_row(9, false, false),
+        Kind::Snap => kind_row(10, true, false),
+        Kind::Back => kind_row(11, false, false),
+        Kind::Fin => kind_row(12, false, true),
     }
 }
 

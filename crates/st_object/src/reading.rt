@@ -11,7 +11,8 @@ use crate::drafts::{Draft, fill_up};
 use crate::images::Image;
 use crate::meaning::item_in;
 use st_bits::WORDS;
-use st_card::{Fault, Outcome, cut};
+use st_card::{Addition, Fault};
+use st_text::cut;
 use std::alloc::Global;
 
 /// Why a text was not read.
@@ -25,11 +26,11 @@ pub enum ObjectError {
 }
 
 // Adds a line, where it may follow.
-fn add_line(draft: &mut Draft, line: &[u8]) -> Outcome
+fn add_line(draft: &mut Draft, line: &[u8]) -> Addition
     ensures { Settles draft.new (spec.with_line draft.old line.now) result }
 {
     match item_in(line) {
-        None => Outcome::Refused,
+        None => Addition::Refused,
         Some(item) => draft.add(item),
     }
 }
@@ -82,9 +83,9 @@ fn refuse_unended(draft: &mut Draft, card: u32, line: &[u8]) -> ObjectError
     ensures { Explains (spec.unended draft.old card line.now) result }
 {
     match add_line(draft, line) {
-        Outcome::Added => refused(card + 1),
-        Outcome::Refused => refused(card),
-        Outcome::NoMemory => ObjectError::NoMemory,
+        Addition::Added => refused(card + 1),
+        Addition::Refused => refused(card),
+        Addition::NoMemory => ObjectError::NoMemory,
     }
 }
 
@@ -110,9 +111,9 @@ fn read(alloc: Global, text: &[u8]) -> Result<Image, ObjectError>
     let mut rest = text;
     'lines: while let Some((line, after)) = cut(rest, b'\n') {
         match add_line(&mut draft, line) {
-            Outcome::Added => {}
-            Outcome::Refused => return Err(refused(card)),
-            Outcome::NoMemory => return Err(ObjectError::NoMemory),
+            Addition::Added => {}
+            Addition::Refused => return Err(refused(card)),
+            Addition::NoMemory => return Err(ObjectError::NoMemory),
         }
         card += 1;
         rest = after;

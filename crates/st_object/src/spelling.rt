@@ -1,12 +1,11 @@
 //! How the lines of an object text are spelled.
 
 ghost use Rattle.std.specs.Prelude.{◌≡◌, ◌≤◌, ◌++◌, length, codes, decimal};
-ghost use Rattle.st_report.specs.Line.{hex_word};
+ghost use Rattle.st_text.specs.Numerals.{hex_word};
 ghost use Rattle.st_object.specs.Lines as spec;
 
 use crate::items::Item;
-use st_report::Line;
-use st_report::pieces::{begun, push_decimal, push_hex};
+use st_text::{Line, begun, push_decimal, push_hex};
 
 // A word and a number.
 fn with_number(word: &str, n: u64) -> Line

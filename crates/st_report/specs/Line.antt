@@ -1,44 +1,11 @@
 -- The bytes of each line of the report, its line end included.
-use Rattle.std.specs.Prelude.{ℕ, suc, zero, ◌+◌, ◌-◌, ◌*◌, ◌/◌, ◌%◌, Bool, true, false, if◌then◌else◌, nat_lt, List, [], ◌∷◌, ◌++◌, codes, decimal, Option, Some, None}
-use Rattle.st_text.specs.Bytes.{line_end, digit_zero, letter_a}
-
--- the line end
-abbrev pub lf : List ℕ
-lf = line_end ∷ []
-
--- the upper-case hexadecimal digit of a number below 16
-abbrev pub hex_digit : ℕ → ℕ
-hex_digit d = if nat_lt d 10 then digit_zero + d else letter_a - 10 + d
-
--- the last n hexadecimal digits of x, the highest first
-unfoldable pub hex_text : ℕ → ℕ → List ℕ
-hex_text zero x = []
-hex_text (suc n) x = hex_text n (x / 16) ++ hex_digit (x % 16) ∷ []
-
--- a word of 64 bits as sixteen hexadecimal digits
-abbrev pub hex_word : ℕ → List ℕ
-hex_word word = hex_text 16 word
+use Rattle.std.specs.Prelude.{ℕ, ◌/◌, ◌%◌, Bool, true, false, List, ◌++◌, codes, decimal, Option, Some, None}
+use Rattle.st_text.specs.Bytes.{lf}
+use Rattle.st_text.specs.Numerals.{hex_word, half_address, flag}
 
 -- a number below 100 as two decimal digits
 abbrev pub two_digits : ℕ → List ℕ
 two_digits n = decimal (n / 10) ++ decimal (n % 10)
-
--- a bit of a word as word.bit
-abbrev pub place : ℕ → ℕ → List ℕ
-place word bit = decimal word ++ codes "." ++ decimal bit
-
--- a bit address as word.bit
-abbrev pub bit_address : ℕ → List ℕ
-bit_address b = place (b / 64) (b % 64)
-
--- a half-word address as word.bit: the halves of a word begin at its bits 0 and 32
-abbrev pub half_address : ℕ → List ℕ
-half_address h = place (h / 2) (32 * (h % 2))
-
--- yes or no
-abbrev pub flag : Bool → List ℕ
-flag true = codes "1"
-flag false = codes "0"
 
 -- the seed and the number of cards of a made deck
 abbrev pub soak_line : ℕ → ℕ → List ℕ

@@ -1,21 +1,25 @@
 -- The bytes of the lines of the listing, their line ends included.
-use Rattle.std.specs.Prelude.{ℕ, ◌-◌, ◌*◌, ◌^◌, ◌≤◌, List, [], ◌++◌, length, replicate, IsAscii, codes, decimal, Option, Some, None}
+use Rattle.std.specs.Prelude.{ℕ, ◌-◌, ◌*◌, ◌^◌, ◌≤◌, if◌then◌else◌, nat_lt, List, [], ◌++◌, length, replicate, IsAscii, codes, decimal, Option, Some, None}
 use Rattle.std.specs.Int.{div_ceil}
-use Rattle.st_text.specs.Bytes.{blank}
+use Rattle.st_text.specs.Bytes.{blank, lf}
 use Rattle.st_text.specs.Blanks.{without_end_blanks}
-use Rattle.st_report.specs.Line.{lf, hex_text, bit_address}
+use Rattle.st_text.specs.Numerals.{hex_text, bit_address}
 
 -- n blanks
 abbrev pub blanks : ℕ → List ℕ
 blanks n = replicate n blank
 
+-- the blanks that fill a text up to n places, none where it has as many
+abbrev pub filling : ℕ → List ℕ → List ℕ
+filling n text = if nat_lt (length text) n then blanks (n - length text) else []
+
 -- the text at the right of n places
 abbrev pub right_in : ℕ → List ℕ → List ℕ
-right_in n text = blanks (n - length text) ++ text
+right_in n text = filling n text ++ text
 
 -- the text at the left of n places
 abbrev pub left_in : ℕ → List ℕ → List ℕ
-left_in n text = text ++ blanks (n - length text)
+left_in n text = text ++ filling n text
 
 -- n bits in hexadecimal, with zeros on the right to whole digits
 abbrev pub laid_text : ℕ → ℕ → List ℕ

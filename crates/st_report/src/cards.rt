@@ -1,13 +1,13 @@
 //! The lines of the listing.
-ghost use Rattle.std.specs.Prelude.{◌≡◌, ◌+◌, ◌^◌, ◌<◌, ◌≤◌, ◌++◌, length, IsAscii, max};
+
+ghost use Rattle.std.specs.Prelude.{◌≡◌, ◌+◌, ◌-◌, ◌^◌, ◌<◌, ◌≤◌, ◌++◌, length, IsAscii, max};
 ghost use Rattle.arrayvec.specs.ArrayString.{array_string_len};
-ghost use Rattle.st_text.specs.Blanks.{without_end_blanks};
-ghost use Rattle.st_report.specs.Listing.{blanks, right_in, left_in, laid_text, location_text, IsCardText, listed_line, symbol_line};
+ghost use Rattle.st_report.specs.Listing.{blanks, filling, right_in, left_in, laid_text, location_text, IsCardText, listed_line, symbol_line};
 
 use crate::Line;
-use crate::pieces::{begun, ended, push_bit_address, push_hex, push_short_decimal};
+use crate::pieces::ended;
 use itoa::Buffer;
-use st_text::filled_len;
+use st_text::{begun, drop_end_blanks, filled_len, push_bit_address, push_hex, push_short_decimal};
 use std::str;
 
 // Appends bytes as they stand.
@@ -29,6 +29,18 @@ fn push_blanks(line: &mut Line, count: usize)
     }
 }
 
+// Appends the blanks that fill a text up to so many places.
+fn push_filling(line: &mut Line, width: usize, text: &str)
+    requires { array_string_len line.old + (max width (length text.now) - length text.now) ≤ 128 }
+    ensures bytes { line.new.bytes ≡ line.old.bytes ++ filling width text.now }
+    ensures room { array_string_len line.new
+        ≤ array_string_len line.old + (max width (length text.now) - length text.now) }
+{
+    if text.len() < width {
+        push_blanks(line, width - text.len());
+    }
+}
+
 // Appends a text at the right of so many places.
 fn push_right(line: &mut Line, width: usize, text: &str)
     requires { array_string_len line.old + max width (length text.now) ≤ 128 }
@@ -36,7 +48,7 @@ fn push_right(line: &mut Line, width: usize, text: &str)
     ensures room { let shown = max width (length text.now) in
         array_string_len line.new ≤ array_string_len line.old + shown }
 {
-    push_blanks(line, width.saturating_sub(text.len()));
+    push_filling(line, width, text);
     line.push_str(text);
 }
 
@@ -48,16 +60,7 @@ fn push_left(line: &mut Line, width: usize, text: &str)
         array_string_len line.new ≤ array_string_len line.old + shown }
 {
     line.push_str(text);
-    push_blanks(line, width.saturating_sub(text.len()));
-}
-
-// Drops the blanks at the line's end.
-fn drop_end_blanks(line: &mut Line)
-    ensures bytes { line.new.bytes ≡ without_end_blanks line.old.bytes }
-    ensures room { array_string_len line.new ≤ array_string_len line.old }
-{
-    let filled = filled_len(line.as_str().as_bytes());
-    line.truncate(filled);
+    push_filling(line, width, text);
 }
 
 // The location of a card as word.bit, or nothing.

@@ -1,12 +1,12 @@
 //! The lines of the chart and of a snapshot.
+
 ghost use Rattle.std.specs.Prelude.{◌≡◌, ◌+◌, ◌≤◌, ◌++◌};
 ghost use Rattle.arrayvec.specs.ArrayString.{array_string_len};
 ghost use Rattle.st_report.specs.Line.{row_line, drop_line, snap_line, change_text, lev_line};
 
 use crate::Line;
-use crate::pieces::{
-    begun, ended, push_decimal, push_flag, push_half_address, push_hex, push_short_decimal,
-};
+use crate::pieces::ended;
+use st_text::{begun, push_decimal, push_flag, push_half_address, push_hex, push_short_decimal};
 
 /// `ROW n a P p R r C c`: the n-th instruction done, its half-word address, and the ticks at
 /// which it was prepared, its result was ready, and it was complete.

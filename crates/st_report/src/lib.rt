@@ -1,27 +1,23 @@
-//! The lines of the report and of the listing: one call a line, each with its line end.
-//! `docs/report.md` has the rules.
+//! The lines of the report and of the listing, by the rules of `docs/report.md`: one call a line, each with its line end.
 #![tactic(auto)]
 
 mod cards;
 mod job;
 mod levels;
-pub mod pieces;
+mod pieces;
 mod run;
 mod state_block;
 mod sweep;
 
-use arrayvec::ArrayString;
 pub use cards::{line_listed, line_symbol};
 pub use job::{line_fault, line_soak};
 pub use levels::{line_drop, line_lev, line_row, line_snap};
 pub use run::{
     line_back, line_done, line_end, line_int, line_prt, line_ticks, line_time, line_trc,
 };
+pub use st_text::Line;
 pub use state_block::{line_dump, line_en, line_ic, line_mem, line_reg};
 pub use sweep::{line_calm, line_levels};
-
-/// One line with its line end, of at most 128 bytes.
-pub type Line = ArrayString<128>;
 
 #[cfg(test)]
 mod tests;

@@ -1,38 +1,11 @@
-//! The pieces that lines are put together from.
-ghost use Rattle.std.specs.Prelude.{◌≡◌, ◌+◌, ◌<◌, ◌≤◌, ◌++◌, length, decimal};
+//! The pieces that only the lines of the report have.
+
+ghost use Rattle.std.specs.Prelude.{◌≡◌, ◌+◌, ◌<◌, ◌≤◌, ◌++◌};
 ghost use Rattle.arrayvec.specs.ArrayString.{array_string_len};
-ghost use Rattle.st_report.specs.Line.{lf, hex_digit, hex_text, two_digits, place, bit_address, half_address, flag};
+ghost use Rattle.st_text.specs.Bytes.{lf};
+ghost use Rattle.st_report.specs.Line.{two_digits};
 
-use crate::Line;
-use itoa::Buffer;
-
-/// A line that begins with this word, of at most 128 bytes.
-pub fn begun(word: &str) -> Line
-    requires { length word.now ≤ 128 }
-    ensures { result.bytes ≡ word.now }
-{
-    let mut line = Line::new();
-    line.push_str(word);
-    line
-}
-
-/// Appends a number in decimal digits, of which there are at most 20.
-pub fn push_decimal(line: &mut Line, n: u64)
-    requires { array_string_len line.old + 20 ≤ 128 }
-    ensures bytes { line.new.bytes ≡ line.old.bytes ++ decimal n }
-    ensures room { array_string_len line.new ≤ array_string_len line.old + 20 }
-{
-    line.push_str(Buffer::new().format(n));
-}
-
-// Appends a number of at most ten decimal digits.
-pub(crate) fn push_short_decimal(line: &mut Line, n: u32)
-    requires { array_string_len line.old + 10 ≤ 128 }
-    ensures bytes { line.new.bytes ≡ line.old.bytes ++ decimal n }
-    ensures room { array_string_len line.new ≤ array_string_len line.old + 10 }
-{
-    line.push_str(Buffer::new().format(n));
-}
+use st_text::{Line, push_short_decimal};
 
 // Appends a number below 100 as two decimal digits.
 pub(crate) fn push_two_digits(line: &mut Line, n: u8)
@@ -42,71 +15,6 @@ pub(crate) fn push_two_digits(line: &mut Line, n: u8)
 {
     push_short_decimal(line, u32::from(n / 10));
     push_short_decimal(line, u32::from(n % 10));
-}
-
-// The hexadecimal digit of a number below 16.
-fn hex_char(digit: u8) -> char
-    requires { digit < 16 }
-    ensures value { result ≡ hex_digit digit }
-    ensures ascii { result < 128 }
-{
-    let code = if digit < 10 {
-        b'0' + digit
-    } else {
-        b'A' + (digit - 10)
-    };
-    char::from(code)
-}
-
-/// Appends the last `digits` digits of a number in hexadecimal, in capitals.
-pub fn push_hex(line: &mut Line, digits: u8, n: u64)
-    requires { array_string_len line.old + digits ≤ 128 }
-    ensures bytes { line.new.bytes ≡ line.old.bytes ++ hex_text digits n }
-    ensures room { array_string_len line.new ≡ array_string_len line.old + digits }
-{
-    if digits == 0 {
-        return;
-    }
-    push_hex(line, digits - 1, n / 16);
-    line.push(hex_char((n % 16) as u8));
-}
-
-// Appends a bit of a word as word.bit.
-fn push_place(line: &mut Line, word: u32, bit: u8)
-    requires { array_string_len line.old + 14 ≤ 128 }
-    ensures bytes { line.new.bytes ≡ line.old.bytes ++ place word bit }
-    ensures room { array_string_len line.new ≤ array_string_len line.old + 14 }
-{
-    push_short_decimal(line, word);
-    line.push_str(".");
-    line.push_str(Buffer::new().format(bit));
-}
-
-// Appends a bit address.
-pub(crate) fn push_bit_address(line: &mut Line, address: u32)
-    requires { array_string_len line.old + 14 ≤ 128 }
-    ensures bytes { line.new.bytes ≡ line.old.bytes ++ bit_address address }
-    ensures room { array_string_len line.new ≤ array_string_len line.old + 14 }
-{
-    push_place(line, address / 64, (address % 64) as u8);
-}
-
-// Appends a half-word address.
-pub(crate) fn push_half_address(line: &mut Line, address: u32)
-    requires { array_string_len line.old + 14 ≤ 128 }
-    ensures bytes { line.new.bytes ≡ line.old.bytes ++ half_address address }
-    ensures room { array_string_len line.new ≤ array_string_len line.old + 14 }
-{
-    push_place(line, address / 2, 32 * (address % 2) as u8);
-}
-
-// Appends 1 for yes, 0 for no.
-pub(crate) fn push_flag(line: &mut Line, yes: bool)
-    requires { array_string_len line.old < 128 }
-    ensures bytes { line.new.bytes ≡ line.old.bytes ++ flag yes }
-    ensures room { array_string_len line.new ≡ array_string_len line.old + 1 }
-{
-    line.push_str(if yes { "1" } else { "0" });
 }
 
 // The line with its line end.

@@ -1,11 +1,11 @@
 //! The lines of the state block.
+
 ghost use Rattle.std.specs.Prelude.{◌≡◌};
 ghost use Rattle.st_report.specs.Line.{ic_line, en_line, reg_line, dump_line, mem_line};
 
 use crate::Line;
-use crate::pieces::{
-    begun, ended, push_flag, push_half_address, push_hex, push_short_decimal, push_two_digits,
-};
+use crate::pieces::{ended, push_two_digits};
+use st_text::{begun, push_flag, push_half_address, push_hex, push_short_decimal};
 
 /// `IC a`: the instruction counter, a half-word address, as word.bit.
 pub fn line_ic(ic: u32) -> Line

@@ -5,19 +5,19 @@ use Rattle.std.specs.Option.{option_map, ok_or}
 use Rattle.std.proofs.lemmas.Bool.Decides.{nat_tests}
 use Rattle.arrayvec.specs.ArrayVec.{ArrayVec}
 use Rattle.st_card.specs.Cards.{first_fault}
-use Rattle.st_card.specs.Number.{is_filled}
-use Rattle.st_card.specs.Tables.{row_of}
+use Rattle.st_text.specs.Number.{is_filled}
+use Rattle.st_text.specs.Tables.{row_of}
 use Rattle.st_card.specs.declared.faults.Fault.{Fault}
 use Rattle.st_card.specs.declared.faults.Fault.TheVariants.{BadName, UnknownOperation, BadDataDescription, BadProgressive, BadFieldCount, BadExpression, BadIndex, NumberTooLarge}
-use Rattle.st_card.specs.declared.numbers.Reading.{Reading}
-use Rattle.st_card.specs.declared.numbers.Reading.TheVariants.{Bad, Large, Good}
+use Rattle.st_text.specs.declared.numbers.Reading.{Reading}
+use Rattle.st_text.specs.declared.numbers.Reading.TheVariants.{Bad, Large, Good}
 use Rattle.st_expr.specs.Expression.{parts, any_bad, any_large, terms_of, expr_of}
 use Rattle.st_expr.specs.declared.terms.Term.{Term}
 use Rattle.st_strap.specs.Order.{earlier, both_of, mapped, judged}
 use Rattle.st_strap.specs.Text.{clean, begins_with, behind_word}
 use Rattle.st_strap.specs.Forming.{behind_description}
-use Rattle.st_strap.specs.Reading.{front, index_part, index_fields, index_parts, index_field, index_of, spot, unindexed, expression, number_in, number_of, plain_number, signed_of, signed_number, with_selected, selected}
-use Rattle.st_strap.specs.Saying.{index_alone, spot_alone, expression_alone, number_alone, index_and_spot, index_and_list, operand, two_addresses, spot_and_number, address_and_number, two_addresses_and_number, refill_and_flags, count_and_refill, index_word, without_fields, with_fields, is_misnamed, formed, said, clean_statement_of, statement_of}
+use Rattle.st_strap.specs.Reading.{front, index_part, index_fields, index_parts, index_field, index_of, spot, unindexed, expression, number_or_fault, number_of, plain_number, signed_of, signed_number, with_selected, selected}
+use Rattle.st_strap.specs.Saying.{index_alone, spot_alone, expression_alone, number_alone, index_and_spot, index_and_list, operand, two_addresses, spot_and_number, address_and_number, two_addresses_and_number, refill_and_flags, count_and_refill, index_word_parts, without_fields, with_fields, is_misnamed, formed, said, clean_statement_of, statement_of}
 use Rattle.st_strap.specs.Faults.{Wanted, an_index_word, an_address, a_plain_address, a_number, a_signed_number, wanted_by, miscounts, plain, without_sign, is_bad, is_large, lacks_expression, lacks_index, is_past, any_field, named_in, described_in, progressed_in, fields_in, has_bad_progressive, field_faults, faults_behind, faults_on, wanted_in, fault_in}
 use Rattle.st_strap.specs.declared.statement.Form.{Form}
 use Rattle.st_strap.specs.declared.operations.Operation.{Operation}
@@ -148,7 +148,7 @@ pub plain_address-fault : (field : List ℕ) → fault_in (expression field) ≡
 unfolding expression
 plain_address-fault field = unindexed-fault (index_part field) (expr_of (front field)) _ _ (expr-fault (front field))
 
-reading-fault : (r : Reading) → fault_in (number_in r) ≡ first-of false (is_bad r) false (is_large r)
+reading-fault : (r : Reading) → fault_in (number_or_fault r) ≡ first-of false (is_bad r) false (is_large r)
 reading-fault Bad = refl
 reading-fault Large = refl
 reading-fault (Good n) = refl
@@ -292,7 +292,8 @@ address_and_number-fault : (fields : List (List ℕ)) → fault_in (address_and_
 unfolding address_and_number
 address_and_number-fault [] = refl
 address_and_number-fault (a ∷ []) = refl
-address_and_number-fault (a ∷ b ∷ []) = pair-fault (expression a) (plain_number b) a_plain_address a (a_number ∷ []) [] (b ∷ [])
+address_and_number-fault (a ∷ b ∷ []) = fault-mapped _ (both_of (expression a) (plain_number b))
+    ∙ pair-fault (expression a) (plain_number b) a_plain_address a (a_number ∷ []) [] (b ∷ [])
     (plain_address-fault a) (one-fault (plain_number b) a_number b (number-fault b))
 address_and_number-fault (a ∷ b ∷ c ∷ more) = too-many (a_plain_address ∷ a_number ∷ [], []) (a ∷ b ∷ c ∷ more) (omega arith)
 
@@ -316,8 +317,10 @@ operand-fault form (a ∷ b ∷ c ∷ more) = too-many (an_address (nat_le 2 for
 refill_and_flags-fault : (fields : List (List ℕ)) → fault_in (refill_and_flags fields) ≡ counted (a_plain_address ∷ [], a_number ∷ []) fields
 unfolding refill_and_flags
 refill_and_flags-fault [] = refl
-refill_and_flags-fault (a ∷ []) = pair-fault {B = ℕ} (expression a) (Ok 0) a_plain_address a [] (a_number ∷ []) [] (plain_address-fault a) refl
-refill_and_flags-fault (a ∷ b ∷ []) = pair-fault (expression a) (plain_number b) a_plain_address a [] (a_number ∷ []) (b ∷ [])
+refill_and_flags-fault (a ∷ []) = fault-mapped _ (both_of {B = ℕ} (expression a) (Ok 0))
+    ∙ pair-fault {B = ℕ} (expression a) (Ok 0) a_plain_address a [] (a_number ∷ []) [] (plain_address-fault a) refl
+refill_and_flags-fault (a ∷ b ∷ []) = fault-mapped _ (both_of (expression a) (plain_number b))
+    ∙ pair-fault (expression a) (plain_number b) a_plain_address a [] (a_number ∷ []) (b ∷ [])
     (plain_address-fault a) (one-fault (plain_number b) a_number b (number-fault b))
 refill_and_flags-fault (a ∷ b ∷ c ∷ more) = too-many (a_plain_address ∷ [], a_number ∷ []) (a ∷ b ∷ c ∷ more) (omega arith)
 
@@ -325,14 +328,15 @@ count_and_refill-fault : (fields : List (List ℕ)) →
     fault_in (count_and_refill fields) ≡ counted (a_number ∷ a_plain_address ∷ [], a_number ∷ []) fields
 unfolding count_and_refill
 count_and_refill-fault [] = refl
-count_and_refill-fault (a ∷ more) = pair-fault (plain_number a) (refill_and_flags more) a_number a (a_plain_address ∷ []) (a_number ∷ []) more
+count_and_refill-fault (a ∷ more) = fault-mapped _ (both_of (plain_number a) (refill_and_flags more))
+    ∙ pair-fault (plain_number a) (refill_and_flags more) a_number a (a_plain_address ∷ []) (a_number ∷ []) more
     (number-fault a) (refill_and_flags-fault more)
 
-index_word-fault : (fields : List (List ℕ)) →
-    fault_in (index_word fields) ≡ counted (a_plain_address ∷ a_number ∷ a_plain_address ∷ [], a_number ∷ []) fields
-unfolding index_word
-index_word-fault [] = refl
-index_word-fault (a ∷ more) = pair-fault (expression a) (count_and_refill more) a_plain_address a (a_number ∷ a_plain_address ∷ []) (a_number ∷ []) more
+index_word_parts-fault : (fields : List (List ℕ)) →
+    fault_in (index_word_parts fields) ≡ counted (a_plain_address ∷ a_number ∷ a_plain_address ∷ [], a_number ∷ []) fields
+unfolding index_word_parts
+index_word_parts-fault [] = refl
+index_word_parts-fault (a ∷ more) = pair-fault (expression a) (count_and_refill more) a_plain_address a (a_number ∷ a_plain_address ∷ []) (a_number ∷ []) more
     (plain_address-fault a) (count_and_refill-fault more)
 
 without_fields-fault : (statement : Statement) (fields : List (List ℕ)) → fault_in (without_fields statement fields) ≡ counted ([], []) fields
@@ -421,7 +425,7 @@ fields-of-fault (IndBranch sense off) form fields = fault-mapped _ (two_addresse
 fields-of-fault StoreCounter form fields = fault-mapped _ (two_addresses fields) ∙ two_addresses-fault fields
 fields-of-fault (Transfer write) form fields = fault-mapped _ (spot_and_number fields) ∙ spot_and_number-fault fields
 fields-of-fault Data form fields = fault-mapped _ (number_alone fields) ∙ number_alone-fault fields
-fields-of-fault IndexWord form fields = fault-mapped _ (index_word fields) ∙ index_word-fault fields
+fields-of-fault IndexWord form fields = fault-mapped _ (index_word_parts fields) ∙ index_word_parts-fault fields
 fields-of-fault Synonym form fields = fault-mapped _ (expression_alone fields) ∙ expression_alone-fault fields
 fields-of-fault SetLocation form fields = fault-mapped _ (expression_alone fields) ∙ expression_alone-fault fields
 fields-of-fault Reserve form fields = fault-mapped _ (expression_alone fields) ∙ expression_alone-fault fields

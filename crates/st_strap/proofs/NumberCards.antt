@@ -2,13 +2,13 @@
 use Rattle.std.proofs.Common.{◌≡◌, ◌<◌, ◌^◌, ◌==◌, ◌||◌, ℕ, true, false, List, [], ◌∷◌, ◌++◌, Option, Some, None, unwrap_or, if◌then◌else◌, length, take, drop, codes, decimal, Ok, Err, refl, ap, ◌∙◌, arith}
 use Rattle.std.proofs.lemmas.List.{take_all, drop_all}
 use Rattle.std.specs.Option.{option_and_then}
-use Rattle.st_card.specs.Pieces.{lacks}
+use Rattle.st_text.specs.Pieces.{lacks}
 use Rattle.st_card.specs.declared.faults.Fault.TheVariants.{BadName, UnknownOperation, BadDataDescription, BadProgressive}
 use Rattle.st_strap.specs.Text.{group_length, group, behind_group, fields_of}
 use Rattle.st_strap.specs.Table.{operation_of, other_operations}
 use Rattle.st_strap.specs.Order.{judged, mapped}
 use Rattle.st_strap.specs.Describing.{modes, plain_form, number_to, in_mode, description_of, may_have, described}
-use Rattle.st_strap.specs.Forming.{forms, unclosed, is_form, description_in, behind_description, form_number, may_have_form, is_end, progressed}
+use Rattle.st_strap.specs.Forming.{forms, unclosed, is_form, description_in, behind_description, form_number, may_have_form, is_behind_groups, progressed}
 use Rattle.st_strap.specs.Reading.{last_open, index_start, front, index_part, unindexed, number_of, signed_of, signed_number}
 use Rattle.st_strap.specs.Saying.{number_alone, with_fields, is_misnamed, formed, said, clean_statement_of, statement_of}
 use Rattle.st_strap.specs.declared.statement.Form.{Form}
@@ -55,12 +55,12 @@ field-read n small =
     ∙ ap (λ r. mapped (λ p. Data word_form p.0 p.1) r) (number-decimal n small)
 
 -- no progressive form stands before it
-pub is_end-comma : (text : List ℕ) → is_end (44 ∷ text) ≡ true
-is_end-comma text = elim (length (44 ∷ text) == 0) as (λ b. (b || true) ≡ true) [ true ↦ refl | false ↦ refl ]
+pub is_behind_groups-comma : (text : List ℕ) → is_behind_groups (44 ∷ text) ≡ true
+is_behind_groups-comma text = elim (length (44 ∷ text) == 0) as (λ b. (b || true) ≡ true) [ true ↦ refl | false ↦ refl ]
 
 progressed-none : (text : List ℕ) → progressed DataOperation word_form (44 ∷ text) ≡ Some word_form
 unfolding progressed group_length form_number may_have_form
-progressed-none text = ap (λ b. if b then Some word_form else None) (is_end-comma text)
+progressed-none text = ap (λ b. if b then Some word_form else None) (is_behind_groups-comma text)
 
 formed-read : (n : ℕ) → n < 2 ^ 64 → formed DataOperation word_form (44 ∷ decimal n) ≡ Ok (Data word_form false n)
 unfolding formed group_length

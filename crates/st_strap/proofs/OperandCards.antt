@@ -15,8 +15,8 @@ use Rattle.st_bits.specs.declared.operations.BranchOp.TheVariants.{Bew}
 use Rattle.st_bits.specs.declared.operations.VflOp.{VflOp}
 use Rattle.st_bits.specs.declared.operations.VflOp.TheVariants.{L, Add, St, MAdd1, Mul}
 use Rattle.st_bits.specs.declared.operations.ConnKind.TheVariants.{C}
-use Rattle.st_card.specs.Pieces.{parted, lacks}
-use Rattle.st_card.specs.Tables.{row_of}
+use Rattle.st_text.specs.Pieces.{parted, lacks}
+use Rattle.st_text.specs.Tables.{row_of}
 use Rattle.st_card.specs.declared.faults.Fault.TheVariants.{BadName, UnknownOperation, BadDataDescription, BadProgressive}
 use Rattle.st_expr.specs.Expression.{expr_of}
 use Rattle.st_strap.specs.Text.{stop, ends_with, clean, group_length, group, behind_group, fields_of}
@@ -24,7 +24,7 @@ use Rattle.st_strap.specs.Table.{operation_of, other_operations, index_operation
 use Rattle.st_strap.specs.Order.{judged, mapped, both_of}
 use Rattle.st_strap.specs.Describing.{modes, plain_form, some_number, number_to, in_mode, in_pieces, description_of, may_have, described}
 use Rattle.st_strap.specs.Forming.{forms, unclosed, is_form, description_in, behind_description, form_number, may_have_form, progressed}
-use Rattle.st_strap.specs.Reading.{front, index_part, index_fields, index_parts, index_field, index_of, spot, unindexed, number_in, number_of, plain_number, number_expr, index_start}
+use Rattle.st_strap.specs.Reading.{front, index_part, index_fields, index_parts, index_field, index_of, spot, unindexed, number_or_fault, number_of, plain_number, number_expr, index_start}
 use Rattle.st_strap.specs.Spots.{number_spot, operands_text, AreOperands, progressive_form}
 use Rattle.st_strap.specs.Saying.{index_and_spot, operand, without_fields, with_fields, is_misnamed, formed, said, clean_statement_of, statement_of}
 use Rattle.st_strap.specs.declared.statement.Form.{Form}
@@ -34,7 +34,7 @@ use Rattle.st_strap.specs.declared.descriptions.Description.TheVariants.{InForm}
 use Rattle.st_strap.specs.declared.operations.Operation.{Operation}
 use Rattle.st_strap.specs.declared.operations.Operation.TheVariants.{Half as HalfOperation, Bare as BareOperation, Vfl as VflOperation, Connect as ConnectOperation}
 use Rattle.st_strap.proofs.Digits.{IsOther, decimal-digits, reading-decimal, digits-lack, unequal, low_other, high_other, lacks-parted, clean-is}
-use Rattle.st_strap.proofs.NumberCards.{no_index_part, is_end-comma}
+use Rattle.st_strap.proofs.NumberCards.{no_index_part, is_behind_groups-comma}
 use Rattle.st_strap.proofs.PlaceCards.{place_text, place-lacks, place-expr, parted-once, plain-said}
 
 -- ---- bytes that texts lack
@@ -67,7 +67,7 @@ number-field n small =
     let whole : front text ≡ text = ap (λ k. take k text) start ∙ take_all (length text) text (omega arith) in
     let nothing : index_part text ≡ [] = ap (λ k. drop k text) start ∙ drop_all (length text) text (omega arith) in
     ap (λ (part : List ℕ). unindexed part (number_of (front text))) nothing
-    ∙ (ap (λ (t : List ℕ). number_of t) whole ∙ ap (λ r. number_in r) (reading-decimal 18446744073709551615 n (omega arith) small))
+    ∙ (ap (λ (t : List ℕ). number_of t) whole ∙ ap (λ r. number_or_fault r) (reading-decimal 18446744073709551615 n (omega arith) small))
 
 -- what holds of the index words 1 to 7
 pub of_seven : (P : ℕ → Type 0) → P 1 → P 2 → P 3 → P 4 → P 5 → P 6 → P 7 → (j : ℕ) → 1 ≤ j → j ≤ 7 → P j
@@ -292,7 +292,7 @@ plain-formed : (op : Operation) (d u : Bool) (n s : ℕ) (text : List ℕ) →
 unfolding formed progressed group_length form_number may_have_form
 plain-formed op d u n s text =
     ap (λ b. judged BadProgressive (if b then Some (plain_form d u n s) else None) (λ f. with_fields op f (fields_of (44 ∷ text))))
-    (is_end-comma text)
+    (is_behind_groups-comma text)
 
 unsigned-none : (n : ℕ) → is_some (row_of (40 ∷ (codes "BU," ++ decimal n)) forms) ≡ false
 unfolding forms

@@ -6,10 +6,10 @@ use Rattle.std.proofs.lemmas.List.{take_all, drop_all}
 use Rattle.std.proofs.lemmas.List.Folds.{list_all-append}
 use Rattle.std.specs.Char.{is_ascii_digit, is_ascii_uppercase}
 use Rattle.std.specs.List.{list_all}
-use Rattle.st_card.specs.Number.{is_filled, reading}
-use Rattle.st_card.specs.Pieces.{parted, onto_first, lacks}
+use Rattle.st_text.specs.Number.{is_filled, reading}
+use Rattle.st_text.specs.Pieces.{parted, onto_first, lacks}
 use Rattle.st_card.specs.declared.faults.Fault.TheVariants.{BadName, UnknownOperation, BadProgressive}
-use Rattle.st_card.specs.declared.numbers.Reading.TheVariants.{Good}
+use Rattle.st_text.specs.declared.numbers.Reading.TheVariants.{Good}
 use Rattle.st_expr.specs.Name.{is_name_byte, is_name, is_system_word}
 use Rattle.st_expr.specs.Term.{atom_of, place_of, bit_address}
 use Rattle.st_expr.specs.Expression.{onto_part, parts_after, parts, expr_in, expr_of}
@@ -25,7 +25,7 @@ use Rattle.st_strap.specs.declared.statement.Statement.TheVariants.{SetLocation,
 use Rattle.st_strap.specs.declared.operations.Operation.{Operation}
 use Rattle.st_strap.specs.declared.operations.Operation.TheVariants.{SetLocation as SetLocationOperation, End as EndOperation}
 use Rattle.st_strap.proofs.Digits.{AreDigits, decimal-digits, reading-decimal, unequal, digits-lack, IsOther, low_other, high_other, lacks-parted, clean-is}
-use Rattle.st_strap.proofs.NumberCards.{no_index_part, is_end-comma}
+use Rattle.st_strap.proofs.NumberCards.{no_index_part, is_behind_groups-comma}
 
 -- word w and bit b as text
 abbrev pub place_text : ℕ → ℕ → List ℕ
@@ -142,7 +142,7 @@ place-field w b fits_w fits_b =
 -- an operation without description and progressive form
 plain-progressed : (op : Operation) (text : List ℕ) → progressed op default_form (44 ∷ text) ≡ Some default_form
 unfolding progressed group_length form_number may_have_form
-plain-progressed op text = ap (λ b. if b then Some default_form else None) (is_end-comma text)
+plain-progressed op text = ap (λ b. if b then Some default_form else None) (is_behind_groups-comma text)
 
 pub plain-said : (op : Operation) (text : List ℕ) → said op (44 ∷ text) ≡ with_fields op default_form (fields_of (44 ∷ text))
 unfolding said description_in behind_description group_length unclosed forms description_of described formed

@@ -4,7 +4,7 @@ use Rattle.std.proofs.lemmas.Bool.{and_parts as both-true}
 use Rattle.std.specs.List.{list_all}
 use Rattle.std.specs.Option.{IfSome, option_map, option_and_then, option_or, ok_or}
 use Rattle.std.specs.Result.{IfOk}
-use Rattle.st_card.specs.Tables.{is_same, row_of}
+use Rattle.st_text.specs.Tables.{is_same, row_of}
 use Rattle.st_card.specs.declared.faults.Fault.{Fault}
 use Rattle.st_strap.specs.Order.{both_of, mapped, judged}
 

@@ -4,11 +4,11 @@ use Rattle.std.proofs.lemmas.Bool.{and_parts as both-true, not-true as not_false
 use Rattle.std.specs.Bool.{IsFalse}
 use Rattle.std.specs.Option.{IfSome, option_map, option_map_or, option_and_then, option_zip}
 use Rattle.std.specs.Result.{IfOk}
-use Rattle.st_card.specs.Number.{is_number, is_filled, value}
+use Rattle.st_text.specs.Number.{is_number, is_filled, value}
 use Rattle.st_expr.specs.Name.{is_name}
-use Rattle.st_card.specs.declared.numbers.Reading.TheVariants.{Bad, Large, Good}
-use Rattle.st_card.specs.Pieces.{parted}
-use Rattle.st_card.specs.Tables.{row_of}
+use Rattle.st_text.specs.declared.numbers.Reading.TheVariants.{Bad, Large, Good}
+use Rattle.st_text.specs.Pieces.{parted}
+use Rattle.st_text.specs.Tables.{row_of}
 use Rattle.st_card.specs.declared.faults.Fault.{Fault}
 use Rattle.st_card.specs.declared.faults.Fault.TheVariants.{BadName, UnknownOperation, BadDataDescription, BadProgressive, BadFieldCount, BadIndex}
 use Rattle.st_expr.specs.Expression.{expr_of}
@@ -21,11 +21,11 @@ use Rattle.st_format.proofs.Spelled.{or-left as either_false}
 use Rattle.st_strap.proofs.TableBounds.{index_below}
 use Rattle.st_strap.specs.Order.{both_of, judged}
 use Rattle.st_strap.specs.Text.{clean, word_of, behind_word, behind_group, fields_of, ends_with, group}
-use Rattle.st_strap.specs.Table.{operation_of, other_operations, index_operations, index_operation, field_operations, field_operation, negated_operation, connective, kinds, truth_tables}
+use Rattle.st_strap.specs.Table.{operation_of, other_operations, index_operations, index_operation, field_operations, field_operation, negated_operation, connective, connective_at, kinds, truth_tables}
 use Rattle.st_strap.specs.Describing.{description_of, in_pieces, in_mode, number_to, some_number, described, may_have, floating_number, plain_form, default_form, usual_byte, modes}
-use Rattle.st_strap.specs.Forming.{description_in, behind_description, progressed, with_number, may_have_form, form_number, forms, unclosed, is_end}
+use Rattle.st_strap.specs.Forming.{description_in, behind_description, progressed, with_number, may_have_form, form_number, forms, unclosed, is_behind_groups}
 use Rattle.st_strap.specs.Reading.{front, index_part, index_field, index_fields, index_of, index_parts, spot, expression, plain_number, selected}
-use Rattle.st_strap.specs.Saying.{misnames, index_alone, spot_alone, expression_alone, number_alone, index_and_spot, index_and_list, operand, two_addresses, spot_and_number, address_and_number, two_addresses_and_number, index_word, without_fields, with_fields, is_misnamed, formed, said, clean_statement_of, statement_of}
+use Rattle.st_strap.specs.Saying.{misnames, index_alone, spot_alone, expression_alone, number_alone, index_and_spot, index_and_list, operand, two_addresses, spot_and_number, address_and_number, two_addresses_and_number, index_word_parts, without_fields, with_fields, is_misnamed, formed, said, clean_statement_of, statement_of}
 use Rattle.st_strap.specs.declared.statement.Spot.{Spot}
 use Rattle.st_strap.specs.declared.statement.Form.{Form}
 use Rattle.st_strap.specs.declared.statement.Statement.{Statement}
@@ -64,8 +64,11 @@ some-zip P None p h = tt
 connective-fits : (word : List ℕ) → IfSome (connective word) (λ op. fits_word op ≡ true)
 unfolding connective
 connective-fits word =
-    some-map (λ p. nat_lt p.1 16 ≡ true) (λ op. fits_word op ≡ true) (λ p. ConnectOperation p.0 p.1) _
-    (some-zip (λ n. nat_lt n 16 ≡ true) (row_of (take (length word - 4) word) kinds) _ (truth-fits _)) (λ a q. q)
+    elim (nat_lt (length word) 4) as (λ b. IfSome (if b then None else connective_at (length word - 4) word) (λ op. fits_word op ≡ true)) [
+      | true ↦ tt
+      | false ↦ some-map (λ p. nat_lt p.1 16 ≡ true) (λ op. fits_word op ≡ true) (λ p. ConnectOperation p.0 p.1) _
+          (some-zip (λ n. nat_lt n 16 ≡ true) (row_of (take (length word - 4) word) kinds) _ (truth-fits _)) (λ a q. q)
+    ]
 
 field-fits : (negated : Bool) (word : List ℕ) → IfSome (field_operation negated word) (λ op. fits_word op ≡ true)
 field-fits negated word =
@@ -306,7 +309,7 @@ carries-form _ form n suits below may = tt
 progressed-is : (op : Operation) (form : Form) (text : List ℕ) → Suits op form → IfSome (progressed op form text) (Carries op)
 unfolding progressed
 progressed-is op form text suits =
-    elim (is_end (behind_group text)) as (λ b. IfSome (if b then option_and_then (with_number op form) (form_number (group text)) else None) (Carries op)) [
+    elim (is_behind_groups (behind_group text)) as (λ b. IfSome (if b then option_and_then (with_number op form) (form_number (group text)) else None) (Carries op)) [
       | true ↦ some-then (λ n. n < 8) (Carries op) (with_number op form) (form_number (group text)) (form-below (group text))
           (λ n below. may_or n below (may_have_form op form.length n) refl)
       | false ↦ tt
@@ -473,7 +476,7 @@ with_fields-is (ConnectOperation kind truth) form fields carries =
     (operand form fields) (operand-is form fields)
     (λ p q. (carries.0, q.0.0, carries.1, not_misused (writes_field (Connective kind)) form p.0.index carries.2 q.0))
 with_fields-is (MoveOperation swap) form fields carries =
-    ok-mapped (λ p. IsSpot p.0) IsWellFormed (λ p. Move swap p.0 p.1.0 p.1.1) (two_addresses_and_number fields)
+    ok-mapped (λ p. IsSpot p.0) IsWellFormed (λ p. Move swap p.0 p.1.address p.1.number) (two_addresses_and_number fields)
     (two_and_number-is fields) (λ p q. q)
 with_fields-is (BitBranchOperation sense change) form fields carries =
     ok-mapped (λ p. IsSpot p.0) IsWellFormed (λ p. BitBranch sense change p.0 p.1) (two_addresses fields)
@@ -491,8 +494,8 @@ with_fields-is DataOperation form fields carries =
     ok-mapped (λ _. Unit {0}) IsWellFormed (λ p. Data form p.0 p.1) (number_alone fields) (ok-any (number_alone fields))
     (λ p q. carries)
 with_fields-is IndexWordOperation form fields carries =
-    ok-mapped (λ _. Unit {0}) IsWellFormed (λ p. IndexWord p.0 p.1.0 p.1.1.0 p.1.1.1) (index_word fields)
-    (ok-any (index_word fields)) (λ p q. tt)
+    ok-mapped (λ _. Unit {0}) IsWellFormed (λ p. IndexWord p.0 p.1.count p.1.refill p.1.flags) (index_word_parts fields)
+    (ok-any (index_word_parts fields)) (λ p q. tt)
 with_fields-is SynonymOperation form fields carries =
     ok-mapped (λ _. Unit {0}) IsWellFormed (λ at. Synonym at) (expression_alone fields) (ok-any (expression_alone fields)) (λ p q. tt)
 with_fields-is SetLocationOperation form fields carries =

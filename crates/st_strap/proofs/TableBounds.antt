@@ -3,7 +3,7 @@ use Rattle.std.proofs.Common.{◌≡◌, ◌<◌, ℕ, List, [], ◌∷◌, true
 use Rattle.std.specs.Option.{IfSome, ok_or}
 use Rattle.std.specs.Result.{IfOk}
 use Rattle.st_card.specs.declared.faults.Fault.{Fault}
-use Rattle.st_card.specs.Tables.{is_same, row_of}
+use Rattle.st_text.specs.Tables.{is_same, row_of}
 use Rattle.st_strap.specs.Reading.{index_fields}
 
 -- the values of all rows are below a bound

@@ -2,12 +2,12 @@
 use Rattle.std.specs.Prelude.{ℕ, ◌||◌, Bool, true, false, nat_le, nat_lt, List, [], ◌∷◌, ◌++◌, length, drop, replicate, Option, None, Some, is_none, Result, Ok, Err, if◌then◌else◌}
 use Rattle.std.specs.List.{list_any, zip}
 use Rattle.std.specs.Option.{option_map, option_and_then, option_map_or}
-use Rattle.st_card.specs.Number.{is_filled, reading}
-use Rattle.st_card.specs.Tables.{row_of}
+use Rattle.st_text.specs.Number.{is_filled, reading}
+use Rattle.st_text.specs.Tables.{row_of}
 use Rattle.st_card.specs.declared.faults.Fault.{Fault}
 use Rattle.st_card.specs.declared.faults.Fault.TheVariants.{BadName, UnknownOperation, BadDataDescription, BadProgressive, BadFieldCount, BadExpression, BadIndex, NumberTooLarge}
-use Rattle.st_card.specs.declared.numbers.Reading.{Reading}
-use Rattle.st_card.specs.declared.numbers.Reading.TheVariants.{Bad, Large, Good}
+use Rattle.st_text.specs.declared.numbers.Reading.{Reading}
+use Rattle.st_text.specs.declared.numbers.Reading.TheVariants.{Bad, Large, Good}
 use Rattle.st_expr.specs.Expression.{parts, any_bad, any_large}
 use Rattle.st_strap.specs.Text.{clean, begins_with, word_of, behind_word, behind_group, fields_of}
 use Rattle.st_strap.specs.Table.{operation_of}
@@ -56,19 +56,21 @@ abbrev pub miscounts : List Wanted × List Wanted → List (List ℕ) → Bool
 miscounts wanted fields =
     nat_lt (length fields) (length wanted.0) || nat_lt (length (wanted.0 ++ wanted.1)) (length fields)
 
--- what a text says as a plain number below 2^64, and without the sign before it
+-- what a text says as a plain number below 2^64
 abbrev pub plain : List ℕ → Reading
 plain text = reading 18446744073709551615 text
 
+-- a text without the sign before it, if it has one
 abbrev pub without_sign : List ℕ → List ℕ
 without_sign text = if begins_with 45 text || begins_with 43 text then drop 1 text else text
 
--- whether a text is no number, and whether it is one that is too large
+-- whether a text is no number
 abbrev pub is_bad : Reading → Bool
 is_bad Bad = true
 is_bad Large = false
 is_bad (Good n) = false
 
+-- whether it is one that is too large
 abbrev pub is_large : Reading → Bool
 is_large Bad = false
 is_large Large = true
@@ -87,7 +89,9 @@ abbrev pub lacks_index : Wanted → List ℕ → Bool
 lacks_index an_index_word field = is_none (row_of field index_fields)
 lacks_index (an_address must) field =
     if is_filled (index_part field) then is_none (row_of (index_part field) index_parts) else must
-lacks_index _ field = is_filled (index_part field)
+lacks_index a_plain_address field = is_filled (index_part field)
+lacks_index a_number field = is_filled (index_part field)
+lacks_index a_signed_number field = is_filled (index_part field)
 
 -- whether a number is past the most that may stand in its place
 abbrev pub is_past : Wanted → List ℕ → Bool
@@ -101,17 +105,19 @@ is_past a_signed_number field = is_large (plain (without_sign (front field)))
 abbrev pub any_field : (Wanted → List ℕ → Bool) → List Wanted × List Wanted → List (List ℕ) → Bool
 any_field test wanted fields = list_any (λ p. test p.0 p.1) (zip (wanted.0 ++ wanted.1) fields)
 
--- the operation of a statement; that and the form which the data description makes of it; and with the
--- progressive form
+-- the operation of a statement
 abbrev pub named_in : List ℕ → Option Operation
 named_in statement = operation_of (word_of statement)
 
+-- an operation with the form that the data description makes of it
 abbrev pub described_in : List ℕ → Operation → Option (Operation × Form)
 described_in text op = option_and_then (described op) (description_of (description_in text))
 
+-- that form with the progressive form
 abbrev pub progressed_in : List ℕ → Operation × Form → Option Form
 progressed_in text d = progressed d.0 d.1 (behind_description text)
 
+-- the fields behind both
 abbrev pub fields_in : List ℕ → List (List ℕ)
 fields_in text = fields_of (behind_group (behind_description text))
 

@@ -1,14 +1,15 @@
 -- Progressive forms, and which group is the data description.
-use Rattle.std.specs.Prelude.{ℕ, ◌==◌, ◌&&◌, ◌||◌, Bool, true, false, not, nat_le, ◌-◌, List, [], ◌∷◌, length, take, codes, Option, None, Some, is_some, if◌then◌else◌}
-use Rattle.std.specs.Option.{option_and_then}
+use Rattle.std.specs.Prelude.{ℕ, ◌==◌, ◌&&◌, ◌||◌, Bool, false, not, nat_le, ◌-◌, List, [], ◌∷◌, length, take, codes, Option, None, Some, is_some, if◌then◌else◌}
+use Rattle.std.specs.Option.{option_and_then, option_map_or}
 use Rattle.st_text.specs.Bytes.{close_parenthesis, comma}
-use Rattle.st_card.specs.Tables.{row_of}
+use Rattle.st_text.specs.Tables.{row_of}
 use Rattle.st_format.specs.Operations.{writes_field}
+use Rattle.st_format.specs.declared.operations.FullOp.{FullOp}
 use Rattle.st_format.specs.declared.operations.FullOp.TheVariants.{Variable, Connective}
 use Rattle.st_strap.specs.Text.{begins_with, ends_with, group, behind_group}
 use Rattle.st_strap.specs.declared.statement.Form.{Form}
 use Rattle.st_strap.specs.declared.operations.Operation.{Operation}
-use Rattle.st_strap.specs.declared.operations.Operation.TheVariants.{Vfl, Connect}
+use Rattle.st_strap.specs.declared.operations.Operation.TheVariants.{Half, Sum, Refill, Execute, Branch, Bare, Floating, Vfl, Connect, Move, BitBranch, IndBranch, StoreCounter, Transfer, Data, IndexWord, Synonym, SetLocation, Reserve, End}
 
 -- the progressive forms, each as a group without the parenthesis that closes it
 unfoldable pub forms : List (List ℕ × ℕ)
@@ -37,17 +38,36 @@ unfoldable pub form_number : List ℕ → Option ℕ
 form_number [] = Some 0
 form_number (c ∷ cs) = if ends_with close_parenthesis (c ∷ cs) then row_of (unclosed (c ∷ cs)) forms else None
 
--- whether an operation may have a progressive form
+-- the operation on a field that an operation is, if it is one
+abbrev pub field_operation_of : Operation → Option FullOp
+field_operation_of (Half op) = None
+field_operation_of Sum = None
+field_operation_of Refill = None
+field_operation_of Execute = None
+field_operation_of (Branch op) = None
+field_operation_of (Bare op) = None
+field_operation_of (Floating number) = None
+field_operation_of (Vfl op negated) = Some (Variable op)
+field_operation_of (Connect kind table) = Some (Connective kind)
+field_operation_of (Move swap) = None
+field_operation_of (BitBranch sense change) = None
+field_operation_of (IndBranch sense off) = None
+field_operation_of StoreCounter = None
+field_operation_of (Transfer write) = None
+field_operation_of Data = None
+field_operation_of IndexWord = None
+field_operation_of Synonym = None
+field_operation_of SetLocation = None
+field_operation_of Reserve = None
+field_operation_of End = None
+
+-- whether an operation may have a progressive form: it is one on a field
 abbrev pub may_progress : Operation → Bool
-may_progress (Vfl op negated) = true
-may_progress (Connect kind table) = true
-may_progress _ = false
+may_progress op = is_some (field_operation_of op)
 
 -- whether an operation writes its field
 abbrev pub writes : Operation → Bool
-writes (Vfl op negated) = writes_field (Variable op)
-writes (Connect kind table) = writes_field (Connective kind)
-writes _ = false
+writes op = option_map_or writes_field (field_operation_of op) false
 
 -- whether the operand may stand in the address: it is not written and has at most 24 bits
 abbrev pub may_be_immediate : Operation → ℕ → Bool
@@ -59,8 +79,8 @@ may_have_form op bits p =
     p == 0 || (may_progress op && (not (p == 1) || may_be_immediate op bits))
 
 -- whether fields or nothing may stand here
-abbrev pub is_end : List ℕ → Bool
-is_end text = length text == 0 || begins_with comma text
+abbrev pub is_behind_groups : List ℕ → Bool
+is_behind_groups text = length text == 0 || begins_with comma text
 
 -- a form with a progressive form
 abbrev pub with_number : Operation → Form → ℕ → Option Form
@@ -69,4 +89,4 @@ with_number op form n = if may_have_form op form.length n then Some (record form
 -- the form with the progressive form that a text begins with, where nothing but fields stands behind it
 unfoldable pub progressed : Operation → Form → List ℕ → Option Form
 progressed op form text =
-    if is_end (behind_group text) then option_and_then (with_number op form) (form_number (group text)) else None
+    if is_behind_groups (behind_group text) then option_and_then (with_number op form) (form_number (group text)) else None

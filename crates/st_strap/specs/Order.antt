@@ -1,14 +1,33 @@
 -- Of two faults on one card the one that stands earlier in the list counts.
 use Rattle.std.specs.Prelude.{ℕ, nat_lt, Option, Some, None, Result, Ok, Err, if◌then◌else◌}
 use Rattle.st_card.specs.declared.faults.Fault.{Fault}
-use Rattle.st_card.specs.declared.faults.Fault.TheVariants.{BadFieldCount, BadExpression, BadIndex}
+use Rattle.st_card.specs.declared.faults.Fault.TheVariants.{NotAscii, CardTooLong, BadName, UnknownOperation, BadDataDescription, BadProgressive, BadFieldCount, BadExpression, BadIndex, NumberTooLarge, BadControlCard, CardAfterEnd, NoEnd, TooManyCards, NameTwice, UndefinedSymbol, SymbolNotEarlier, TooManyNames, AddressOutOfRange, ValueDoesNotFit, NotOnABoundary, LocationOutOfStorage, BadObjectCard}
 
--- the places in the list of the faults that fields may have: the last is a number too large
+-- a fault's place in the list of all faults
 abbrev pub rank : Fault → ℕ
-rank BadFieldCount = 0
-rank BadExpression = 1
-rank BadIndex = 2
-rank _ = 3
+rank NotAscii = 0
+rank CardTooLong = 1
+rank BadName = 2
+rank UnknownOperation = 3
+rank BadDataDescription = 4
+rank BadProgressive = 5
+rank BadFieldCount = 6
+rank BadExpression = 7
+rank BadIndex = 8
+rank NumberTooLarge = 9
+rank BadControlCard = 10
+rank CardAfterEnd = 11
+rank NoEnd = 12
+rank TooManyCards = 13
+rank NameTwice = 14
+rank UndefinedSymbol = 15
+rank SymbolNotEarlier = 16
+rank TooManyNames = 17
+rank AddressOutOfRange = 18
+rank ValueDoesNotFit = 19
+rank NotOnABoundary = 20
+rank LocationOutOfStorage = 21
+rank BadObjectCard = 22
 
 -- the earlier of two faults
 abbrev pub earlier : Fault → Fault → Fault

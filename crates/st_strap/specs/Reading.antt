@@ -3,12 +3,12 @@ use Rattle.std.specs.Prelude.{ℕ, ◌+◌, ◌==◌, ◌^◌, ◌/◌, Bool, tr
 use Rattle.std.specs.Option.{option_map, option_or, ok_or}
 use Rattle.st_text.specs.Bytes.{open_parenthesis, close_parenthesis, plus_sign, minus_sign}
 use Rattle.arrayvec.specs.ArrayVec.{ArrayVec}
-use Rattle.st_card.specs.Number.{reading}
-use Rattle.st_card.specs.Tables.{row_of}
+use Rattle.st_text.specs.Number.{reading}
+use Rattle.st_text.specs.Tables.{row_of}
 use Rattle.st_card.specs.declared.faults.Fault.{Fault}
 use Rattle.st_card.specs.declared.faults.Fault.TheVariants.{BadExpression, BadIndex, NumberTooLarge}
-use Rattle.st_card.specs.declared.numbers.Reading.{Reading}
-use Rattle.st_card.specs.declared.numbers.Reading.TheVariants.{Bad, Large, Good}
+use Rattle.st_text.specs.declared.numbers.Reading.{Reading}
+use Rattle.st_text.specs.declared.numbers.Reading.TheVariants.{Bad, Large, Good}
 use Rattle.st_expr.specs.Expression.{expr_of}
 use Rattle.st_expr.specs.declared.terms.Term.{Term}
 use Rattle.st_expr.specs.declared.terms.Atom.TheVariants.{Number}
@@ -26,10 +26,11 @@ last_open (c ∷ cs) = option_or (option_map (λ n. n + 1) (last_open cs)) (if c
 unfoldable pub index_start : List ℕ → ℕ
 index_start field = if ends_with close_parenthesis field then unwrap_or (last_open field) (length field) else length field
 
--- a field without its index part, and that part
+-- a field without its index part
 abbrev pub front : List ℕ → List ℕ
 front field = take (index_start field) field
 
+-- the index part of a field, empty where it has none
 abbrev pub index_part : List ℕ → List ℕ
 index_part field = drop (index_start field) field
 
@@ -74,14 +75,14 @@ unfoldable pub expression : List ℕ → Result (ArrayVec Term) Fault
 expression field = unindexed (index_part field) (expr_of (front field))
 
 -- a number that was read
-abbrev pub number_in : Reading → Result ℕ Fault
-number_in Bad = Err BadExpression
-number_in Large = Err NumberTooLarge
-number_in (Good n) = Ok n
+abbrev pub number_or_fault : Reading → Result ℕ Fault
+number_or_fault Bad = Err BadExpression
+number_or_fault Large = Err NumberTooLarge
+number_or_fault (Good n) = Ok n
 
 -- a plain number below 2^64
 unfoldable pub number_of : List ℕ → Result ℕ Fault
-number_of text = number_in (reading 18446744073709551615 text)
+number_of text = number_or_fault (reading 18446744073709551615 text)
 
 -- a field that is a plain number
 unfoldable pub plain_number : List ℕ → Result ℕ Fault

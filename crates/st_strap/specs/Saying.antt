@@ -3,7 +3,7 @@ use Rattle.std.specs.Prelude.{ℕ, ◌&&◌, ◌||◌, Bool, false, not, nat_le,
 use Rattle.std.specs.Option.{option_and_then, option_map_or}
 use Rattle.arrayvec.specs.ArrayVec.{ArrayVec}
 use Rattle.st_bits.specs.declared.operations.HalfOp.TheVariants.{Ex}
-use Rattle.st_card.specs.Number.{is_filled}
+use Rattle.st_text.specs.Number.{is_filled}
 use Rattle.st_card.specs.declared.faults.Fault.{Fault}
 use Rattle.st_card.specs.declared.faults.Fault.TheVariants.{BadName, UnknownOperation, BadDataDescription, BadProgressive, BadFieldCount}
 use Rattle.st_expr.specs.Name.{is_name}
@@ -14,6 +14,9 @@ use Rattle.st_strap.specs.Table.{operation_of}
 use Rattle.st_strap.specs.Describing.{description_of, described}
 use Rattle.st_strap.specs.Forming.{description_in, behind_description, progressed}
 use Rattle.st_strap.specs.Reading.{index_field, spot, expression, plain_number, signed_number, selected}
+use Rattle.st_strap.specs.declared.shapes.AddressAndNumber.{AddressAndNumber}
+use Rattle.st_strap.specs.declared.shapes.RefillAndFlags.{RefillAndFlags}
+use Rattle.st_strap.specs.declared.shapes.CountAndRefill.{CountAndRefill}
 use Rattle.st_strap.specs.declared.statement.Spot.{Spot}
 use Rattle.st_strap.specs.declared.statement.Form.{Form}
 use Rattle.st_strap.specs.declared.statement.Statement.{Statement}
@@ -68,31 +71,44 @@ unfoldable pub spot_and_number : List (List ℕ) → Result (Spot × ℕ) Fault
 spot_and_number (place ∷ n ∷ []) = both_of (spot false place) (plain_number n)
 spot_and_number _ = Err BadFieldCount
 
+-- an address and a number that were read
+abbrev pub address_with_number : Result (ArrayVec Term) Fault → Result ℕ Fault → Result AddressAndNumber Fault
+address_with_number address number = mapped (λ p. record { address = p.0; number = p.1 }) (both_of address number)
+
 -- an address without an index part and a number
-unfoldable pub address_and_number : List (List ℕ) → Result (ArrayVec Term × ℕ) Fault
-address_and_number (place ∷ n ∷ []) = both_of (expression place) (plain_number n)
+unfoldable pub address_and_number : List (List ℕ) → Result AddressAndNumber Fault
+address_and_number (place ∷ n ∷ []) = address_with_number (expression place) (plain_number n)
 address_and_number _ = Err BadFieldCount
 
 -- two addresses and a number
-unfoldable pub two_addresses_and_number : List (List ℕ) → Result (Spot × (ArrayVec Term × ℕ)) Fault
+unfoldable pub two_addresses_and_number : List (List ℕ) → Result (Spot × AddressAndNumber) Fault
 two_addresses_and_number [] = Err BadFieldCount
 two_addresses_and_number (place ∷ more) = both_of (spot false place) (address_and_number more)
 
+-- a refill address and flags that were read
+abbrev pub refill_with_flags : Result (ArrayVec Term) Fault → Result ℕ Fault → Result RefillAndFlags Fault
+refill_with_flags refill flags = mapped (λ p. record { refill = p.0; flags = p.1 }) (both_of refill flags)
+
 -- a refill address, and flags or none
-unfoldable pub refill_and_flags : List (List ℕ) → Result (ArrayVec Term × ℕ) Fault
-refill_and_flags (refill ∷ []) = both_of (expression refill) (Ok 0)
-refill_and_flags (refill ∷ flags ∷ []) = both_of (expression refill) (plain_number flags)
+unfoldable pub refill_and_flags : List (List ℕ) → Result RefillAndFlags Fault
+refill_and_flags (refill ∷ []) = refill_with_flags (expression refill) (Ok 0)
+refill_and_flags (refill ∷ flags ∷ []) = refill_with_flags (expression refill) (plain_number flags)
 refill_and_flags _ = Err BadFieldCount
 
+-- a count, a refill address and flags that were read
+abbrev pub count_with_refill : Result ℕ Fault → Result RefillAndFlags Fault → Result CountAndRefill Fault
+count_with_refill count more =
+    mapped (λ p. record { count = p.0; refill = p.1.refill; flags = p.1.flags }) (both_of count more)
+
 -- a count, a refill address, and flags or none
-unfoldable pub count_and_refill : List (List ℕ) → Result (ℕ × (ArrayVec Term × ℕ)) Fault
+unfoldable pub count_and_refill : List (List ℕ) → Result CountAndRefill Fault
 count_and_refill [] = Err BadFieldCount
-count_and_refill (count ∷ more) = both_of (plain_number count) (refill_and_flags more)
+count_and_refill (count ∷ more) = count_with_refill (plain_number count) (refill_and_flags more)
 
 -- the parts of an index word: a value, and those
-unfoldable pub index_word : List (List ℕ) → Result (ArrayVec Term × (ℕ × (ArrayVec Term × ℕ))) Fault
-index_word [] = Err BadFieldCount
-index_word (value ∷ more) = both_of (expression value) (count_and_refill more)
+unfoldable pub index_word_parts : List (List ℕ) → Result (ArrayVec Term × CountAndRefill) Fault
+index_word_parts [] = Err BadFieldCount
+index_word_parts (value ∷ more) = both_of (expression value) (count_and_refill more)
 
 -- a statement without fields
 unfoldable pub without_fields : Statement → List (List ℕ) → Result Statement Fault
@@ -113,7 +129,7 @@ with_fields (VflOperation op negated) form fields =
 with_fields (ConnectOperation kind table) form fields =
     mapped (λ p. Connect kind table form p.0 p.1) (operand form fields)
 with_fields (MoveOperation swap) form fields =
-    mapped (λ p. Move swap p.0 p.1.0 p.1.1) (two_addresses_and_number fields)
+    mapped (λ p. Move swap p.0 p.1.address p.1.number) (two_addresses_and_number fields)
 with_fields (BitBranchOperation sense change) form fields =
     mapped (λ p. BitBranch sense change p.0 p.1) (two_addresses fields)
 with_fields (IndBranchOperation sense off) form fields =
@@ -123,7 +139,7 @@ with_fields (TransferOperation write) form fields =
     mapped (λ p. Transfer write p.0 p.1) (spot_and_number fields)
 with_fields DataOperation form fields = mapped (λ p. Data form p.0 p.1) (number_alone fields)
 with_fields IndexWordOperation form fields =
-    mapped (λ p. IndexWord p.0 p.1.0 p.1.1.0 p.1.1.1) (index_word fields)
+    mapped (λ p. IndexWord p.0 p.1.count p.1.refill p.1.flags) (index_word_parts fields)
 with_fields SynonymOperation form fields = mapped (λ at. Synonym at) (expression_alone fields)
 with_fields SetLocationOperation form fields = mapped (λ at. SetLocation at) (expression_alone fields)
 with_fields ReserveOperation form fields = mapped (λ at. Reserve at) (expression_alone fields)
@@ -131,10 +147,26 @@ with_fields EndOperation form fields = mapped (λ at. End at) (expression_alone 
 
 -- whether a card of this operation may not have a name, or must have one
 abbrev pub misnames : Bool → Operation → Bool
+misnames named (HalfOperation op) = false
+misnames named SumOperation = false
+misnames named RefillOperation = false
+misnames named ExecuteOperation = false
+misnames named (BranchOperation op) = false
+misnames named (BareOperation op) = false
+misnames named (FloatingOperation number) = false
+misnames named (VflOperation op negated) = false
+misnames named (ConnectOperation kind table) = false
+misnames named (MoveOperation swap) = false
+misnames named (BitBranchOperation sense change) = false
+misnames named (IndBranchOperation sense off) = false
+misnames named StoreCounterOperation = false
+misnames named (TransferOperation write) = false
+misnames named DataOperation = false
+misnames named IndexWordOperation = false
 misnames named SynonymOperation = not named
 misnames named SetLocationOperation = named
+misnames named ReserveOperation = false
 misnames named EndOperation = named
-misnames named _ = false
 
 -- whether the name is none, or the operation is one of those that ask for a name or for none
 unfoldable pub is_misnamed : List ℕ → Option Operation → Bool

@@ -1,5 +1,5 @@
 -- The operations by their words.
-use Rattle.std.specs.Prelude.{ℕ, ◌-◌, Bool, true, false, List, [], ◌∷◌, length, take, drop, codes, Option, None, if◌then◌else◌}
+use Rattle.std.specs.Prelude.{ℕ, ◌-◌, nat_lt, Bool, true, false, List, [], ◌∷◌, length, take, drop, codes, Option, None, if◌then◌else◌}
 use Rattle.std.specs.Option.{option_map, option_or, option_zip}
 use Rattle.st_text.specs.Bytes.{letter_n}
 use Rattle.st_bits.specs.declared.operations.HalfOp.{HalfOp}
@@ -9,7 +9,7 @@ use Rattle.st_bits.specs.declared.operations.VflOp.{VflOp}
 use Rattle.st_bits.specs.declared.operations.VflOp.TheVariants.{L, Lwf, Ltrs, Lft, St, Add, AddMg, MAdd, MAddMg, MAdd1, K, Kf, Ke, Kfe, Kr, Kfr, Mul, MulAdd, Div, Lcv}
 use Rattle.st_bits.specs.declared.operations.ConnKind.{ConnKind}
 use Rattle.st_bits.specs.declared.operations.ConnKind.TheVariants.{C, Cm, Ct}
-use Rattle.st_card.specs.Tables.{row_of}
+use Rattle.st_text.specs.Tables.{row_of}
 use Rattle.st_strap.specs.Text.{ends_with}
 use Rattle.st_strap.specs.declared.operations.Operation.{Operation}
 use Rattle.st_strap.specs.declared.operations.Operation.TheVariants.{Half, Sum, Refill, Execute, Branch, Bare, Vfl, Connect, Move, BitBranch, IndBranch, StoreCounter, Transfer, Data, IndexWord, Synonym, SetLocation, Reserve, End}
@@ -75,11 +75,14 @@ unfoldable pub negated_operation : List ℕ → Option Operation
 negated_operation word =
     if ends_with letter_n word then field_operation true (take (length word - 1) word) else None
 
--- a connective: its kind, and four digits for its truth table
-unfoldable pub connective : List ℕ → Option Operation
-connective word =
-    let place = length word - 4 in
+-- a connective: its kind, and behind it digits for its truth table
+abbrev pub connective_at : ℕ → List ℕ → Option Operation
+connective_at place word =
     option_map (λ p. Connect p.0 p.1) (option_zip (row_of (take place word) kinds) (row_of (drop place word) truth_tables))
+
+-- a connective: four digits stand last
+unfoldable pub connective : List ℕ → Option Operation
+connective word = if nat_lt (length word) 4 then None else connective_at (length word - 4) word
 
 -- the operation that a word names
 unfoldable pub operation_of : List ℕ → Option Operation

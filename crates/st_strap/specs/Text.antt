@@ -2,7 +2,7 @@
 use Rattle.std.specs.Prelude.{ℕ, ◌+◌, ◌-◌, ◌==◌, ◌||◌, Bool, not, min, List, [], ◌∷◌, length, take, drop, filter, slice_get, false, if◌then◌else◌}
 use Rattle.std.specs.Option.{option_map_or}
 use Rattle.st_text.specs.Bytes.{blank, open_parenthesis, close_parenthesis, comma, semicolon}
-use Rattle.st_card.specs.Pieces.{parted}
+use Rattle.st_text.specs.Pieces.{parted}
 
 -- how many bytes stand before the first of two bytes
 abbrev pub stop : ℕ → ℕ → List ℕ → ℕ

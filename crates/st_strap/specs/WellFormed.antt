@@ -25,6 +25,7 @@ pub record IsNumberForm (form : Form) : Type 0 where
 abbrev pub IsSpot : Spot → Type 0
 IsSpot at = at.index < 16
 
+-- so is that of an operand that may be missing
 abbrev pub IsSpotOrNone : Option Spot → Type 0
 IsSpotOrNone None = Unit {0}
 IsSpotOrNone (Some at) = IsSpot at

@@ -2,8 +2,8 @@
 
 ghost use Rattle.std.specs.Prelude.{◌≡◌, ◌≤◌, length, IfSome};
 ghost use Rattle.st_text.specs.Bytes.{comma};
-ghost use Rattle.st_card.specs.Tables.{row_of as row_in};
-ghost use Rattle.st_card.specs.Pieces.{parted};
+ghost use Rattle.st_text.specs.Tables.{row_of};
+ghost use Rattle.st_text.specs.Pieces.{parted};
 ghost use Rattle.st_strap.specs.Describing as spec;
 ghost use Rattle.st_strap.specs.Fields.{texts};
 
@@ -12,8 +12,8 @@ use crate::operations::Operation;
 use crate::parts::{ends_with, pieces};
 use crate::statement::Form;
 use st_bits::VflOp;
-use st_card::{Reading, read_number, row_of};
 use st_format::misfits_field;
+use st_text::{Reading, read_number, row_of};
 
 // The first word of a description.
 #[derive(Clone, Copy)]
@@ -79,7 +79,7 @@ fn default_form() -> Form
 
 #[tactic(auto, unfolding(crate::specs::Describing::modes))]
 fn mode_of(word: &[u8]) -> Option<Mode>
-    ensures { result ≡ row_in word.now spec.modes }
+    ensures { result ≡ row_of word.now spec.modes }
 {
     row_of(&MODES, word)
 }

@@ -1,7 +1,7 @@
 //! What the fields of a statement say, each by itself.
 
 ghost use Rattle.std.specs.Prelude.{◌≡◌, ◌≤◌, ◌<◌, length, IfOk, IfSome};
-ghost use Rattle.st_card.specs.Tables.{row_of as row_in};
+ghost use Rattle.st_text.specs.Tables.{row_of};
 ghost use Rattle.st_strap.specs.Order as order;
 ghost use Rattle.st_strap.specs.Fields.{texts};
 ghost use Rattle.st_strap.specs.Reading as spec;
@@ -9,8 +9,9 @@ ghost use Rattle.st_strap.specs.Reading as spec;
 use crate::field::Field;
 use crate::parts::{begins_with, ends_with};
 use crate::statement::Spot;
-use st_card::{Fault, Reading, read_number, row_of};
+use st_card::Fault;
 use st_expr::{Expr, read_expr};
+use st_text::{Reading, read_number, row_of};
 
 const INDEX_FIELDS: [(&[u8], u8); 16] = [
     (b"$X0", 0),
@@ -49,16 +50,11 @@ const INDEX_PARTS: [(&[u8], u8); 15] = [
     (b"($X15)", 15),
 ];
 
-// The places in the list of the faults that fields may have.
+// A fault's place in the list of all faults.
 fn rank(fault: Fault) -> u8
     ensures { result ≡ order.rank fault }
 {
-    match fault {
-        Fault::BadFieldCount => 0,
-        Fault::BadExpression => 1,
-        Fault::BadIndex => 2,
-        _ => 3,
-    }
+    fault as u8
 }
 
 // The earlier of two faults.
@@ -123,14 +119,14 @@ fn split_index(field: &[u8]) -> (&[u8], &[u8])
 
 #[tactic(auto, unfolding(crate::specs::Reading::index_fields))]
 fn field_row(field: &[u8]) -> Option<u8>
-    ensures { result ≡ row_in field.now spec.index_fields }
+    ensures { result ≡ row_of field.now spec.index_fields }
 {
     row_of(&INDEX_FIELDS, field)
 }
 
 #[tactic(auto, unfolding(crate::specs::Reading::index_parts))]
 fn part_row(part: &[u8]) -> Option<u8>
-    ensures { result ≡ row_in part.now spec.index_parts }
+    ensures { result ≡ row_of part.now spec.index_parts }
 {
     row_of(&INDEX_PARTS, part)
 }

@@ -2,15 +2,15 @@
 
 ghost use Rattle.std.specs.Prelude.{◌≡◌, ◌≤◌, length};
 ghost use Rattle.std.specs.Option.{option_and_then};
-ghost use Rattle.st_card.specs.Tables.{row_of as row_in};
+ghost use Rattle.st_text.specs.Tables.{row_of};
 ghost use Rattle.st_strap.specs.Text.{behind_group};
 ghost use Rattle.st_strap.specs.Forming as spec;
 
 use crate::operations::Operation;
 use crate::parts::{begins_with, ends_with, group_length};
 use crate::statement::Form;
-use st_card::row_of;
 use st_format::{FullOp, writes_field};
+use st_text::row_of;
 
 const FORMS: [(&[u8], u8); 7] = [
     (b"(IM", 1),
@@ -25,7 +25,7 @@ const FORMS: [(&[u8], u8); 7] = [
 // The number of a group without the parenthesis that closes it.
 #[tactic(auto, unfolding(crate::specs::Forming::forms))]
 fn form_row(group: &[u8]) -> Option<u8>
-    ensures { result ≡ row_in group.now spec.forms }
+    ensures { result ≡ row_of group.now spec.forms }
 {
     row_of(&FORMS, group)
 }
@@ -66,7 +66,7 @@ pub(crate) fn progressed(op: Operation, form: Form, text: &[u8]) -> (Option<Form
     ensures shorter { length result.1.now ≤ length text.now }
 {
     let (group, behind) = text.split_at(group_length(text));
-    if is_end(behind) {
+    if is_behind_groups(behind) {
         (with_group(op, form, group), behind)
     } else {
         (None, behind)
@@ -90,8 +90,8 @@ fn with_number(op: Operation, form: Form, number: u8) -> Option<Form>
 }
 
 // Whether fields or nothing may stand here.
-fn is_end(text: &[u8]) -> bool
-    ensures { result ≡ spec.is_end text.now }
+fn is_behind_groups(text: &[u8]) -> bool
+    ensures { result ≡ spec.is_behind_groups text.now }
 {
     text.is_empty() || begins_with(text, b',')
 }

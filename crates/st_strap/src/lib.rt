@@ -1,4 +1,4 @@
-//! Statements: what a card of the assembler says. `docs/strap.md` has the rules.
+//! Statements: what a card of the assembler says, by the rules of `docs/strap.md`.
 #![tactic(auto)]
 
 mod descriptions;
@@ -9,6 +9,7 @@ mod laws;
 mod operations;
 mod parts;
 mod reading;
+mod saying;
 mod shapes;
 mod statement;
 

@@ -1,12 +1,12 @@
 //! The operations by their words.
 
 ghost use Rattle.std.specs.Prelude.{◌≡◌};
-ghost use Rattle.st_card.specs.Tables.{row_of as row_in};
+ghost use Rattle.st_text.specs.Tables.{row_of};
 ghost use Rattle.st_strap.specs.Table as spec;
 
 use crate::parts::ends_with;
 use st_bits::{BranchOp, ConnKind, HalfOp, VflOp};
-use st_card::row_of;
+use st_text::row_of;
 
 // An operation, with what its word says.
 #[derive(Clone, Copy)]
@@ -231,7 +231,7 @@ pub(crate) fn operation_of(word: &[u8]) -> Option<Operation>
 
 #[tactic(auto, unfolding(crate::specs::Table::other_operations))]
 fn other_operation(word: &[u8]) -> Option<Operation>
-    ensures { result ≡ row_in word.now spec.other_operations }
+    ensures { result ≡ row_of word.now spec.other_operations }
 {
     row_of(&OTHER_OPERATIONS, word)
 }
@@ -244,7 +244,7 @@ fn index_operation(word: &[u8]) -> Option<Operation>
 
 #[tactic(auto, unfolding(crate::specs::Table::index_operations))]
 fn index_row(word: &[u8]) -> Option<HalfOp>
-    ensures { result ≡ row_in word.now spec.index_operations }
+    ensures { result ≡ row_of word.now spec.index_operations }
 {
     row_of(&INDEX_OPERATIONS, word)
 }
@@ -257,7 +257,7 @@ fn field_operation(word: &[u8], negated: bool) -> Option<Operation>
 
 #[tactic(auto, unfolding(crate::specs::Table::field_operations))]
 fn field_row(word: &[u8]) -> Option<VflOp>
-    ensures { result ≡ row_in word.now spec.field_operations }
+    ensures { result ≡ row_of word.now spec.field_operations }
 {
     row_of(&FIELD_OPERATIONS, word)
 }
@@ -279,7 +279,10 @@ fn negated_operation(word: &[u8]) -> Option<Operation>
 fn connective(word: &[u8]) -> Option<Operation>
     ensures { result ≡ spec.connective word.now }
 {
-    let (kind, digits) = word.split_at(word.len().saturating_sub(4));
+    if word.len() < 4 {
+        return None;
+    }
+    let (kind, digits) = word.split_at(word.len() - 4);
     kind_row(kind)
         .zip(table_row(digits))
         .map(|(kind, table)| Operation::Connect { kind, table })
@@ -287,14 +290,14 @@ fn connective(word: &[u8]) -> Option<Operation>
 
 #[tactic(auto, unfolding(crate::specs::Table::kinds))]
 fn kind_row(word: &[u8]) -> Option<ConnKind>
-    ensures { result ≡ row_in word.now spec.kinds }
+    ensures { result ≡ row_of word.now spec.kinds }
 {
     row_of(&KINDS, word)
 }
 
 #[tactic(auto, unfolding(crate::specs::Table::truth_tables))]
 fn table_row(digits: &[u8]) -> Option<u8>
-    ensures { result ≡ row_in digits.now spec.truth_tables }
+    ensures { result ≡ row_of digits.now spec.truth_tables }
 {
     row_of(&TRUTH_TABLES, digits)
 }

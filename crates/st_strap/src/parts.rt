@@ -2,13 +2,13 @@
 
 ghost use Rattle.std.specs.Prelude.{◌≡◌, ◌≤◌, ◌==◌, not, length, filter};
 ghost use Rattle.st_text.specs.Bytes.{blank, comma};
-ghost use Rattle.st_card.specs.Pieces.{parted};
+ghost use Rattle.st_text.specs.Pieces.{parted};
 ghost use Rattle.st_strap.specs.Text as spec;
 ghost use Rattle.st_strap.specs.Fields.{texts};
 
 use crate::field::{Field, Fields};
 use arrayvec::ArrayVec;
-use st_card::cut;
+use st_text::cut;
 
 // How many bytes stand before the first of two bytes.
 pub(crate) fn stop(text: &[u8], a: u8, b: u8) -> usize

@@ -11,12 +11,12 @@ use crate::field::Field;
 use crate::forms::{progressed, split_description};
 use crate::operations::{Operation, operation_of};
 use crate::parts::{clean, fields, stop};
-use crate::shapes::{
-    expression_alone, index_alone, index_and_list, index_and_spot, index_word, number_alone,
-    operand, spot_alone, spot_and_number, two_addresses, two_addresses_and_number, without_fields,
+use crate::saying::{
+    say_bare, say_bit_branch, say_branch, say_connect, say_data, say_end, say_execute,
+    say_floating, say_half, say_ind_branch, say_index_word, say_move, say_refill, say_reserve,
+    say_set_location, say_store_counter, say_sum, say_synonym, say_transfer, say_vfl,
 };
 use crate::statement::{Form, Statement};
-use st_bits::HalfOp;
 use st_card::Fault;
 use st_expr::is_name;
 
@@ -109,115 +109,26 @@ fn with_fields(op: Operation, form: Form, fields: &[Field]) -> Result<Statement,
     ensures { result ≡ spec.with_fields op form (texts fields.now) }
 {
     match op {
-        Operation::Half(op) => {
-            let (j, at) = index_and_spot(fields)?;
-            Ok(Statement::Half { op, j, at })
-        }
-        Operation::Sum => {
-            let (j, list) = index_and_list(fields)?;
-            Ok(Statement::Sum { j, list })
-        }
-        Operation::Refill => Ok(Statement::Refill {
-            j: index_alone(fields)?,
-        }),
-        Operation::Execute => Ok(Statement::Half {
-            op: HalfOp::Ex,
-            j: 0,
-            at: spot_alone(fields)?,
-        }),
-        Operation::Branch(op) => Ok(Statement::Branch {
-            op,
-            at: Some(spot_alone(fields)?),
-        }),
-        Operation::Bare(op) => without_fields(Statement::Branch { op, at: None }, fields),
-        Operation::Floating(number) => Ok(Statement::Floating {
-            number,
-            at: spot_alone(fields)?,
-        }),
-        Operation::Vfl { op, negated } => {
-            let (at, offset) = operand(form, fields)?;
-            Ok(Statement::Vfl {
-                op,
-                negated,
-                form,
-                at,
-                offset,
-            })
-        }
-        Operation::Connect { kind, table } => {
-            let (at, offset) = operand(form, fields)?;
-            Ok(Statement::Connect {
-                kind,
-                table,
-                form,
-                at,
-                offset,
-            })
-        }
-        Operation::Move { swap } => {
-            let (at, (second, count)) = two_addresses_and_number(fields)?;
-            Ok(Statement::Move {
-                swap,
-                at,
-                second,
-                count,
-            })
-        }
-        Operation::BitBranch { sense, change } => {
-            let (at, second) = two_addresses(fields)?;
-            Ok(Statement::BitBranch {
-                sense,
-                change,
-                at,
-                second,
-            })
-        }
-        Operation::IndBranch { sense, off } => {
-            let (at, second) = two_addresses(fields)?;
-            Ok(Statement::IndBranch {
-                sense,
-                off,
-                at,
-                second,
-            })
-        }
-        Operation::StoreCounter => {
-            let (at, second) = two_addresses(fields)?;
-            Ok(Statement::StoreCounter { at, second })
-        }
-        Operation::Transfer { write } => {
-            let (at, count) = spot_and_number(fields)?;
-            Ok(Statement::Transfer { write, at, count })
-        }
-        Operation::Data => {
-            let (minus, number) = number_alone(fields)?;
-            Ok(Statement::Data {
-                form,
-                minus,
-                number,
-            })
-        }
-        Operation::IndexWord => {
-            let (value, (count, (refill, flags))) = index_word(fields)?;
-            Ok(Statement::IndexWord {
-                value,
-                count,
-                refill,
-                flags,
-            })
-        }
-        Operation::Synonym => Ok(Statement::Synonym {
-            at: expression_alone(fields)?,
-        }),
-        Operation::SetLocation => Ok(Statement::SetLocation {
-            at: expression_alone(fields)?,
-        }),
-        Operation::Reserve => Ok(Statement::Reserve {
-            at: expression_alone(fields)?,
-        }),
-        Operation::End => Ok(Statement::End {
-            at: expression_alone(fields)?,
-        }),
+        Operation::Half(op) => say_half(op, fields),
+        Operation::Sum => say_sum(fields),
+        Operation::Refill => say_refill(fields),
+        Operation::Execute => say_execute(fields),
+        Operation::Branch(op) => say_branch(op, fields),
+        Operation::Bare(op) => say_bare(op, fields),
+        Operation::Floating(number) => say_floating(number, fields),
+        Operation::Vfl { op, negated } => say_vfl(op, negated, form, fields),
+        Operation::Connect { kind, table } => say_connect(kind, table, form, fields),
+        Operation::Move { swap } => say_move(swap, fields),
+        Operation::BitBranch { sense, change } => say_bit_branch(sense, change, fields),
+        Operation::IndBranch { sense, off } => say_ind_branch(sense, off, fields),
+        Operation::StoreCounter => say_store_counter(fields),
+        Operation::Transfer { write } => say_transfer(write, fields),
+        Operation::Data => say_data(form, fields),
+        Operation::IndexWord => say_index_word(fields),
+        Operation::Synonym => say_synonym(fields),
+        Operation::SetLocation => say_set_location(fields),
+        Operation::Reserve => say_reserve(fields),
+        Operation::End => say_end(fields),
     }
 }
 

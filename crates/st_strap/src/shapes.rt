@@ -10,6 +10,28 @@ use crate::statement::{Form, Spot, Statement};
 use st_card::Fault;
 use st_expr::Expr;
 
+// An address and a number.
+#[derive(Drop)]
+pub(crate) struct AddressAndNumber {
+    pub address: Expr,
+    pub number: u64,
+}
+
+// A refill address and flags.
+#[derive(Drop)]
+pub(crate) struct RefillAndFlags {
+    pub refill: Expr,
+    pub flags: u64,
+}
+
+// What stands behind the value of an index word.
+#[derive(Drop)]
+pub(crate) struct CountAndRefill {
+    pub count: u64,
+    pub refill: Expr,
+    pub flags: u64,
+}
+
 // One field that is an index word.
 #[tactic(auto, unfolding(crate::specs::Saying::index_alone))]
 pub(crate) fn index_alone(fields: &[Field]) -> Result<u8, Fault>
@@ -112,20 +134,33 @@ pub(crate) fn spot_and_number(fields: &[Field]) -> Result<(Spot, u64), Fault>
     }
 }
 
+// An address and a number that were read.
+fn address_with_number(
+    address: Result<Expr, Fault>,
+    number: Result<u64, Fault>,
+) -> Result<AddressAndNumber, Fault>
+    ensures { result ≡ spec.address_with_number address number }
+{
+    match both(address, number) {
+        Ok((address, number)) => Ok(AddressAndNumber { address, number }),
+        Err(fault) => Err(fault),
+    }
+}
+
 // An address without an index part and a number.
 #[tactic(auto, unfolding(crate::specs::Saying::address_and_number))]
-fn address_and_number(fields: &[Field]) -> Result<(Expr, u64), Fault>
+fn address_and_number(fields: &[Field]) -> Result<AddressAndNumber, Fault>
     ensures { result ≡ spec.address_and_number (texts fields.now) }
 {
     match fields {
-        [at, number] => both(expression(at.text), plain_number(number.text)),
+        [at, number] => address_with_number(expression(at.text), plain_number(number.text)),
         _ => Err(Fault::BadFieldCount),
     }
 }
 
 // Two addresses and a number.
 #[tactic(auto, unfolding(crate::specs::Saying::two_addresses_and_number))]
-pub(crate) fn two_addresses_and_number(fields: &[Field]) -> Result<(Spot, (Expr, u64)), Fault>
+pub(crate) fn two_addresses_and_number(fields: &[Field]) -> Result<(Spot, AddressAndNumber), Fault>
     ensures { result ≡ spec.two_addresses_and_number (texts fields.now) }
 {
     match fields {
@@ -134,33 +169,63 @@ pub(crate) fn two_addresses_and_number(fields: &[Field]) -> Result<(Spot, (Expr,
     }
 }
 
+// A refill address and flags that were read.
+fn refill_with_flags(
+    refill: Result<Expr, Fault>,
+    flags: Result<u64, Fault>,
+) -> Result<RefillAndFlags, Fault>
+    ensures { result ≡ spec.refill_with_flags refill flags }
+{
+    match both(refill, flags) {
+        Ok((refill, flags)) => Ok(RefillAndFlags { refill, flags }),
+        Err(fault) => Err(fault),
+    }
+}
+
 // A refill address, and flags or none.
 #[tactic(auto, unfolding(crate::specs::Saying::refill_and_flags))]
-fn refill_and_flags(fields: &[Field]) -> Result<(Expr, u64), Fault>
+fn refill_and_flags(fields: &[Field]) -> Result<RefillAndFlags, Fault>
     ensures { result ≡ spec.refill_and_flags (texts fields.now) }
 {
     match fields {
-        [refill] => both(expression(refill.text), Ok(0)),
-        [refill, flags] => both(expression(refill.text), plain_number(flags.text)),
+        [refill] => refill_with_flags(expression(refill.text), Ok(0)),
+        [refill, flags] => refill_with_flags(expression(refill.text), plain_number(flags.text)),
         _ => Err(Fault::BadFieldCount),
+    }
+}
+
+// A count, a refill address and flags that were read.
+fn count_with_refill(
+    count: Result<u64, Fault>,
+    more: Result<RefillAndFlags, Fault>,
+) -> Result<CountAndRefill, Fault>
+    ensures { result ≡ spec.count_with_refill count more }
+{
+    match both(count, more) {
+        Ok((count, RefillAndFlags { refill, flags })) => Ok(CountAndRefill {
+            count,
+            refill,
+            flags,
+        }),
+        Err(fault) => Err(fault),
     }
 }
 
 // A count, a refill address, and flags or none.
 #[tactic(auto, unfolding(crate::specs::Saying::count_and_refill))]
-fn count_and_refill(fields: &[Field]) -> Result<(u64, (Expr, u64)), Fault>
+fn count_and_refill(fields: &[Field]) -> Result<CountAndRefill, Fault>
     ensures { result ≡ spec.count_and_refill (texts fields.now) }
 {
     match fields {
         [] => Err(Fault::BadFieldCount),
-        [count, more @ ..] => both(plain_number(count.text), refill_and_flags(more)),
+        [count, more @ ..] => count_with_refill(plain_number(count.text), refill_and_flags(more)),
     }
 }
 
 // The parts of an index word.
-#[tactic(auto, unfolding(crate::specs::Saying::index_word))]
-pub(crate) fn index_word(fields: &[Field]) -> Result<(Expr, (u64, (Expr, u64))), Fault>
-    ensures { result ≡ spec.index_word (texts fields.now) }
+#[tactic(auto, unfolding(crate::specs::Saying::index_word_parts))]
+pub(crate) fn index_word_parts(fields: &[Field]) -> Result<(Expr, CountAndRefill), Fault>
+    ensures { result ≡ spec.index_word_parts (texts fields.now) }
 {
     match fields {
         [] => Err(Fault::BadFieldCount),

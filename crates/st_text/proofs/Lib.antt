@@ -1,1 +1,7 @@
 pub mod Filled
+pub mod FrontLemmas
+pub mod Hexadecimal
+pub mod ListLemmas
+pub mod NumberLemmas
+pub mod PieceLemmas
+pub mod TableLemmas

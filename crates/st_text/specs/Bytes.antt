@@ -1,5 +1,6 @@
 -- The bytes that texts are cut at and made of, by their names.
-use Rattle.std.specs.Prelude.{ℕ}
+use Rattle.std.specs.Prelude.{ℕ, ◌&&◌, Bool, nat_le, List, [], ◌∷◌}
+use Rattle.std.specs.List.{list_all}
 
 abbrev pub line_end : ℕ
 line_end = 10
@@ -49,3 +50,15 @@ letter_n = 78
 -- the last byte of ASCII that is visible
 abbrev pub tilde : ℕ
 tilde = 126
+
+-- the line end as a text
+abbrev pub lf : List ℕ
+lf = line_end ∷ []
+
+-- whether a byte is a blank or a visible character of ASCII
+abbrev pub is_printable_byte : ℕ → Bool
+is_printable_byte c = nat_le blank c && nat_le c tilde
+
+-- whether a text has only blanks and visible characters of ASCII
+abbrev pub is_printable : List ℕ → Bool
+is_printable text = list_all is_printable_byte text

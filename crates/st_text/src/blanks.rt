@@ -1,17 +1,38 @@
-//! The blanks at the end of a text.
+//! The blanks at the ends of a text.
+
 ghost use Rattle.std.specs.Prelude.{◌≡◌, ◌<◌, ◌≤◌, length, take, slice_index};
 ghost use Rattle.st_text.specs.Bytes.{blank};
-ghost use Rattle.st_text.specs.Blanks.{without_end_blanks};
+ghost use Rattle.st_text.specs.Blanks as spec;
 
 /// How many bytes stand before the blanks at the end of a text.
 pub fn filled_len(text: &[u8]) -> usize
     ensures within { result ≤ length text.now }
-    ensures value { take result text.now ≡ without_end_blanks text.now }
+    ensures value { take result text.now ≡ spec.without_end_blanks text.now }
     ensures blank_next { result < length text.now → slice_index text.now result ≡ blank }
 {
     text.iter()
         .rposition(|byte| *byte != b' ')
         .map_or(0, |last| last + 1)
+}
+
+/// A text without the blanks at its end.
+pub fn without_end_blanks(text: &[u8]) -> &[u8]
+    ensures text { result.now ≡ spec.without_end_blanks text.now }
+    ensures shorter { length result.now ≤ length text.now }
+{
+    text.split_at(filled_len(text)).0
+}
+
+/// A text without the blanks at its front.
+pub fn without_front_blanks(text: &[u8]) -> &[u8]
+    ensures text { result.now ≡ spec.without_front_blanks text.now }
+    ensures shorter { length result.now ≤ length text.now }
+{
+    let mut rest = text;
+    'blanks: while let [b' ', after @ ..] = rest {
+        rest = after;
+    }
+    rest
 }
 
 #[cfg(test)]

@@ -1,6 +1,19 @@
-//! Texts: where the blanks at a text's end begin.
+//! Texts: cut into pieces and words, read as numbers, found in tables, and put together to lines.
 #![tactic(auto)]
 
 mod blanks;
+mod lines;
+mod numbers;
+mod pieces;
+mod tables;
+mod words;
 
-pub use blanks::filled_len;
+pub use blanks::{filled_len, without_end_blanks, without_front_blanks};
+pub use lines::{
+    Line, begun, drop_end_blanks, push_bit_address, push_decimal, push_flag, push_half_address,
+    push_hex, push_short_decimal,
+};
+pub use numbers::{Reading, number_up_to, read_number};
+pub use pieces::{behind, cut, front};
+pub use tables::row_of;
+pub use words::first_word;

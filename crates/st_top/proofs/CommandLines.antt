@@ -7,7 +7,7 @@ use Rattle.std.specs.List.{list_all}
 use Rattle.clap.specs.Words.{matches_of, takes, first_of}
 use Rattle.clap.proofs.OnLiterals.{clap_on_literals}
 use Rattle.std.specs.Char.{is_ascii_digit}
-use Rattle.st_card.specs.Number.{is_filled, is_number, value}
+use Rattle.st_text.specs.Number.{is_filled, is_number, value}
 use Rattle.st_top.specs.Command.{command_named, command_with, command_of, number_in, soak_of, IsWithinCards}
 use Rattle.st_top.specs.CommandLine.{is_plain, three_words, command_by}
 use Rattle.st_top.specs.declared.command.Command.{Command}

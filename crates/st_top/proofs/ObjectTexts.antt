@@ -6,8 +6,8 @@ use Rattle.std.specs.List.{flat_map}
 use Rattle.st_io.specs.Output.{OutputState}
 use Rattle.st_io.specs.Lines.{text}
 use Rattle.st_io.proofs.Progress.{LinesSoFar}
-use Rattle.st_report.specs.Line.{lf}
-use Rattle.st_card.specs.Pieces.{parted, onto_first}
+use Rattle.st_text.specs.Bytes.{lf}
+use Rattle.st_text.specs.Pieces.{parted, onto_first}
 use Rattle.st_object.specs.Lines.{spelled}
 use Rattle.st_object.specs.Draft.{blank}
 use Rattle.st_object.specs.Object.{Program, IsProgram, object_lines as lines_of, object_text, read_text}

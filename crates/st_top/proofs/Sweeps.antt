@@ -8,7 +8,7 @@ use Rattle.st_bits.specs.Storage.{words_of_storage}
 use Rattle.st_io.specs.Output.{OutputState, Wrote}
 use Rattle.st_io.specs.Lines.{text}
 use Rattle.st_io.proofs.Writing.{wrote_at_moment}
-use Rattle.st_card.specs.Controls.{Asked, is_among}
+use Rattle.st_card.specs.Controls.{Asked, is_in_range}
 use Rattle.st_card.specs.declared.limits.TheConstants.{MOST_DELAY}
 use Rattle.st_card.specs.declared.control_cards.Signal.{Signal as SignalCard}
 use Rattle.st_state.specs.Machine.{opening}
@@ -35,7 +35,7 @@ unfolding levels_lines
 no_lines n xs is = sym (ap (levels_lines n) is)
 
 -- each delay that keeps its limits is 1 at least
-pub delays_last : (ds es : List ℕ) → AllPass (is_among 1 MOST_DELAY) ds → es ≡ ds → All (λ d. 1 ≤ d) es
+pub delays_last : (ds es : List ℕ) → AllPass (is_in_range 1 MOST_DELAY) ds → es ≡ ds → All (λ d. 1 ≤ d) es
 delays_last ds es limits same =
     subst (All (λ d. 1 ≤ d)) (sym same) (λ k d lt.
     let x = slice_index_or ds k d in leb-true 1 x (and_parts (nat_le 1 x) (nat_le x MOST_DELAY) (limits k d lt)).0)

@@ -6,7 +6,7 @@ use Rattle.std.specs.List.{AllPass}
 use Rattle.std.specs.Prelude.{slice_index}
 use Rattle.st_io.specs.Output.{OutputState}
 use Rattle.st_io.specs.Event.{Event, at_moment, StoppedAt}
-use Rattle.st_card.specs.Controls.{Asked, is_among}
+use Rattle.st_card.specs.Controls.{Asked, is_in_range}
 use Rattle.st_card.specs.declared.limits.TheConstants.{MOST_DELAY}
 use Rattle.st_run.specs.Run.{Scene}
 use Rattle.st_rows.specs.Ranges.{AreDelays}
@@ -136,7 +136,7 @@ module _ (most : ℕ) (image : List ℕ) (first : ℕ) (asked : Asked) (are : Ar
   swept_time s t answer w = swept-status answer.status s t answer w
 
 -- delays that keep the limits of control cards, none of which exceeds a number
-pub delays_within : (most : ℕ) (ds : List ℕ) → 1 ≤ length ds → AllPass (is_among 1 MOST_DELAY) ds → All (λ d. d ≤ most) ds → AreDelays most ds
+pub delays_within : (most : ℕ) (ds : List ℕ) → 1 ≤ length ds → AllPass (is_in_range 1 MOST_DELAY) ds → All (λ d. d ≤ most) ds → AreDelays most ds
 delays_within most ds some limits below = record {
   some = some;
   each = λ k d lt.
@@ -147,14 +147,14 @@ delays_within most ds some limits below = record {
 
 -- the delays of a job bound the ticks of its run
 pub keeps_time : (asked : Asked) (start : Scene) (s t : OutputState) (listed : List (List ℕ)) (answer : Answer)
-    → 1 ≤ length asked.delays → AllPass (is_among 1 MOST_DELAY) asked.delays → IsScene start
+    → 1 ≤ length asked.delays → AllPass (is_in_range 1 MOST_DELAY) asked.delays → IsScene start
     → Writes answer.status s t (output_of_run listed asked start) answer → KeepsTime asked.delays answer
 keeps_time asked start s t listed answer some limits is w = λ most below.
     writes_time most asked start (delays_within most asked.delays some limits below) is s t listed answer w
 
 -- so they bound the ticks of its sweep
 pub keeps_sweep : (image : List ℕ) (first : ℕ) (asked : Asked) (s t : OutputState) (answer : Answer)
-    → 1 ≤ length asked.delays → AllPass (is_among 1 MOST_DELAY) asked.delays → IsScene (sweep_start image first asked)
+    → 1 ≤ length asked.delays → AllPass (is_in_range 1 MOST_DELAY) asked.delays → IsScene (sweep_start image first asked)
     → Writes answer.status s t (output_of_sweep (sweep_of image first asked)) answer → KeepsTime asked.delays answer
 keeps_sweep image first asked s t answer some limits is w = λ most below.
     swept_time most image first asked (delays_within most asked.delays some limits below) is s t answer w

@@ -4,7 +4,7 @@ use Rattle.st_asm.specs.Assembly.{Assembly}
 use Rattle.st_object.specs.Lines.{spelled}
 use Rattle.st_object.specs.Object.{Program, object_lines as lines_of}
 use Rattle.st_dis.specs.Deck.{deck_cards}
-use Rattle.st_report.specs.Line.{lf}
+use Rattle.st_text.specs.Bytes.{lf}
 
 -- what an object text keeps of a job that is assembled: all but whether it is listed
 abbrev pub program_in : Assembly → Program

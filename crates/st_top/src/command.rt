@@ -9,7 +9,7 @@ ghost use Rattle.st_top.specs.CommandLine.{is_plain as is_plain_word, three_word
 use clap::error::ErrorKind;
 use clap::{Arg, Command as Parser, Error};
 use st_bits::NoMemory;
-use st_card::{Reading, read_number};
+use st_text::{Reading, read_number};
 use std::alloc::{AllocError, Global};
 
 /// What the words of a command line ask for.

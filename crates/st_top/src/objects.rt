@@ -1,7 +1,7 @@
 //! The object text of a job and the deck of a program, written line by line.
 ghost use Rattle.std.specs.Prelude.{◌≡◌, ◌+◌, ◌≤◌, [], Ok, length, take};
 ghost use Rattle.st_asm.specs.Assembly.{shown};
-ghost use Rattle.st_card.specs.Pieces.{parted};
+ghost use Rattle.st_text.specs.Pieces.{parted};
 ghost use Rattle.st_io.specs.Lines.{WritesLines, text};
 ghost use Rattle.st_dis.specs.Deck.{deck_text};
 ghost use Rattle.st_object.specs.Object.{Program, IsProgram, object_text};
@@ -14,10 +14,10 @@ ghost use Rattle.st_top.specs.declared.answer.Status.TheVariants.{Done};
 use crate::answer::{Answer, Status};
 use crate::layer_error::LayerError;
 use st_asm::Assembled;
-use st_card::cut;
 use st_dis::disassemble;
 use st_io::{Failed, Sink, write_line};
 use st_object::{Image, write_object};
+use st_text::cut;
 use std::alloc::Global;
 
 /// What an object text keeps of a job that is assembled: all but whether it is listed.

@@ -9,7 +9,8 @@ use Rattle.st_asm.specs.Assembly.{Assembly}
 use Rattle.st_asm.specs.Forming.{form_pass, found_in}
 use Rattle.st_asm.specs.Naming.{name_pass, named_in}
 use Rattle.st_asm.specs.Valuing.{value_pass, laid_in}
-use Rattle.st_asm.specs.Sound.{IsLine, IsLocation, IsSound}
+use Rattle.st_asm.specs.Sound.{IsLocation, IsSound}
+use Rattle.st_asm.specs.Kept.{IsLine}
 use Rattle.st_asm.specs.declared.line.Line.{Line}
 use Rattle.st_asm.proofs.KeptLemmas.{few-cards, form_pass-deck, name_pass-named, together-sound}
 use Rattle.st_asm.proofs.FaultlessLemmas.{form_pass-faultless}

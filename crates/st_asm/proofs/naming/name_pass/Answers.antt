@@ -3,13 +3,13 @@ use Rattle.std.specs.Result.{IfErr}
 use Rattle.st_asm.specs.Answers.{Explains}
 use Rattle.st_asm.specs.Naming.{name_pass, name_card, unnamed}
 use Rattle.st_asm.specs.Pass.{pass}
-use Rattle.st_asm.specs.Symbols.{is_among, is_defined, names_of}
+use Rattle.st_asm.specs.Symbols.{has_name, is_defined, names_of}
 use Rattle.st_asm.proofs.naming.name_pass.Goals as goal
 
 pub returns-clause-err : goal.returns-clause-err
 unfolding name_pass
 returns-clause-err c =
-    let same : is_defined c.in-Ok.all ≡ is_among (names_of c.args.lines.now) = λ i name. c.in-Ok.ensures name i in
+    let same : is_defined c.in-Ok.all ≡ has_name (names_of c.args.lines.now) = λ i name. c.in-Ok.ensures name i in
     subst
     (λ (test : List ℕ → Bool). IfErr c.name_lines.result
     (Explains (pass (name_card test) (λ line. line.card) unnamed c.args.lines.now)))

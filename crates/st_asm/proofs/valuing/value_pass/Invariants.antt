@@ -2,7 +2,8 @@ use Rattle.std.proofs.Common.{◌≡◌, length, All}
 use Rattle.std.specs.List.{zip}
 use Rattle.st_asm.specs.Pass.{pass}
 use Rattle.st_asm.specs.Valuing.{value_card, laid_in, unlaid}
-use Rattle.st_asm.specs.Sound.{IsSoundLayout, IsLocation}
+use Rattle.st_asm.specs.Sound.{IsLocation}
+use Rattle.st_asm.specs.Kept.{IsSoundLayout}
 use Rattle.st_strap.specs.WellFormed.{IsWellFormedIfAny}
 use Rattle.st_asm.proofs.valuing.value_pass.Given as goal
 

@@ -1,9 +1,9 @@
 use Rattle.std.proofs.Common.{◌≡◌, ◌-◌, ◌++◌, List, length, ap, ◌∙◌, arith, length-append}
 use Rattle.st_card.specs.Cards.{cards_from}
-use Rattle.st_card.specs.Pieces.{parted}
+use Rattle.st_text.specs.Pieces.{parted}
 use Rattle.st_card.specs.declared.cards.Card.{Card}
 use Rattle.st_card.proofs.CardLemmas.{cards_further, cards_done, cards_full, texts_further}
-use Rattle.st_card.proofs.TextLemmas.{behind_behind, behind_itself}
+use Rattle.st_text.proofs.FrontLemmas.{behind_behind, behind_itself}
 use Rattle.st_card.proofs.cards.split.Goals as goal
 
 pub lines-init : goal.lines-init

@@ -1,6 +1,6 @@
 use Rattle.std.proofs.Common.{◌≡◌, ◌+◌, ◌-◌, ◌≤◌, ◌++◌, length, All}
 use Rattle.st_card.specs.Cards.{cards_from, IsCardOf}
-use Rattle.st_card.specs.Pieces.{parted, IsBehind}
+use Rattle.st_text.specs.Pieces.{parted, IsBehind}
 use Rattle.st_card.proofs.cards.split.Given as goal
 
 abbrev pub invariant-lines : goal.invariant-lines

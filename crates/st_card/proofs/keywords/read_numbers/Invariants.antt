@@ -1,12 +1,12 @@
 use Rattle.std.proofs.Common.{◌≡◌, ◌≤◌, ◌+◌, ◌*◌, ◌++◌, length}
 use Rattle.std.specs.Option.{option_map}
-use Rattle.st_card.specs.Pieces.{words}
-use Rattle.st_card.specs.Controls.{numbers_in}
+use Rattle.st_text.specs.Pieces.{words}
+use Rattle.st_card.specs.Controls.{card_numbers}
 use Rattle.st_card.proofs.keywords.read_numbers.Given as goal
 
 abbrev pub invariant-words : goal.invariant-words
 invariant-words l = record {
-  same_numbers : option_map (λ more. l.numbers.items ++ more) (numbers_in (words l.rest)) ≡ numbers_in (words l.text);
+  same_numbers : option_map (λ more. l.numbers.items ++ more) (card_numbers (words l.rest)) ≡ card_numbers (words l.text);
   room : 2 * length l.numbers.items + length l.rest ≤ 72;
 }
 

@@ -1,4 +1,4 @@
-use Rattle.st_card.proofs.ListLemmas.{first_and_rest}
+use Rattle.st_text.proofs.ListLemmas.{first_and_rest}
 use Rattle.st_draw.proofs.Elements.{grid_step, grid_done}
 use Rattle.st_draw.proofs.drawing.push_grid.Goals as goal
 

@@ -1,6 +1,6 @@
 -- The card is found in the lines that are left.
 use Rattle.std.proofs.Common.{◌≡◌, length}
-use Rattle.st_card.specs.Pieces.{parted}
+use Rattle.st_text.specs.Pieces.{parted}
 use Rattle.st_draw.specs.Label.{card_at}
 use Rattle.st_draw.proofs.label.label_at.Given as goal
 

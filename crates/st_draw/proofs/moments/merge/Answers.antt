@@ -1,4 +1,4 @@
-use Rattle.st_card.proofs.ListLemmas.{first_and_rest}
+use Rattle.st_text.proofs.ListLemmas.{first_and_rest}
 use Rattle.st_draw.specs.declared.moments.Moment.{Moment}
 use Rattle.st_draw.specs.declared.moments.Step.TheVariants.{Begin}
 use Rattle.st_draw.specs.declared.timetable.Entry.TheVariants.{Done}

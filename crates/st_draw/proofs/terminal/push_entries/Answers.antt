@@ -1,4 +1,4 @@
-use Rattle.st_card.proofs.ListLemmas.{first_and_rest}
+use Rattle.st_text.proofs.ListLemmas.{first_and_rest}
 use Rattle.st_draw.specs.declared.timetable.Entry.TheVariants.{Done}
 use Rattle.st_draw.proofs.Lines.{lines_step, lines_done}
 use Rattle.st_draw.proofs.terminal.push_entries.Goals as goal

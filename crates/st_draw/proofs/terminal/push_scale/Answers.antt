@@ -1,4 +1,4 @@
-use Rattle.st_card.proofs.ListLemmas.{first_and_rest}
+use Rattle.st_text.proofs.ListLemmas.{first_and_rest}
 use Rattle.st_draw.proofs.Lines.{scale_step, scale_done}
 use Rattle.st_draw.proofs.terminal.push_scale.Goals as goal
 

@@ -1,6 +1,6 @@
 -- The lines that are left tell from here what all lines tell from the start.
 use Rattle.std.proofs.Common.{◌≡◌, length}
-use Rattle.st_card.specs.Pieces.{parted}
+use Rattle.st_text.specs.Pieces.{parted}
 use Rattle.st_draw.specs.Timetable.{after_lines, kept_by}
 use Rattle.st_draw.proofs.timetable.take_lines.Given as goal
 

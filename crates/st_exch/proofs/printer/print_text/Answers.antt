@@ -1,7 +1,7 @@
 use Rattle.std.proofs.Common.{List, ℕ, ap, ◌∙◌, arith}
 use Rattle.std.specs.List.{flat_map}
 use Rattle.std.proofs.lemmas.List.{take_all}
-use Rattle.st_card.specs.Cards.{is_printable}
+use Rattle.st_text.specs.Bytes.{is_printable}
 use Rattle.st_text.specs.Blanks.{without_end_blanks}
 use Rattle.st_exch.specs.Printer.{characters_of, printed}
 use Rattle.st_exch.proofs.PrinterLemmas.{printed-printable}
@@ -11,7 +11,7 @@ text_is : goal.returns-clause-text
 unfolding printed
 text_is c =
     let whole = take_all c.loop-word.word-index c.args.words.now (omega arith) in
-    c.drop_end_blanks.ensures
+    c.drop_end_blanks.ensures.bytes
     ∙ ap without_end_blanks (c.loop-word.invariant.so_far ∙ ap (λ (x : List ℕ). flat_map characters_of x) whole)
 
 pub returns-clause-text : goal.returns-clause-text

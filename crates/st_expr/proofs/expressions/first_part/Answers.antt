@@ -1,5 +1,5 @@
 use Rattle.std.proofs.Common.{◌∙◌, ℕ, ◌<◌, ap, sym, refl, List, length, arith}
-use Rattle.st_card.proofs.ListLemmas.{first_and_rest, past_first}
+use Rattle.st_text.proofs.ListLemmas.{first_and_rest, past_first}
 use Rattle.st_expr.proofs.ExprLemmas.{onto_parts-nothing, parts_on, plus_here, minus_here}
 use Rattle.st_expr.proofs.expressions.first_part.Goals as goal
 

@@ -1,5 +1,5 @@
 use Rattle.std.proofs.Common.{refl, sym, subst, arith}
-use Rattle.st_card.specs.Pieces.{parted}
+use Rattle.st_text.specs.Pieces.{parted}
 use Rattle.st_object.specs.Draft.{blank}
 use Rattle.st_object.specs.Object.{read_from, read_text}
 use Rattle.st_object.specs.Answers.{Explains}

@@ -1,5 +1,5 @@
 use Rattle.std.proofs.Common.{◌≡◌, ◌<◌, ◌+◌, ◌^◌, length}
-use Rattle.st_card.specs.Pieces.{parted}
+use Rattle.st_text.specs.Pieces.{parted}
 use Rattle.st_object.specs.Draft.{blank, IsDraft, lines_of}
 use Rattle.st_object.specs.Object as spec
 use Rattle.st_object.proofs.reading.read.Given as goal

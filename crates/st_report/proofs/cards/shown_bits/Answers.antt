@@ -1,7 +1,7 @@
 -- The shift loses no bit, since the digits are at most sixteen.
 use Rattle.std.proofs.Common.{ℕ, ◌≤◌, ◌+◌, ◌*◌, ◌-◌, arith}
 use Rattle.std.specs.Int.{div_ceil}
-use Rattle.st_report.proofs.Hexadecimal.{shifted_whole}
+use Rattle.st_report.proofs.Shifts.{shifted_whole}
 use Rattle.st_report.proofs.cards.shown_bits.Goals as goal
 
 pub returns-clause-bytes : goal.returns-clause-bytes

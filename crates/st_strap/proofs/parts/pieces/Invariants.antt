@@ -1,5 +1,5 @@
 use Rattle.std.proofs.Common.{◌≡◌, ◌≤◌, ◌+◌, ◌++◌, length}
-use Rattle.st_card.specs.Pieces.{parted}
+use Rattle.st_text.specs.Pieces.{parted}
 use Rattle.st_strap.specs.Fields.{texts}
 use Rattle.st_strap.proofs.parts.pieces.Given as goal
 

@@ -1,5 +1,5 @@
 use Rattle.std.proofs.Common.{◌≡◌, ◌≤◌, ℕ, List, [], ◌∙◌, ap, subst}
-use Rattle.st_card.specs.Pieces.{parted}
+use Rattle.st_text.specs.Pieces.{parted}
 use Rattle.st_object.specs.Object.{Program}
 use Rattle.st_dis.specs.Deck.{card_count, deck_text}
 use Rattle.st_top.specs.ObjectText.{deck_lines, ended_lines}

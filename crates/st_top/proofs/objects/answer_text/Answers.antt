@@ -1,4 +1,4 @@
-use Rattle.st_card.specs.Pieces.{parted}
+use Rattle.st_text.specs.Pieces.{parted}
 use Rattle.st_io.proofs.Writing.{stopped_at_moment}
 use Rattle.st_top.specs.ObjectText.{ended_lines}
 use Rattle.st_top.proofs.Outputs.{wrote_alone}

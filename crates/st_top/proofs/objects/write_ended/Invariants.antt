@@ -1,5 +1,5 @@
 use Rattle.std.proofs.Common.{length}
-use Rattle.st_card.specs.Pieces.{parted}
+use Rattle.st_text.specs.Pieces.{parted}
 use Rattle.st_io.proofs.Progress.{LinesSoFar}
 use Rattle.st_top.specs.ObjectText.{ended_lines}
 use Rattle.st_top.proofs.objects.write_ended.Given as goal

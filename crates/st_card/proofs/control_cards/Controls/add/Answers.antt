@@ -1,6 +1,6 @@
 use Rattle.std.proofs.Common.{List, ℕ, length, ap, sym, ◌∙◌, arith}
 use Rattle.std.proofs.lemmas.List.{length-take}
-use Rattle.st_card.specs.Pieces.{words}
+use Rattle.st_text.specs.Pieces.{words}
 use Rattle.st_card.specs.Controls.{with_words}
 use Rattle.st_card.proofs.LimitLemmas.{added-kept}
 use Rattle.st_card.proofs.control_cards.Controls.add.Goals as goal

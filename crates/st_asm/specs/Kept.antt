@@ -1,0 +1,30 @@
+-- What the passes keep of what they hand on.
+use Rattle.std.specs.Prelude.{◌<◌, ◌^◌, All, IsAscii, IfSome}
+use Rattle.st_card.specs.Limits.{IsWithinLimits}
+use Rattle.st_strap.specs.WellFormed.{IsWellFormedIfAny}
+use Rattle.st_asm.specs.Forming.{Found}
+use Rattle.st_asm.specs.Naming.{Named}
+use Rattle.st_asm.specs.Valuing.{Laid}
+use Rattle.st_asm.specs.Sound.{IsLocation, IsRow, IsImage, IsSymbol}
+use Rattle.st_asm.specs.declared.line.Line.{Line}
+
+-- a card that was read says a well-formed statement, and its name is printable
+pub record IsLine (line : Line) : Type 0 where
+  pub well : IsWellFormedIfAny line.statement
+  pub name : IfSome line.name IsAscii
+
+-- each card of a deck does, and its controls keep their limits
+pub record IsDeck (found : Found) : Type 0 where
+  pub lines : All IsLine found.lines
+  pub limits : IsWithinLimits found.asked
+
+-- the symbols and the places that are known so far
+pub record IsNamed (named : Named) : Type 0 where
+  pub symbols : All IsSymbol named.symbols
+  pub places : All IsLocation named.places
+
+-- what is laid so far is an image, a start and rows
+pub record IsSoundLayout (laid : Laid) : Type 0 where
+  pub image : IsImage laid.image
+  pub start : laid.start < 2 ^ 19
+  pub rows : All IsRow laid.rows

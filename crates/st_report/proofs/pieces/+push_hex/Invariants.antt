@@ -1,5 +1,0 @@
--- One digit fewer is left at each call.
-use Rattle.st_report.proofs.pieces.+push_hex.Given as goal
-
-abbrev pub decreases-push_hex : goal.decreases-push_hex
-decreases-push_hex l = l.digits

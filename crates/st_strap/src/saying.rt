@@ -1,0 +1,274 @@
+//! What each operation says with its form and its fields. Each has a function of its own that is never inlined, so that no other
+//! one's large values are cleared for it.
+
+ghost use Rattle.std.specs.Prelude.{◌≡◌};
+ghost use Rattle.st_strap.specs.Fields.{texts};
+ghost use Rattle.st_strap.specs.Saying as spec;
+ghost use Rattle.st_strap.specs.declared.statement.Form.{Form as FormOf};
+
+use crate::field::Field;
+use crate::operations::Operation;
+use crate::shapes::{
+    expression_alone, index_alone, index_and_list, index_and_spot, index_word_parts, number_alone,
+    operand, spot_alone, spot_and_number, two_addresses, two_addresses_and_number, without_fields,
+};
+use crate::statement::{Form, Statement};
+use st_bits::{BranchOp, ConnKind, HalfOp, VflOp};
+use st_card::Fault;
+
+// What an operation on an index word says.
+#[inline(never)]
+#[tactic(auto, unfolding(crate::specs::Saying::with_fields))]
+pub(crate) fn say_half(op: HalfOp, fields: &[Field]) -> Result<Statement, Fault>
+    ensures { (form : FormOf) → result ≡ spec.with_fields (Operation.Half op) form (texts fields.now) }
+{
+    let (j, at) = index_and_spot(fields)?;
+    Ok(Statement::Half { op, j, at })
+}
+
+// What LVS says.
+#[inline(never)]
+#[tactic(auto, unfolding(crate::specs::Saying::with_fields))]
+pub(crate) fn say_sum(fields: &[Field]) -> Result<Statement, Fault>
+    ensures { (form : FormOf) → result ≡ spec.with_fields Operation.Sum form (texts fields.now) }
+{
+    let (j, list) = index_and_list(fields)?;
+    Ok(Statement::Sum { j, list })
+}
+
+// What R says.
+#[inline(never)]
+#[tactic(auto, unfolding(crate::specs::Saying::with_fields))]
+pub(crate) fn say_refill(fields: &[Field]) -> Result<Statement, Fault>
+    ensures { (form : FormOf) → result ≡ spec.with_fields Operation.Refill form (texts fields.now) }
+{
+    Ok(Statement::Refill {
+        j: index_alone(fields)?,
+    })
+}
+
+// What EX says.
+#[inline(never)]
+#[tactic(auto, unfolding(crate::specs::Saying::with_fields))]
+pub(crate) fn say_execute(fields: &[Field]) -> Result<Statement, Fault>
+    ensures { (form : FormOf) → result ≡ spec.with_fields Operation.Execute form (texts fields.now) }
+{
+    Ok(Statement::Half {
+        op: HalfOp::Ex,
+        j: 0,
+        at: spot_alone(fields)?,
+    })
+}
+
+// What a branch says.
+#[inline(never)]
+#[tactic(auto, unfolding(crate::specs::Saying::with_fields))]
+pub(crate) fn say_branch(op: BranchOp, fields: &[Field]) -> Result<Statement, Fault>
+    ensures { (form : FormOf) → result ≡ spec.with_fields (Operation.Branch op) form (texts fields.now) }
+{
+    Ok(Statement::Branch {
+        op,
+        at: Some(spot_alone(fields)?),
+    })
+}
+
+// What an operation of the branch group without an address says.
+#[inline(never)]
+#[tactic(auto, unfolding(crate::specs::Saying::with_fields))]
+pub(crate) fn say_bare(op: BranchOp, fields: &[Field]) -> Result<Statement, Fault>
+    ensures { (form : FormOf) → result ≡ spec.with_fields (Operation.Bare op) form (texts fields.now) }
+{
+    without_fields(Statement::Branch { op, at: None }, fields)
+}
+
+// What an operation of the floating group says.
+#[inline(never)]
+#[tactic(auto, unfolding(crate::specs::Saying::with_fields))]
+pub(crate) fn say_floating(number: u8, fields: &[Field]) -> Result<Statement, Fault>
+    ensures { (form : FormOf) → result ≡ spec.with_fields (Operation.Floating number) form (texts fields.now) }
+{
+    Ok(Statement::Floating {
+        number,
+        at: spot_alone(fields)?,
+    })
+}
+
+// What an operation on a field says.
+#[inline(never)]
+#[tactic(auto, unfolding(crate::specs::Saying::with_fields))]
+pub(crate) fn say_vfl(
+    op: VflOp,
+    negated: bool,
+    form: Form,
+    fields: &[Field],
+) -> Result<Statement, Fault>
+    ensures { result ≡ spec.with_fields (Operation.Vfl op negated) form (texts fields.now) }
+{
+    let (at, offset) = operand(form, fields)?;
+    Ok(Statement::Vfl {
+        op,
+        negated,
+        form,
+        at,
+        offset,
+    })
+}
+
+// What a connective says.
+#[inline(never)]
+#[tactic(auto, unfolding(crate::specs::Saying::with_fields))]
+pub(crate) fn say_connect(
+    kind: ConnKind,
+    table: u8,
+    form: Form,
+    fields: &[Field],
+) -> Result<Statement, Fault>
+    ensures { result ≡ spec.with_fields (Operation.Connect kind table) form (texts fields.now) }
+{
+    let (at, offset) = operand(form, fields)?;
+    Ok(Statement::Connect {
+        kind,
+        table,
+        form,
+        at,
+        offset,
+    })
+}
+
+// What T or SWAP says.
+#[inline(never)]
+#[tactic(auto, unfolding(crate::specs::Saying::with_fields))]
+pub(crate) fn say_move(swap: bool, fields: &[Field]) -> Result<Statement, Fault>
+    ensures { (form : FormOf) → result ≡ spec.with_fields (Operation.Move swap) form (texts fields.now) }
+{
+    let (at, more) = two_addresses_and_number(fields)?;
+    Ok(Statement::Move {
+        swap,
+        at,
+        second: more.address,
+        count: more.number,
+    })
+}
+
+// What a branch on a bit says.
+#[inline(never)]
+#[tactic(auto, unfolding(crate::specs::Saying::with_fields))]
+pub(crate) fn say_bit_branch(sense: bool, change: u8, fields: &[Field]) -> Result<Statement, Fault>
+    ensures { (form : FormOf) → result ≡ spec.with_fields (Operation.BitBranch sense change) form (texts fields.now) }
+{
+    let (at, second) = two_addresses(fields)?;
+    Ok(Statement::BitBranch {
+        sense,
+        change,
+        at,
+        second,
+    })
+}
+
+// What a branch on an indicator says.
+#[inline(never)]
+#[tactic(auto, unfolding(crate::specs::Saying::with_fields))]
+pub(crate) fn say_ind_branch(sense: bool, off: bool, fields: &[Field]) -> Result<Statement, Fault>
+    ensures { (form : FormOf) → result ≡ spec.with_fields (Operation.IndBranch sense off) form (texts fields.now) }
+{
+    let (at, second) = two_addresses(fields)?;
+    Ok(Statement::IndBranch {
+        sense,
+        off,
+        at,
+        second,
+    })
+}
+
+// What SIC says.
+#[inline(never)]
+#[tactic(auto, unfolding(crate::specs::Saying::with_fields))]
+pub(crate) fn say_store_counter(fields: &[Field]) -> Result<Statement, Fault>
+    ensures { (form : FormOf) → result ≡ spec.with_fields Operation.StoreCounter form (texts fields.now) }
+{
+    let (at, second) = two_addresses(fields)?;
+    Ok(Statement::StoreCounter { at, second })
+}
+
+// What RD or WR says.
+#[inline(never)]
+#[tactic(auto, unfolding(crate::specs::Saying::with_fields))]
+pub(crate) fn say_transfer(write: bool, fields: &[Field]) -> Result<Statement, Fault>
+    ensures { (form : FormOf) → result ≡ spec.with_fields (Operation.Transfer write) form (texts fields.now) }
+{
+    let (at, count) = spot_and_number(fields)?;
+    Ok(Statement::Transfer { write, at, count })
+}
+
+// What DD says.
+#[inline(never)]
+#[tactic(auto, unfolding(crate::specs::Saying::with_fields))]
+pub(crate) fn say_data(form: Form, fields: &[Field]) -> Result<Statement, Fault>
+    ensures { result ≡ spec.with_fields Operation.Data form (texts fields.now) }
+{
+    let (minus, number) = number_alone(fields)?;
+    Ok(Statement::Data {
+        form,
+        minus,
+        number,
+    })
+}
+
+// What XW says.
+#[inline(never)]
+#[tactic(auto, unfolding(crate::specs::Saying::with_fields))]
+pub(crate) fn say_index_word(fields: &[Field]) -> Result<Statement, Fault>
+    ensures { (form : FormOf) → result ≡ spec.with_fields Operation.IndexWord form (texts fields.now) }
+{
+    let (value, more) = index_word_parts(fields)?;
+    Ok(Statement::IndexWord {
+        value,
+        count: more.count,
+        refill: more.refill,
+        flags: more.flags,
+    })
+}
+
+// What SYN says.
+#[inline(never)]
+#[tactic(auto, unfolding(crate::specs::Saying::with_fields))]
+pub(crate) fn say_synonym(fields: &[Field]) -> Result<Statement, Fault>
+    ensures { (form : FormOf) → result ≡ spec.with_fields Operation.Synonym form (texts fields.now) }
+{
+    Ok(Statement::Synonym {
+        at: expression_alone(fields)?,
+    })
+}
+
+// What SLC says.
+#[inline(never)]
+#[tactic(auto, unfolding(crate::specs::Saying::with_fields))]
+pub(crate) fn say_set_location(fields: &[Field]) -> Result<Statement, Fault>
+    ensures { (form : FormOf) → result ≡ spec.with_fields Operation.SetLocation form (texts fields.now) }
+{
+    Ok(Statement::SetLocation {
+        at: expression_alone(fields)?,
+    })
+}
+
+// What DR says.
+#[inline(never)]
+#[tactic(auto, unfolding(crate::specs::Saying::with_fields))]
+pub(crate) fn say_reserve(fields: &[Field]) -> Result<Statement, Fault>
+    ensures { (form : FormOf) → result ≡ spec.with_fields Operation.Reserve form (texts fields.now) }
+{
+    Ok(Statement::Reserve {
+        at: expression_alone(fields)?,
+    })
+}
+
+// What END says.
+#[inline(never)]
+#[tactic(auto, unfolding(crate::specs::Saying::with_fields))]
+pub(crate) fn say_end(fields: &[Field]) -> Result<Statement, Fault>
+    ensures { (form : FormOf) → result ≡ spec.with_fields Operation.End form (texts fields.now) }
+{
+    Ok(Statement::End {
+        at: expression_alone(fields)?,
+    })
+}

@@ -1,0 +1,57 @@
+-- Fronts of texts, and what stands behind them.
+use Rattle.std.proofs.Common.{◌≡◌, ◌≤◌, ◌+◌, ◌-◌, ℕ, List, [], ◌∷◌, ◌++◌, length, take, drop, ap, sym, ◌∙◌, arith, append_assoc, length-append}
+use Rattle.std.proofs.lemmas.List.{take-take, drop-drop, length-take-le}
+use Rattle.std.proofs.Math.Seq.{take-length, take-append_seam, drop-append_seam}
+use Rattle.st_text.specs.Pieces.{IsFront, IsBehind}
+
+-- a text is a front of itself
+pub front_itself : (text : List ℕ) → IsFront text text
+front_itself text = record { same = sym (take-length text); within = omega arith }
+
+-- so many bytes of a text are a front of it
+pub front_taken : (n : ℕ) (text : List ℕ) → n ≤ length text → IsFront (take n text) text
+front_taken n text few =
+    let long : length (take n text) ≡ n = length-take-le n text few in
+    record { same = ap (λ k. take k text) (sym long); within = omega (arith, long, few) }
+
+-- a front of a front
+pub front_of_front : (a b text : List ℕ) → IsFront a b → IsFront b text → IsFront a text
+front_of_front a b text first second = record {
+  same = first.same ∙ (ap (λ (s : List ℕ). take (length a) s) second.same
+      ∙ take-take (length a) (length b) text first.within);
+  within = omega arith;
+}
+
+-- what stands before a byte, and what stands behind it
+pub front_of_whole : (front back text : List ℕ) (c : ℕ) → text ≡ front ++ c ∷ back → IsFront front text
+front_of_whole front back text c whole = record {
+  same = sym (ap (λ (s : List ℕ). take (length front) s) whole ∙ take-append_seam front (c ∷ back));
+  within = omega (arith, simp length-append at (ap length whole));
+}
+
+pub behind_whole : (front back text : List ℕ) (c : ℕ) → text ≡ front ++ c ∷ back → IsBehind back text
+behind_whole front back text c whole =
+    let lengths : length text ≡ length front + (length back + 1) = omega (arith, simp length-append at (ap length whole)) in
+    let before : length (front ++ c ∷ []) ≡ length text - length back = omega (arith, length-append front (c ∷ [])) in
+    record {
+      same = sym (ap (λ (s : List ℕ). drop (length text - length back) s) (whole ∙ sym (append_assoc front (c ∷ []) back))
+          ∙ (ap (λ n. drop n ((front ++ c ∷ []) ++ back)) (sym before) ∙ drop-append_seam (front ++ c ∷ []) back));
+      within = omega arith;
+    }
+
+-- what is behind a text that is behind another
+pub behind_behind : (a b text : List ℕ) → IsBehind a b → IsBehind b text → IsBehind a text
+behind_behind a b text first second =
+    let count : (length text - length b) + (length b - length a) ≡ length text - length a =
+    omega (arith, first.within, second.within) in
+    record {
+      same = first.same ∙ (ap (λ (s : List ℕ). drop (length b - length a) s) second.same
+          ∙ (drop-drop (length b - length a) (length text - length b) text ∙ ap (λ n. drop n text) count));
+      within = omega (arith, first.within, second.within);
+    }
+
+-- a text is behind itself
+pub behind_itself : (text : List ℕ) → IsBehind text text
+behind_itself text =
+    let none : 0 ≡ length text - length text = omega arith in
+    record { same = ap (λ n. drop n text) none; within = omega arith }

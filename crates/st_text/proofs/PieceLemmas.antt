@@ -1,0 +1,70 @@
+-- Cutting a text at a byte.
+use Rattle.std.proofs.Common.{◌≡◌, ◌<◌, ◌≤◌, ◌&&◌, ℕ, zero, suc, slice_index, List, [], ◌∷◌, ◌++◌, Bool, true, false, not, IsTrue, length, take, drop, refl, ap, sym, subst, ◌∙◌, if◌then◌else◌, ◌==◌, arith}
+use Rattle.std.proofs.Math.Seq.{take-length}
+use Rattle.std.proofs.lemmas.List.{take-append-drop}
+use Rattle.st_text.specs.Pieces.{onto_first, parted, lacks}
+
+-- a text has a first piece
+pub first_piece : (at : ℕ) (text : List ℕ) →
+    (piece : List ℕ) × ((pieces : List (List ℕ)) × (parted at text ≡ piece ∷ pieces))
+first_piece at [] = ([], ([], refl))
+first_piece at (c ∷ cs) =
+    let F : List (List ℕ) → Type 0 =
+    λ p. (piece : List ℕ) × ((pieces : List (List ℕ)) × (p ≡ piece ∷ pieces)) in
+    elim (c == at) as (λ v. F (if v then [] ∷ parted at cs else onto_first c (parted at cs))) [
+      | true ↦ ([], (parted at cs, refl))
+      | false ↦ elim (parted at cs) as (λ p. F (onto_first c p)) [ [] ↦ (c ∷ [], ([], refl)) | q ∷ qs ↦ (c ∷ q, (qs, refl)) ]
+    ]
+
+both_hold : (a b : Bool) → IsTrue a → b ≡ true → IsTrue (a && b)
+both_hold true b first second = second
+both_hold false b first second = cc
+
+-- the whole text was gone over
+pub lacks_all : (at n : ℕ) (text : List ℕ) → n ≡ length text → IsTrue (lacks at (take n text)) → IsTrue (lacks at text)
+lacks_all at n text full lacking =
+    let P : List ℕ → Type 0 = λ s. IsTrue (lacks at s) in
+    subst P (ap (λ k. take k text) full ∙ take-length text) lacking
+
+-- a text around a byte
+pub around : (text front rest tail : List ℕ) (n c : ℕ) → front ≡ take n text → rest ≡ drop n text → rest ≡ c ∷ tail →
+    text ≡ front ++ c ∷ tail
+around text front rest tail n c before behind parts =
+    sym (take-append-drop n text)
+    ∙ (ap (λ (s : List ℕ). s ++ drop n text) (sym before) ∙ ap (λ (s : List ℕ). front ++ s) (sym behind ∙ parts))
+
+-- ---- the first place of a byte
+
+other_false : (b : Bool) → (b ≡ true → ⊥) → b ≡ false
+other_false true differs = absurd (differs refl)
+other_false false differs = refl
+
+-- a text is cut there
+pub parted_at : (at n : ℕ) (text : List ℕ) → n < length text → (slice_index text n == at) ≡ true
+    → ((k : ℕ) → 0 ≤ k → k < n → (slice_index text k == at) ≡ true → ⊥)
+    → parted at text ≡ take n text ∷ parted at (drop 1 (drop n text))
+parted_at at n [] within here before = absurd (omega arith)
+parted_at at zero (c ∷ cs) within here before =
+    ap (λ (b : Bool). if b then [] ∷ parted at cs else onto_first c (parted at cs)) here
+parted_at at (suc n) (c ∷ cs) within here before =
+    ap (λ (b : Bool). if b then [] ∷ parted at cs else onto_first c (parted at cs))
+    (other_false (c == at) (before 0 (omega arith) (omega arith)))
+    ∙ ap (onto_first c) (parted_at at n cs (omega arith) here (λ k low less. before (suc k) (omega arith) (omega arith)))
+
+-- no such byte stands before it
+pub lacks_before : (at n : ℕ) (text : List ℕ) → n ≤ length text
+    → ((k : ℕ) → 0 ≤ k → k < n → (slice_index text k == at) ≡ true → ⊥) → IsTrue (lacks at (take n text))
+lacks_before at zero text within before = refl
+lacks_before at (suc n) [] within before = refl
+lacks_before at (suc n) (c ∷ cs) within before =
+    both_hold (not (c == at)) (lacks at (take n cs)) (ap not (other_false (c == at) (before 0 (omega arith) (omega arith))))
+    (lacks_before at n cs (omega arith) (λ k low less. before (suc k) (omega arith) (omega arith)))
+
+-- nor anywhere, where there is no such place
+pub parted_nowhere : (at : ℕ) (text : List ℕ) → ((k : ℕ) → 0 ≤ k → k < length text → (slice_index text k == at) ≡ true → ⊥)
+    → parted at text ≡ text ∷ []
+parted_nowhere at [] before = refl
+parted_nowhere at (c ∷ cs) before =
+    ap (λ (b : Bool). if b then [] ∷ parted at cs else onto_first c (parted at cs))
+    (other_false (c == at) (before 0 (omega arith) (omega arith)))
+    ∙ ap (onto_first c) (parted_nowhere at cs (λ k low less. before (suc k) (omega arith) (omega arith)))

@@ -1,0 +1,12 @@
+use Rattle.std.proofs.Common.{◌≡◌, ◌≤◌, length}
+use Rattle.st_text.specs.Pieces.{words}
+use Rattle.st_text.proofs.words.first_word.Given as goal
+
+abbrev pub invariant-blanks : goal.invariant-blanks
+invariant-blanks l = record {
+  same_words : words l.rest ≡ words l.text;
+  within : length l.rest ≤ length l.text;
+}
+
+abbrev pub decreases-blanks : goal.decreases-blanks
+decreases-blanks l = length l.rest

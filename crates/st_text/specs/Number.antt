@@ -1,0 +1,45 @@
+-- Plain decimal numbers: one digit or more, without a sign.
+use Rattle.std.specs.Prelude.{ℕ, ◌+◌, ◌*◌, ◌-◌, ◌==◌, ◌&&◌, ◌≤◌, Bool, not, nat_le, List, [], ◌∷◌, length, Option, Some, None, if◌then◌else◌}
+use Rattle.std.specs.Char.{is_ascii_digit}
+use Rattle.std.specs.List.{list_all}
+use Rattle.st_text.specs.Bytes.{digit_zero}
+use Rattle.st_text.specs.declared.numbers.Reading.{Reading}
+use Rattle.st_text.specs.declared.numbers.Reading.TheVariants.{Bad, Large, Good}
+
+-- whether a text has any byte
+abbrev pub is_filled : List ℕ → Bool
+is_filled text = not (length text == 0)
+
+-- whether a text is a number
+abbrev pub is_number : List ℕ → Bool
+is_number text = is_filled text && list_all is_ascii_digit text
+
+-- the value of digits that stand behind digits of a value
+abbrev pub value_after : ℕ → List ℕ → ℕ
+value_after n [] = n
+value_after n (c ∷ cs) = value_after (n * 10 + (c - digit_zero)) cs
+
+-- the value of digits
+abbrev pub value : List ℕ → ℕ
+value digits = value_after 0 digits
+
+-- what a text says where a number is wanted that is at most `most`
+abbrev pub reading : ℕ → List ℕ → Reading
+reading most text =
+    if is_number text then (if nat_le (value text) most then Good (value text) else Large) else Bad
+
+-- a number that was read is at most `most`
+abbrev pub IsWithin : ℕ → Reading → Type 0
+IsWithin most (Good n) = n ≤ most
+IsWithin most Large = Unit {0}
+IsWithin most Bad = Unit {0}
+
+-- the number that was read, where one was
+abbrev pub good : Reading → Option ℕ
+good (Good n) = Some n
+good Large = None
+good Bad = None
+
+-- the number that a text is, where it is one of at most `most`
+abbrev pub number_up_to : ℕ → List ℕ → Option ℕ
+number_up_to most text = good (reading most text)

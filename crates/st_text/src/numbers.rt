@@ -1,0 +1,91 @@
+//! Plain decimal numbers: one digit or more, without a sign.
+
+ghost use Rattle.std.specs.Prelude.{◌≡◌, ◌+◌, ◌*◌, ◌-◌, ◌^◌, ◌≤◌, min, IfSome, Some, None, if◌then◌else◌};
+ghost use Rattle.std.specs.Char.{is_ascii_digit};
+ghost use Rattle.std.specs.List.{list_all};
+ghost use Rattle.st_text.specs.Number as spec;
+
+/// What a text says where a number is wanted.
+#[derive(Clone, Copy, Debug, PartialEq, Eq)]
+pub enum Reading {
+    /// It is no number.
+    Bad,
+    /// It is a number above the most that may stand there.
+    Large,
+    /// It is this number.
+    Good(u64),
+}
+
+/// What `text` says where a number is wanted that is at most `most`.
+pub fn read_number(text: &[u8], most: u64) -> Reading
+    ensures value { result ≡ spec.reading most text.now }
+    ensures within { spec.IsWithin most result }
+{
+    if text.is_empty() {
+        return Reading::Bad;
+    }
+    match read_digits(text, u128::from(most) + 1) {
+        None => Reading::Bad,
+        Some(number) if number > u128::from(most) => Reading::Large,
+        Some(number) => Reading::Good(number as u64),
+    }
+}
+
+/// The number that `text` is, where it is one of at most `most`.
+pub fn number_up_to(text: &[u8], most: u64) -> Option<u64>
+    ensures value { result ≡ spec.number_up_to most text.now }
+    ensures within { IfSome result (λ n. n ≤ most) }
+{
+    match read_number(text, most) {
+        Reading::Good(number) => Some(number),
+        Reading::Large | Reading::Bad => None,
+    }
+}
+
+// The value of a text of digits alone, or `cap` where it is above that.
+fn read_digits(text: &[u8], cap: u128) -> Option<u128>
+    requires { cap ≤ 2 ^ 64 }
+    ensures { result
+        ≡ (if list_all is_ascii_digit text.now then Some (min (spec.value text.now) cap) else None) }
+{
+    let mut number = 0;
+    let mut rest = text;
+    'digits: while let [digit, after @ ..] = rest {
+        if !digit.is_ascii_digit() {
+            return None;
+        }
+        number = with_digit(number, *digit - b'0', cap);
+        rest = after;
+    }
+    Some(number)
+}
+
+// A number with one digit more at its end, or `cap` where it is above that.
+fn with_digit(number: u128, digit: u8, cap: u128) -> u128
+    requires { number ≤ 2 ^ 64 }
+    ensures { result ≡ min (number * 10 + digit) cap }
+{
+    (number * 10 + u128::from(digit)).min(cap)
+}
+
+#[cfg(test)]
+mod tests {
+    use super::*;
+
+    #[test]
+    fn reads_numbers_up_to_the_most(rt: HostRuntime) {
+        let rows: [(&[u8], Reading); 8] = [
+            (b"0", Reading::Good(0)),
+            (b"007", Reading::Good(7)),
+            (b"18446744073709551615", Reading::Good(u64::MAX)),
+            (b"18446744073709551616", Reading::Large),
+            (b"", Reading::Bad),
+            (b"7 ", Reading::Bad),
+            (b"-1", Reading::Bad),
+            (b"99999999999999999999x", Reading::Bad),
+        ];
+        for (text, wanted) in rows {
+            assert_eq!(rt; read_number(text, u64::MAX), wanted);
+        }
+    }
+}

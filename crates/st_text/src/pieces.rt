@@ -1,0 +1,51 @@
+//! Cutting a text: at a byte, and behind so many bytes.
+
+ghost use Rattle.std.specs.Prelude.{◌≡◌, ◌+◌, length, take, drop, [], ◌∷◌, ◌++◌, IsTrue, MatchOption, IfSome};
+ghost use Rattle.st_text.specs.Pieces.{parted, lacks};
+
+use memchr::memchr;
+
+/// What stands before the first byte `at` of `text`, and what stands behind it.
+///
+/// `None` where the text has no such byte.
+pub fn cut(text: &[u8], at: u8) -> Option<(&[u8], &[u8])>
+    ensures pieces { MatchOption result (parted at text.now ≡ text.now ∷ [])
+        (λ p. parted at text.now ≡ p.0.now ∷ parted at p.1.now) }
+    ensures whole { IfSome result (λ p. text.now ≡ p.0.now ++ at ∷ p.1.now) }
+    ensures first { MatchOption result (IsTrue (lacks at text.now))
+        (λ p. IsTrue (lacks at p.0.now)) }
+    ensures lengths { IfSome result (λ p. length p.0.now + 1 + length p.1.now ≡ length text.now) }
+{
+    let Some(place) = memchr(at, text) else {
+        return None;
+    };
+    let (front, behind) = text.split_at(place);
+    Some((front, behind.split_at(1).1))
+}
+
+/// The first `count` bytes of a text, or all of it where it has no more.
+pub fn front(text: &[u8], count: usize) -> &[u8]
+    ensures { result.now ≡ take count text.now }
+{
+    text.split_at(count.min(text.len())).0
+}
+
+/// What stands behind the first `count` bytes of a text, nothing where it has no more.
+pub fn behind(text: &[u8], count: usize) -> &[u8]
+    ensures { result.now ≡ drop count text.now }
+{
+    text.split_at(count.min(text.len())).1
+}
+
+#[cfg(test)]
+mod tests {
+    use super::*;
+
+    #[test]
+    fn cuts_at_the_first_byte(rt: HostRuntime) {
+        let none: (&[u8], &[u8]) = (b"", b"");
+        let wanted: (&[u8], &[u8]) = (b"a", b"b,c");
+        assert_eq!(rt; cut(b"a,b,c", b',').unwrap_or(none), wanted);
+        assert!(rt; cut(b"abc", b',').is_none());
+    }
+}

@@ -1,0 +1,28 @@
+//! Tables whose rows are found by a word.
+
+ghost use Rattle.std.specs.Prelude.{◌≡◌};
+ghost use Rattle.st_text.specs.Tables as spec;
+
+/// The value of the first row whose key is `word`, if there is any.
+pub fn row_of<T: Copy>(rows: &[(&[u8], T)], word: &[u8]) -> Option<T>
+    ensures { result ≡ spec.row_of word.now (spec.rows_of rows.now) }
+{
+    'rows: for row in rows {
+        if word == row.0 {
+            return Some(row.1);
+        }
+    }
+    None
+}
+
+#[cfg(test)]
+mod tests {
+    use super::*;
+
+    #[test]
+    fn the_first_row_counts(rt: HostRuntime) {
+        let rows: [(&[u8], u32); 3] = [(b"AB", 1), (b"A", 2), (b"A", 3)];
+        assert_eq!(rt; row_of(&rows, b"A"), Some(2));
+        assert_eq!(rt; row_of(&rows, b"B"), None);
+    }
+}
