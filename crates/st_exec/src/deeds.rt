@@ -9,9 +9,8 @@ ghost use Rattle.st_exec.specs.Deed.{index_deed as index_deed_of, branch_deed as
 
 use crate::fields::{connect_field, operate};
 use crate::operands::operand_field;
-use crate::outcomes::Outcome;
-use st_bin::Shape;
 use st_bits::{BranchOp, HalfOp};
+use st_field::{Done, Shape};
 use st_format::Instr;
 use st_state::{Order, State};
 
@@ -53,9 +52,9 @@ pub enum Deed {
         write: bool,
         order: Order,
     },
-    /// An operation on a field leaves its outcome in registers, indicators, and the field at the bit address `at`.
-    Settle {
-        outcome: Outcome,
+    /// An operation on a field leaves its result in registers, indicators, and the field at the bit address `at`.
+    Leave {
+        left: Done,
         at: u32,
         length: u8,
     },
@@ -199,9 +198,9 @@ pub fn deed_by(instr: &Instr, e: u32, value: u64, operands: &[u64; 2], state: &S
                 negated,
                 offset,
             };
-            let outcome = operate(decimal, op, &shape, p, e, operands, state);
-            Deed::Settle {
-                outcome,
+            let left = operate(decimal, op, &shape, p, e, operands, state);
+            Deed::Leave {
+                left,
                 at: e,
                 length,
             }
@@ -214,9 +213,9 @@ pub fn deed_by(instr: &Instr, e: u32, value: u64, operands: &[u64; 2], state: &S
             offset,
             ..
         } => {
-            let outcome = connect_field(kind, table, p, e, offset, length, operands, state);
-            Deed::Settle {
-                outcome,
+            let left = connect_field(kind, table, p, e, offset, length, operands, state);
+            Deed::Leave {
+                left,
                 at: e,
                 length,
             }
