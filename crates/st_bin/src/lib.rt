@@ -10,9 +10,7 @@ mod stores;
 mod sums;
 
 pub use operations::binary;
-pub use st_field::{
-    Acc, Done, Field, Shape, digits_value, read_field, to_digits, write_field,
-};
+pub use st_field::{Acc, Done, Field, Shape, digits_value, read_field, to_digits, write_field};
 
 #[cfg(test)]
 mod tests;

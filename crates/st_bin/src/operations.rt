@@ -13,8 +13,10 @@ use st_bits::{VflOp, indicator};
 use st_field::fields::{Field, Shape, read_field};
 use st_field::indicators::flag_indicators;
 use st_field::operand::operand;
-use st_field::{Acc, Done, Signed, align, compare, compare_for_range, compare_if_equal};
-use st_field::{load, load_factor, load_transit, load_with_flags};
+use st_field::{
+    Acc, Done, Signed, align, compare, compare_for_range, compare_if_equal, load, load_factor,
+    load_transit, load_with_flags,
+};
 
 /// The operand of an operation, as its field holds it.
 fn operand_in(f: &Field, shape: &Shape) -> Signed
@@ -36,9 +38,7 @@ fn perform(op: VflOp, acc: &Acc, f: &Field, shape: &Shape, ft: u64, ind: u64) ->
             let on = flag_indicators(f.flags) + indicator(BINARY_TRANSIT);
             load_transit(acc, operand_in(f, shape), f.mag, on)
         }
-        VflOp::Lft => {
-            load_factor(acc, operand_in(f, shape), f.mag, flag_indicators(f.flags))
-        }
+        VflOp::Lft => load_factor(acc, operand_in(f, shape), f.mag, flag_indicators(f.flags)),
         VflOp::St => store(acc, shape),
         VflOp::Add => add(acc, f, shape),
         VflOp::AddMg => add_to_magnitude(acc, f, shape),

@@ -18,7 +18,10 @@ fn multiplied(acc: &Acc, f: &Field, shape: &Shape, mag: u128, on: u64) -> Done
     ensures { result ≡ multiplied_of acc.now f.now shape.now mag on }
 {
     let number = Signed {
-        negative: exactly_one(is_minus(acc.sb), operand(f, shape, u128::from(f.mag)).negative),
+        negative: exactly_one(
+            is_minus(acc.sb),
+            operand(f, shape, u128::from(f.mag)).negative,
+        ),
         mag,
     };
     in_accumulator(with_number(acc, number), mag, on)

@@ -17,7 +17,7 @@ use st_field::{Acc, Done, Signed, align, in_accumulator, in_field};
 pub fn put_in_accumulator(acc: &Acc, sum: Sum, on: u64) -> Done
     requires { on < 2 ^ 62 }
     ensures { (t : ℕ) → sum.number.mag ≡ t % 2 ^ 128 → sum.carry ≡ exceeds_of t 128 →
-        result ≡ put_in_accumulator_of acc.now (record { negative = sum.number.negative; mag = t; }) on }
+        result ≡ put_in_accumulator_of acc.now (record { negative = sum.number.negative; mag = t }) on }
 {
     let acc = with_number(acc, sum.number);
     in_accumulator(acc, sum.number.mag, on + lost_carry(sum.carry))
@@ -63,7 +63,7 @@ fn put_in_field(acc: &Acc, f: &Field, shape: &Shape, sum: Sum) -> Done
     requires shape { IsShape shape.now }
     requires room { HasRoom f.now shape.now }
     ensures { (t : ℕ) → sum.number.mag ≡ t % 2 ^ 128 → sum.carry ≡ exceeds_of t 128 →
-        result ≡ put_in_field_of acc.now f.now shape.now (record { negative = sum.number.negative; mag = t; }) }
+        result ≡ put_in_field_of acc.now f.now shape.now (record { negative = sum.number.negative; mag = t }) }
 {
     let bits = magnitude_bits(shape);
     let mag = low_bits(sum.number.mag, bits);

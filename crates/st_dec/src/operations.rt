@@ -13,8 +13,9 @@ use crate::sums::{add, add_one_to_field, add_to_field, add_to_field_magnitude, a
 use st_bits::VflOp;
 use st_field::fields::{Field, Shape, read_field};
 use st_field::indicators::flag_indicators;
-use st_field::{Acc, Done, compare, compare_for_range, compare_if_equal};
-use st_field::{load, load_factor, load_with_flags};
+use st_field::{
+    Acc, Done, compare, compare_for_range, compare_if_equal, load, load_factor, load_with_flags,
+};
 
 /// What an operation makes of the accumulator and a field that was read.
 fn perform(op: VflOp, acc: &Acc, f: &Field, shape: &Shape, ind: u64) -> Done

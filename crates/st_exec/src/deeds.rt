@@ -20,44 +20,21 @@ pub enum Deed {
     /// Nothing.
     Rest,
     /// The number `bits`, below 2^length, is put into the `length` bits, 1 to 64, from the bit address `at` on.
-    Put {
-        at: u32,
-        length: u8,
-        bits: u64,
-    },
+    Put { at: u32, length: u8, bits: u64 },
     /// `count` words from one word address on are copied to those from another on, one after the other.
-    Copy {
-        from: u32,
-        to: u32,
-        count: u8,
-    },
+    Copy { from: u32, to: u32, count: u8 },
     /// They are exchanged, one after the other.
-    Exchange {
-        from: u32,
-        to: u32,
-        count: u8,
-    },
+    Exchange { from: u32, to: u32, count: u8 },
     /// An indicator, 0 to 63, goes off.
-    TurnOff {
-        indicator: u8,
-    },
+    TurnOff { indicator: u8 },
     /// Interrupts are enabled, or disabled.
-    Enable {
-        enabled: bool,
-    },
+    Enable { enabled: bool },
     /// Interrupts are enabled, and the machine waits.
     Wait,
     /// The reader, or the printer where `write` says so, is given an order.
-    Give {
-        write: bool,
-        order: Order,
-    },
+    Give { write: bool, order: Order },
     /// An operation on a field leaves its result in registers, indicators, and the field at the bit address `at`.
-    Leave {
-        left: Done,
-        at: u32,
-        length: u8,
-    },
+    Leave { left: Done, at: u32, length: u8 },
 }
 
 /// An index store puts `value`, an index word or a part of it, into the word or the half-word at the address `e`.

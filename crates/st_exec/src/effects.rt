@@ -117,10 +117,6 @@ pub fn carry_out(deed: &Deed, state: &mut State)
             state.waiting = true;
         }
         Deed::Give { write, order } => give(write, order, state),
-        Deed::Leave {
-            left,
-            at,
-            length,
-        } => leave(&left, at, length, state),
+        Deed::Leave { left, at, length } => leave(&left, at, length, state),
     }
 }
