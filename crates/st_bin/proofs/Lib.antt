@@ -1,3 +1,2 @@
-pub mod FieldLemmas
-pub mod DigitLemmas
+pub mod PlaceLemmas
 pub mod ResultLaws

@@ -1,28 +1,18 @@
 -- What every result keeps: the bits of a field that is written have room in it.
-use Rattle.std.proofs.Common.{◌≡◌, ℕ, ◌^◌, ◌<◌, Bool, true, false, refl, subst, arith, ◌==◌}
+use Rattle.std.proofs.Common.{◌≡◌, ℕ, ◌%◌, ◌^◌, ◌<◌, Bool, true, false, arith, ◌==◌}
 use Rattle.std.proofs.Math.Nat.{mod-lt}
 use Rattle.std.specs.Prelude.{IfSome, cond}
 use Rattle.std.proofs.Math.Pow.{pow_pos}
 use Rattle.st_bits.specs.declared.operations.VflOp.{VflOp}
 use Rattle.st_bits.specs.declared.operations.VflOp.TheVariants.{L, Lwf, Ltrs, Lft, St, Add, AddMg, MAdd, MAddMg, MAdd1, K, Kf, Ke, Kfe, Kr, Kfr, Mul, MulAdd, Div, Lcv}
-use Rattle.st_bin.specs.declared.accumulator.Acc.{Acc}
-use Rattle.st_bin.specs.declared.outcome.Done.{Done}
-use Rattle.st_bin.specs.declared.fields.Field.{Field}
-use Rattle.st_bin.specs.declared.fields.Shape.{Shape}
-use Rattle.st_bin.specs.BinaryOperand.{IsShape, HasRoom, magnitude_bits, field_bits}
-use Rattle.st_bin.specs.BinaryResult.{result_of, loaded, loaded_with_flags, transit_set, factor_set, stored, stored_field, added, magnitude_added, added_to_field, magnitude_added_to_field, one_added_to_field, compared, field_compared, compared_if_equal, field_compared_if_equal, range_compared, field_range_compared, product, product_added, divided, converted}
-use Rattle.st_bin.proofs.FieldLemmas.{joined_below, sign_byte-cut, magnitude_bits-signed, magnitude_bits-unsigned}
-
--- the bits of a field that has room
-by_sign : (u : Bool) (g : Field) (h : Shape) → h.unsigned ≡ u → IsShape h → g.mag < 2 ^ magnitude_bits h → g.flags < 8 → field_bits g h < 2 ^ h.length
-by_sign true g h is shape below few = rw is (subst (λ n. g.mag < 2 ^ n) (magnitude_bits-unsigned h is) below)
-by_sign false g h is shape below few =
-    rw is
-    (joined_below _ _ _ _ (subst (λ n. g.mag < 2 ^ n) (magnitude_bits-signed h is) below)
-    (sign_byte-cut g.zone g.flags h.byte g.negative few shape.some_byte shape.small_byte) (shape.room is))
-
-pub field_bits-below : (g : Field) (h : Shape) → IsShape h → g.mag < 2 ^ magnitude_bits h → g.flags < 8 → field_bits g h < 2 ^ h.length
-field_bits-below g h shape below few = by_sign h.unsigned g h refl shape below few
+use Rattle.st_field.specs.declared.accumulator.Acc.{Acc}
+use Rattle.st_field.specs.declared.outcome.Done.{Done}
+use Rattle.st_field.specs.declared.fields.Field.{Field}
+use Rattle.st_field.specs.declared.fields.Shape.{Shape}
+use Rattle.st_field.specs.Fields.{IsShape, HasRoom, magnitude_bits}
+use Rattle.st_field.specs.Results.{stored_field}
+use Rattle.st_bin.specs.BinaryResult.{result_of, from_offset, stored, added, magnitude_added, added_to_field, magnitude_added_to_field, one_added_to_field, product, product_added, divided, converted}
+use Rattle.st_field.proofs.FieldLemmas.{field_bits-below}
 
 -- a result of two that write no field
 of_two : (b : Bool) (d e : Done) (n : ℕ) → IfSome d.field (λ x. x < n) → IfSome e.field (λ x. x < n) → IfSome (cond b d e).field (λ x. x < n)
@@ -31,13 +21,13 @@ of_two false d e n p q = q
 
 -- a field that is written has its length
 pub result_of-fits : (op : VflOp) (a : Acc) (f : Field) (h : Shape) (ft ind : ℕ) → IsShape h → HasRoom f h → IfSome (result_of op a f h ft ind).field (λ x. x < 2 ^ h.length)
-unfolding loaded loaded_with_flags transit_set factor_set stored added magnitude_added added_to_field magnitude_added_to_field one_added_to_field compared field_compared compared_if_equal field_compared_if_equal range_compared field_range_compared product product_added divided converted
+unfolding stored added magnitude_added added_to_field magnitude_added_to_field one_added_to_field product product_added divided converted
 result_of-fits L a f h ft ind shape room = tt
 result_of-fits Lwf a f h ft ind shape room = tt
 result_of-fits Ltrs a f h ft ind shape room = tt
 result_of-fits Lft a f h ft ind shape room = tt
 result_of-fits St a f h ft ind shape room =
-    field_bits-below (stored_field a h) h shape (mod-lt _ (pow_pos (magnitude_bits h))) (omega arith)
+    field_bits-below (stored_field a h (from_offset a h % 2 ^ magnitude_bits h)) h shape (mod-lt _ (pow_pos (magnitude_bits h))) (omega arith)
 result_of-fits Add a f h ft ind shape room = tt
 result_of-fits AddMg a f h ft ind shape room = tt
 result_of-fits MAdd a f h ft ind shape room =

@@ -1,28 +1,15 @@
-//! From decimal digits to a binary number and back.
-ghost use Rattle.std.specs.Prelude.{◌≡◌, ◌<◌, ◌≤◌, ◌*◌, ◌%◌, ◌^◌, nat_le};
-ghost use Rattle.st_bin.specs.BinaryOperand.{IsShape, HasRoom};
+//! From a binary number to decimal digits.
+ghost use Rattle.std.specs.Prelude.{◌≡◌, ◌<◌, ◌*◌, ◌%◌, ◌^◌, nat_le};
+ghost use Rattle.st_field.specs.Fields.{IsShape, HasRoom};
 ghost use Rattle.st_bin.specs.BinaryResult.{converted};
 
-use crate::accumulator::Acc;
-use crate::digits::to_digits;
-use crate::fields::{Field, Shape, sign_byte};
-use crate::indicators::{by_number, flag_indicators, partial_field};
-use crate::operand::operand;
-use crate::outcome::{Done, done_with};
-use crate::signed::Signed;
-
-/// Ten to the power of `n`, at most 32.
-#[tactic(auto, using(crate::proofs::DigitLemmas::power_rules))]
-pub fn power_of_ten(n: u8) -> u128
-    requires { n ≤ 32 }
-    ensures value { result ≡ 10 ^ n }
-    ensures some { 0 < result }
-{
-    10u128.pow(u32::from(n))
-}
+use st_field::fields::{Field, Shape};
+use st_field::indicators::{flag_indicators, partial_field};
+use st_field::operand::operand;
+use st_field::{Aligned, Done, load, power_of_ten, to_digits};
 
 /// A number `place` decimal digits to the left, without those past the 32nd, and whether one of these is not zero.
-#[tactic(auto, using(crate::proofs::DigitLemmas::place_rules))]
+#[tactic(auto, using(crate::proofs::PlaceLemmas::place_rules))]
 fn place_digits(mag: u64, place: u8) -> (u128, bool)
     requires { place < 32 }
     ensures value { result.0 ≡ mag * 10 ^ place % 10 ^ 32 }
@@ -42,11 +29,9 @@ pub fn load_converted(f: &Field, shape: &Shape) -> Done
     ensures { result ≡ converted f.now shape.now }
 {
     let (mag, is_lost) = place_digits(f.mag, shape.offset / 4);
-    let negative = operand(f, shape).negative;
-    let acc = Acc {
-        mag: to_digits(mag),
-        sb: sign_byte(0, negative, 0),
-    };
-    let on = flag_indicators(f.flags) + partial_field(is_lost);
-    done_with(&acc, by_number(false, Signed { negative, mag }, on))
+    load(Aligned {
+        bits: to_digits(mag),
+        number: operand(f, shape, mag),
+        on: flag_indicators(f.flags) + partial_field(is_lost),
+    })
 }

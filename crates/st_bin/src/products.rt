@@ -1,16 +1,16 @@
 //! Binary multiplication, multiplication with addition, and division.
 ghost use Rattle.std.specs.Prelude.{◌≡◌, ◌<◌, ◌^◌};
-ghost use Rattle.st_bin.specs.BinaryOperand.{IsShape, HasRoom};
+ghost use Rattle.st_field.specs.Fields.{IsShape, HasRoom};
 ghost use Rattle.st_bin.specs.BinaryResult.{multiplied as multiplied_of, product, product_added, divided};
 
-use crate::accumulator::{Acc, number, with_number};
-use crate::fields::{Field, Shape, is_minus};
-use crate::indicators::{flag_indicators, lost_carry, partial_field};
-use crate::operand::{operand, shift};
-use crate::outcome::{Done, done_with, in_accumulator};
-use crate::signed::{Signed, add, exactly_one, exceeds, low_bits};
 use st_bits::indicators::ZERO_DIVISOR;
 use st_bits::{Ind, indicator};
+use st_field::accumulator::{signed_as, with_number};
+use st_field::fields::{Field, Shape, is_minus};
+use st_field::indicators::{flag_indicators, lost_carry, partial_field};
+use st_field::operand::operand;
+use st_field::signed::{Signed, add, exactly_one, exceeds, low_bits};
+use st_field::{Acc, Done, done_with, in_accumulator, shift};
 
 /// A product or quotient goes to the accumulator: minus where exactly one of accumulator and operand is minus.
 fn multiplied(acc: &Acc, f: &Field, shape: &Shape, mag: u128, on: u64) -> Done
@@ -18,10 +18,13 @@ fn multiplied(acc: &Acc, f: &Field, shape: &Shape, mag: u128, on: u64) -> Done
     ensures { result ≡ multiplied_of acc.now f.now shape.now mag on }
 {
     let number = Signed {
-        negative: exactly_one(is_minus(acc.sb), operand(f, shape).negative),
+        negative: exactly_one(
+            is_minus(acc.sb),
+            operand(f, shape, u128::from(f.mag)).negative,
+        ),
         mag,
     };
-    in_accumulator(with_number(acc, number), on)
+    in_accumulator(with_number(acc, number), mag, on)
 }
 
 /// Multiply: 64 bits of the accumulator from the offset on times the operand.
@@ -45,13 +48,9 @@ pub fn multiply_and_add(acc: &Acc, f: &Field, shape: &Shape, ft: u64) -> Done
     ensures { result ≡ product_added acc.now f.now shape.now ft }
 {
     let (mag, is_lost) = shift(u128::from(ft) * u128::from(f.mag), shape.offset);
-    let product = Signed {
-        mag,
-        ..operand(f, shape)
-    };
-    let sum = add(number(acc), product);
+    let sum = add(signed_as(acc, acc.mag), operand(f, shape, mag));
     let on = flag_indicators(f.flags) + lost_carry(is_lost || sum.carry);
-    in_accumulator(with_number(acc, sum.number), on)
+    in_accumulator(with_number(acc, sum.number), sum.number.mag, on)
 }
 
 /// Divide: the quotient of the accumulator from the offset on goes to the accumulator, the remainder to its register.

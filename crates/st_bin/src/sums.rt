@@ -1,16 +1,27 @@
 //! Binary addition, to the accumulator and to memory.
-ghost use Rattle.std.specs.Prelude.{◌≡◌, ◌≤◌, ℕ, ◌^◌, ◌%◌};
-ghost use Rattle.st_bin.specs.Numbers.{exceeds as exceeds_of};
-ghost use Rattle.st_bin.specs.BinaryOperand.{IsShape, HasRoom};
+ghost use Rattle.std.specs.Prelude.{◌≡◌, ◌≤◌, ◌<◌, ℕ, ◌^◌, ◌%◌};
+ghost use Rattle.st_field.specs.Numbers.{exceeds as exceeds_of};
+ghost use Rattle.st_field.specs.Fields.{IsShape, HasRoom};
+ghost use Rattle.st_field.specs.Results.{addend as addend_of};
+ghost use Rattle.st_bin.specs.BinaryResult.{from_offset, put_in_accumulator as put_in_accumulator_of, put_in_field as put_in_field_of};
 ghost use Rattle.st_bin.specs.BinaryResult.{added, magnitude_added, added_to_field, magnitude_added_to_field, one_added_to_field};
-ghost use Rattle.st_bin.specs.BinaryResult.{field_summed};
 
-use crate::accumulator::{Acc, addend, number, with_number};
-use crate::fields::{Field, Shape, magnitude_bits};
-use crate::indicators::{flag_indicators, lost_carry};
-use crate::operand::place;
-use crate::outcome::{Done, in_accumulator, in_field};
-use crate::signed::{Signed, Sum, add as sum_of, exceeds, low_bits, magnitude_sum};
+use st_field::accumulator::{addend, signed_as, with_number};
+use st_field::fields::{Field, Shape, magnitude_bits};
+use st_field::indicators::{flag_indicators, lost_carry};
+use st_field::operand::signed_as as field_as;
+use st_field::signed::{Sum, add as sum_of, add_to_magnitude as magnitude_sum, exceeds, low_bits};
+use st_field::{Acc, Done, Signed, align, in_accumulator, in_field};
+
+/// A sum goes to the accumulator: its sign and 128 bits of its magnitude. Zone and flags stay; the indicators `on` go on too.
+pub fn put_in_accumulator(acc: &Acc, sum: Sum, on: u64) -> Done
+    requires { on < 2 ^ 62 }
+    ensures { (t : ℕ) → sum.number.mag ≡ t % 2 ^ 128 → sum.carry ≡ exceeds_of t 128 →
+        result ≡ put_in_accumulator_of acc.now (record { negative = sum.number.negative; mag = t }) on }
+{
+    let acc = with_number(acc, sum.number);
+    in_accumulator(acc, sum.number.mag, on + lost_carry(sum.carry))
+}
 
 /// Add: the operand at the offset is added to the accumulator.
 #[tactic(auto, unfolding(crate::specs::BinaryResult::added))]
@@ -19,12 +30,9 @@ pub fn add(acc: &Acc, f: &Field, shape: &Shape) -> Done
     requires room { HasRoom f.now shape.now }
     ensures { result ≡ added acc.now f.now shape.now }
 {
-    let operand = place(f, shape);
-    let sum = sum_of(number(acc), operand.number);
-    in_accumulator(
-        with_number(acc, sum.number),
-        operand.on + lost_carry(sum.carry),
-    )
+    let operand = align(f, shape);
+    let sum = sum_of(signed_as(acc, acc.mag), operand.number);
+    put_in_accumulator(acc, sum, operand.on)
 }
 
 /// Add to magnitude: the operand at the offset is added to the magnitude of the accumulator, whose sign stays.
@@ -34,13 +42,13 @@ pub fn add_to_magnitude(acc: &Acc, f: &Field, shape: &Shape) -> Done
     requires room { HasRoom f.now shape.now }
     ensures { result ≡ magnitude_added acc.now f.now shape.now }
 {
-    let operand = place(f, shape);
-    let (mag, carry) = magnitude_sum(acc.mag, operand.number);
-    in_accumulator(Acc { mag, ..*acc }, operand.on + lost_carry(carry))
+    let operand = align(f, shape);
+    let sum = magnitude_sum(signed_as(acc, acc.mag), operand.number);
+    put_in_accumulator(acc, sum, operand.on)
 }
 
 /// Whether a sum has no room in `bits` bits.
-#[tactic(auto, using(crate::proofs::FieldLemmas::exceeds_kept))]
+#[tactic(auto, using(st_field::proofs::FieldLemmas::exceeds_kept))]
 fn is_lost(sum: Sum, bits: u8) -> bool
     requires { bits ≤ 64 }
     ensures { (t : ℕ) → sum.number.mag ≡ t % 2 ^ 128 → sum.carry ≡ exceeds_of t 128 →
@@ -49,33 +57,31 @@ fn is_lost(sum: Sum, bits: u8) -> bool
     sum.carry || exceeds(sum.number.mag, bits)
 }
 
-/// A sum of the field put into it: its sign and as much of its magnitude as there is room for. Flags and zone stay.
-#[tactic(auto, using(crate::proofs::FieldLemmas::kept))]
+/// A sum goes to the field: its sign and as much of its magnitude as there is room for. Flags and zone stay.
+#[tactic(auto, using(st_field::proofs::FieldLemmas::kept))]
 fn put_in_field(acc: &Acc, f: &Field, shape: &Shape, sum: Sum) -> Done
     requires shape { IsShape shape.now }
     requires room { HasRoom f.now shape.now }
     ensures { (t : ℕ) → sum.number.mag ≡ t % 2 ^ 128 → sum.carry ≡ exceeds_of t 128 →
-        result ≡ field_summed acc.now f.now shape.now t sum.number.negative }
+        result ≡ put_in_field_of acc.now f.now shape.now (record { negative = sum.number.negative; mag = t }) }
 {
     let bits = magnitude_bits(shape);
+    let mag = low_bits(sum.number.mag, bits);
     let field = Field {
-        mag: low_bits(sum.number.mag, bits),
+        mag,
         negative: sum.number.negative,
         ..*f
     };
     let on = flag_indicators(f.flags) + lost_carry(is_lost(sum, bits));
-    in_field(acc, &field, shape, on)
+    in_field(acc, &field, shape, mag, on)
 }
 
-/// A field as a number.
-fn number_in(f: &Field) -> Signed
-    ensures sign { result.negative ≡ f.now.negative }
-    ensures magnitude { result.mag ≡ f.now.mag }
+/// What is added to the field: the accumulator from the offset on.
+fn part_added(acc: &Acc, shape: &Shape) -> Signed
+    requires { IsShape shape.now }
+    ensures { result ≡ addend_of acc.now shape.now (from_offset acc.now shape.now) }
 {
-    Signed {
-        negative: f.negative,
-        mag: u128::from(f.mag),
-    }
+    addend(acc, shape, acc.mag >> shape.offset)
 }
 
 /// Add to memory: the accumulator from the offset on is added to the field.
@@ -85,8 +91,8 @@ pub fn add_to_field(acc: &Acc, f: &Field, shape: &Shape) -> Done
     requires room { HasRoom f.now shape.now }
     ensures { result ≡ added_to_field acc.now f.now shape.now }
 {
-    let sum = sum_of(number_in(f), addend(acc, shape));
-    put_in_field(acc, f, shape, sum)
+    let number = field_as(f, u128::from(f.mag));
+    put_in_field(acc, f, shape, sum_of(number, part_added(acc, shape)))
 }
 
 /// Add to memory, magnitude: the accumulator from the offset on is added to the field's magnitude; its sign stays.
@@ -96,12 +102,8 @@ pub fn add_to_field_magnitude(acc: &Acc, f: &Field, shape: &Shape) -> Done
     requires room { HasRoom f.now shape.now }
     ensures { result ≡ magnitude_added_to_field acc.now f.now shape.now }
 {
-    let (mag, carry) = magnitude_sum(u128::from(f.mag), addend(acc, shape));
-    let number = Signed {
-        mag,
-        ..number_in(f)
-    };
-    put_in_field(acc, f, shape, Sum { number, carry })
+    let number = field_as(f, u128::from(f.mag));
+    put_in_field(acc, f, shape, magnitude_sum(number, part_added(acc, shape)))
 }
 
 /// Add one to memory: one is added to the field, or taken from it where the operation is negated.
@@ -111,9 +113,10 @@ pub fn add_one_to_field(acc: &Acc, f: &Field, shape: &Shape) -> Done
     requires room { HasRoom f.now shape.now }
     ensures { result ≡ one_added_to_field acc.now f.now shape.now }
 {
+    let number = field_as(f, u128::from(f.mag));
     let one = Signed {
         negative: shape.negated,
         mag: 1,
     };
-    put_in_field(acc, f, shape, sum_of(number_in(f), one))
+    put_in_field(acc, f, shape, sum_of(number, one))
 }

@@ -24,18 +24,6 @@ fn on_pair(op: VflOp, acc: Acc, bits: u16) -> Done {
 }
 
 #[test]
-fn a_sign_byte_holds_zone_sign_and_flags(rt: HostRuntime) {
-    let five = Field {
-        mag: 5,
-        negative: true,
-        flags: 3,
-        zone: 10,
-    };
-    assert_eq!(rt; read_field(0x05AB, &PAIR), five);
-    assert_eq!(rt; write_field(&five, &PAIR), 0x05AB);
-}
-
-#[test]
 fn a_sum_has_the_sign_of_the_sum(rt: HostRuntime) {
     // minus 5 plus 3, plus 7 and plus 5; zone and flags stay, and zero keeps the sign that stood
     let sums: [(u16, u128, u8, u64); 3] = [
@@ -50,11 +38,4 @@ fn a_sum_has_the_sign_of_the_sum(rt: HostRuntime) {
     }
     let magnitude = on_pair(VflOp::AddMg, acc(5, 0x08), 0x0908);
     assert_eq!(rt; magnitude.acc, acc(0, 0x08));
-}
-
-#[test]
-fn digits_and_their_value(rt: HostRuntime) {
-    assert_eq!(rt; to_digits(1_234_567_890), 0x12_3456_7890);
-    assert_eq!(rt; digits_value(0x12_3456_7890), 1_234_567_890);
-    assert_eq!(rt; digits_value(0xFF), 165);
 }

@@ -10,7 +10,7 @@ use Rattle.std.proofs.lemmas.Nat.{pow_pos, shr_high, leading_top, leading_length
 use Rattle.std.proofs.lemmas.Nat.Bits.{bit_at-lt, bit_at-zero, bit_at_above, bit_at_cat_low, bit_at_cat_high, bit_at_ones, bit_at_ones_above, bit_at_and, bit_at_or, bit_at_not}
 use Rattle.std.proofs.Math.Nat.{pow-suc}
 use Rattle.std.proofs.Math.Pow.{pow_mono}
-use Rattle.st_conn.specs.Connective.{by_weight, is_covered, placed_at, is_one_lost}
+use Rattle.st_conn.specs.Connective.{by_weight, is_covered, inserted_at, bit_past, is_one_lost}
 use Rattle.st_conn.proofs.TableRows.{bit_at-mod}
 
 pub covered-below : (offset n i : ℕ) → i < offset → is_covered offset n i ≡ false
@@ -66,7 +66,7 @@ new_bit old hole new bit p q = omega arith
 -- bits put where a mask has ones
 pub bit_at-put : (acc offset bits n mask i : ℕ) → mask < 2 ^ 128 → bits < 2 ^ n → i < 128
     → bit_at mask i ≡ cond (is_covered offset n i) 1 0
-    → placed_at acc offset bits n i
+    → inserted_at acc offset bits n i
     ≡ bit_at (bit_or (bit_and acc (bit_not w128 mask)) (bits * 2 ^ offset % 2 ^ 128)) i
 bit_at-put acc offset bits n mask i width fits h hole =
     let new = bits * 2 ^ offset % 2 ^ 128 in
@@ -141,36 +141,45 @@ Decides-room offset bits place fits =
     (room_by_lost offset bits fits)
     (Decides-ltb (count_leading_zeros 128 bits) offset)
 
--- a one at one of the 64 weights past 127
+-- a bit that stands past weight 127, and one that does not
+bit_past-far : (offset bits j : ℕ) → 127 < offset + j → bit_past offset bits j ≡ bit_at bits j
+bit_past-far offset bits j h = grind (arith, nat_tests)
+
+bit_past-near : (offset bits j : ℕ) → offset + j ≤ 127 → bit_past offset bits j ≡ 0
+bit_past-near offset bits j h = grind (arith, nat_tests)
+
+-- a one among those of the weights below 64
 abbrev PastOne : ℕ → ℕ → Type 0
-PastOne offset bits = (k : ℕ) × (k < 64) × (bit_at bits (128 + k - offset) ≡ 1)
+PastOne offset bits = (j : ℕ) × (j < 64) × (bit_past offset bits j ≡ 1)
 
-past-lost : (offset bits : ℕ) → offset ≤ 127 → PastOne offset bits → LostOne offset bits
-past-lost offset bits place past = (128 + past.0 - offset, omega arith, past.2)
+past-lost : (offset bits : ℕ) → PastOne offset bits → LostOne offset bits
+past-lost offset bits past =
+    elim (cases_lt 127 (offset + past.0)) [
+      | inl far ↦ (past.0, far, sym (bit_past-far offset bits past.0 far) ∙ past.2)
+      | inr near ↦ let none = bit_past-near offset bits past.0 near in absurd (omega (arith, none, past.2))
+    ]
 
-lost-past : (offset bits : ℕ) → offset ≤ 127 → bits < 2 ^ 64 → LostOne offset bits → PastOne offset bits
-lost-past offset bits place fits lost =
-    let same : lost.0 ≡ 128 + (offset + lost.0 - 128) - offset = omega (arith, lost.1) in
+lost-past : (offset bits : ℕ) → bits < 2 ^ 64 → LostOne offset bits → PastOne offset bits
+lost-past offset bits fits lost =
     let short : lost.0 < 64 =
     elim (cases_lt lost.0 64) [
       | inl h ↦ h
       | inr h ↦ let none = bit_at_above bits 64 lost.0 fits h in absurd (omega (arith, none, lost.2))
     ] in
-    (offset + lost.0 - 128, omega (arith, short, lost.1), ap (λ j. bit_at bits j) (sym same) ∙ lost.2)
+    (lost.0, short, bit_past-far offset bits lost.0 lost.1 ∙ lost.2)
 
-pub Decides-past : (offset bits : ℕ) → offset ≤ 127 → bits < 2 ^ 64
-    → Decides (is_one_lost offset bits) (LostOne offset bits)
+pub Decides-past : (offset bits : ℕ) → bits < 2 ^ 64 → Decides (is_one_lost offset bits) (LostOne offset bits)
 unfolding by_weight is_one_lost
-Decides-past offset bits place fits =
+Decides-past offset bits fits =
     Decides-like
     (is_one_lost offset bits)
-    (past-lost offset bits place)
-    (lost-past offset bits place fits)
+    (past-lost offset bits)
+    (lost-past offset bits fits)
     (Decides-below_or
-    (λ k. bit_at bits (128 + k - offset) == 1)
-    (λ k. bit_at bits (128 + k - offset) ≡ 1)
-    (λ n. list_any (λ b. b == 1) (by_weight (λ i. bit_at bits (128 + i - offset)) n))
-    (λ k. Decides-eqb (bit_at bits (128 + k - offset)) 1)
+    (λ j. bit_past offset bits j == 1)
+    (λ j. bit_past offset bits j ≡ 1)
+    (λ n. list_any (λ b. b == 1) (by_weight (bit_past offset bits) n))
+    (λ j. Decides-eqb (bit_past offset bits j) 1)
     refl
     (λ _. refl)
     64)

@@ -1,1 +1,2 @@
 pub mod Connective
+pub mod Connection

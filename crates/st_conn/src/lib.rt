@@ -1,10 +1,11 @@
-//! Connectives: logic on a field and the accumulator, and the accumulator with a result put into it.
-//! `docs/connectives.md` has the rules.
+//! Connectives: logic on a field and the accumulator, and what it leaves. `docs/connectives.md` has the rules.
 #![tactic(auto)]
 
+mod connections;
 mod logic;
 mod placement;
 
+pub use connections::connective;
 pub use logic::{Conn, connect};
 pub use placement::put_acc;
 

@@ -5,7 +5,7 @@ use Rattle.std.proofs.Math.Nat.{pow-suc, pow-succ', div-div-eq-div-mul}
 use Rattle.std.proofs.Math.Pow.{pow_pos}
 use Rattle.std.proofs.Math.Arith.{mod-mul}
 use Rattle.std.proofs.lemmas.Nat.{pow-add}
-use Rattle.st_bin.specs.Digits.{code_at, value_of, digits_of}
+use Rattle.st_field.specs.Digits.{code_at, value_of, digits_of}
 use Rattle.st_dec.specs.DigitLists.{bytes, joined, value, decimal}
 
 -- digits that have room in b bits

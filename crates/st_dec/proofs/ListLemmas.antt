@@ -5,7 +5,7 @@ use Rattle.std.proofs.Math.Nat.{mod-eq_of_lt, div-div-eq-div-mul, div-eq_of_lt}
 use Rattle.std.proofs.Math.Pow.{pow_pos}
 use Rattle.std.proofs.lemmas.Nat.{le-div}
 use Rattle.std.proofs.lemmas.Bool.Decides.{nat_tests}
-use Rattle.st_bin.specs.Digits.{value_of}
+use Rattle.st_field.specs.Digits.{value_of}
 use Rattle.st_dec.specs.DigitLists.{bytes, joined, value, decimal}
 use Rattle.st_dec.specs.DecimalOperand.{any_code}
 use Rattle.st_dec.proofs.DigitLemmas.{AllBelow, next_power, digit_and_rest, value_of-first}

@@ -3,12 +3,12 @@ use Rattle.std.proofs.Common.{◌≡◌, ℕ, ◌+◌, ◌*◌, ◌/◌, ◌%◌
 use Rattle.std.proofs.lemmas.List.{length-map, length-append, length-replicate, length-take, length-drop}
 use Rattle.std.proofs.Math.Nat.{mod-eq_of_lt, mul-le-mul_right}
 use Rattle.std.proofs.Math.Pow.{pow_mono}
-use Rattle.st_bin.specs.Digits.{value_of}
-use Rattle.st_bin.proofs.DigitLemmas.{value_of-bound}
+use Rattle.st_field.specs.Digits.{value_of}
+use Rattle.st_field.proofs.DigitLemmas.{value_of-bound}
 use Rattle.st_dec.specs.DigitLists.{bytes, joined, value}
-use Rattle.st_bin.specs.declared.fields.Field.{Field}
-use Rattle.st_bin.specs.declared.fields.Shape.{Shape}
-use Rattle.st_bin.specs.BinaryOperand.{magnitude_bits}
+use Rattle.st_field.specs.declared.fields.Field.{Field}
+use Rattle.st_field.specs.declared.fields.Shape.{Shape}
+use Rattle.st_field.specs.Fields.{magnitude_bits}
 use Rattle.st_dec.specs.DecimalOperand.{IsDecimalShape, digit_count, field_value, any_code}
 use Rattle.st_dec.proofs.ShapeLemmas.{digits-whole}
 use Rattle.st_dec.proofs.DigitLemmas.{AllBelow, joined-below, joined-bytes, value-joined}

@@ -3,8 +3,8 @@ use Rattle.std.proofs.Common.{◌≡◌, ℕ, zero, suc, ◌+◌, ◌-◌, ◌*�
 use Rattle.std.proofs.lemmas.List.{length-map}
 use Rattle.std.proofs.Math.Nat.{mod-eq_of_lt, mul-le-mul_left, pow-suc, mod-lt, pow-le-pow_right}
 use Rattle.std.proofs.lemmas.Nat.{pow-add}
-use Rattle.st_bin.specs.Digits.{digits_of}
-use Rattle.st_bin.proofs.DigitLemmas.{power_above_zero}
+use Rattle.st_field.specs.Digits.{digits_of}
+use Rattle.st_field.proofs.DigitLemmas.{power_above_zero}
 use Rattle.st_dec.specs.DigitLists.{bytes, joined, decimal}
 use Rattle.st_dec.specs.DecimalOperand.{recoded, zoned}
 use Rattle.st_dec.proofs.DigitLemmas.{AllBelow, joined-below, joined-bytes, joined-decimal, digit_and_rest}

@@ -5,22 +5,22 @@ use Rattle.std.proofs.Math.Pow.{pow_pos}
 use Rattle.std.specs.Prelude.{IfSome}
 use Rattle.st_bits.specs.declared.operations.VflOp.{VflOp}
 use Rattle.st_bits.specs.declared.operations.VflOp.TheVariants.{L, Lwf, Ltrs, Lft, St, Add, AddMg, MAdd, MAddMg, MAdd1, K, Kf, Ke, Kfe, Kr, Kfr, Mul, MulAdd, Div, Lcv}
-use Rattle.st_bin.specs.declared.accumulator.Acc.{Acc}
-use Rattle.st_bin.specs.declared.fields.Field.{Field}
-use Rattle.st_bin.specs.declared.fields.Shape.{Shape}
-use Rattle.st_bin.specs.BinaryOperand.{HasRoom, magnitude_bits, zone_of}
-use Rattle.st_bin.specs.BinaryResult.{loaded as loaded_binary}
-use Rattle.st_bin.proofs.ResultLaws.{field_bits-below}
+use Rattle.st_field.specs.declared.accumulator.Acc.{Acc}
+use Rattle.st_field.specs.declared.fields.Field.{Field}
+use Rattle.st_field.specs.declared.fields.Shape.{Shape}
+use Rattle.st_field.specs.Fields.{HasRoom, magnitude_bits, zone_of}
+use Rattle.st_field.specs.Results.{stored_field}
+use Rattle.st_field.proofs.FieldLemmas.{field_bits-below}
 use Rattle.st_dec.specs.DigitLists.{bytes, joined, decimal}
 use Rattle.st_dec.specs.DecimalOperand.{IsDecimalShape, digit_count, digit_bytes, place, field_codes, recoded}
-use Rattle.st_dec.specs.DecimalResult.{result_of, loaded, loaded_with_flags, transit_set, factor_set, stored, stored_field, added, magnitude_added, added_to_field, magnitude_added_to_field, one_added_to_field, compared, field_compared, compared_if_equal, field_compared_if_equal, range_compared, field_range_compared, converted}
+use Rattle.st_dec.specs.DecimalResult.{result_of, stored_magnitude, stored, added, magnitude_added, added_to_field, magnitude_added_to_field, one_added_to_field, converted}
 use Rattle.st_dec.proofs.ShapeLemmas.{digits-whole}
 use Rattle.st_dec.proofs.PartLemmas.{field-below, length-padded}
 use Rattle.st_dec.proofs.RecodeLemmas.{zoned_fits, recoded_fits, bytes-decimal}
 
-stored-fits : (a : Acc) (h : Shape) → IsDecimalShape h → (stored_field a h).mag < 2 ^ magnitude_bits h
+stored-fits : (a : Acc) (h : Shape) → IsDecimalShape h → stored_magnitude a h < 2 ^ magnitude_bits h
 stored-fits a h is =
-    subst (λ k. (stored_field a h).mag < 2 ^ k) (digits-whole h is)
+    subst (λ k. stored_magnitude a h < 2 ^ k) (digits-whole h is)
     (zoned_fits h.byte (zone_of a.sb % 2 ^ (h.byte - 4)) (digit_count h) (field_codes a h) is.code (mod-lt _ (pow_pos (h.byte - 4))) (field-below (digit_count h) (place h) a.mag) (length-padded (digit_count h) _))
 
 summed-fits : (f : Field) (h : Shape) (t : ℕ) → IsDecimalShape h → joined h.byte (recoded (digit_bytes f h) (decimal (digit_count h) t)) < 2 ^ magnitude_bits h
@@ -32,12 +32,12 @@ summed-fits f h t is =
 
 -- a field that is written has its length
 pub result_of-fits : (op : VflOp) (a : Acc) (f : Field) (h : Shape) (ind : ℕ) → IsDecimalShape h → HasRoom f h → IfSome (result_of op a f h ind).field (λ x. x < 2 ^ h.length)
-unfolding loaded loaded_with_flags transit_set factor_set stored added magnitude_added added_to_field magnitude_added_to_field one_added_to_field compared field_compared compared_if_equal field_compared_if_equal range_compared field_range_compared converted loaded_binary
+unfolding stored added magnitude_added added_to_field magnitude_added_to_field one_added_to_field converted
 result_of-fits L a f h ind is room = tt
 result_of-fits Lwf a f h ind is room = tt
 result_of-fits Ltrs a f h ind is room = tt
 result_of-fits Lft a f h ind is room = tt
-result_of-fits St a f h ind is room = field_bits-below (stored_field a h) h is.shape (stored-fits a h is) (omega arith)
+result_of-fits St a f h ind is room = field_bits-below (stored_field a h (stored_magnitude a h)) h is.shape (stored-fits a h is) (omega arith)
 result_of-fits Add a f h ind is room = tt
 result_of-fits AddMg a f h ind is room = tt
 result_of-fits MAdd a f h ind is room = field_bits-below _ h is.shape (summed-fits f h _ is) room.three_flags

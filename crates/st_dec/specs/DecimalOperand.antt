@@ -1,10 +1,10 @@
 -- The digits of a decimal field, each a byte of a zone and a code, and those of the accumulator.
 use Rattle.std.specs.Prelude.{ℕ, ◌≡◌, ◌+◌, ◌*◌, ◌/◌, ◌%◌, ◌≤◌, nat_lt, Bool, List, [], ◌∷◌, ◌++◌, map, take, drop, replicate}
 use Rattle.std.specs.List.{list_any}
-use Rattle.st_bin.specs.declared.accumulator.Acc.{Acc}
-use Rattle.st_bin.specs.declared.fields.Field.{Field}
-use Rattle.st_bin.specs.declared.fields.Shape.{Shape}
-use Rattle.st_bin.specs.BinaryOperand.{IsShape, magnitude_bits}
+use Rattle.st_field.specs.declared.accumulator.Acc.{Acc}
+use Rattle.st_field.specs.declared.fields.Field.{Field}
+use Rattle.st_field.specs.declared.fields.Shape.{Shape}
+use Rattle.st_field.specs.Fields.{IsShape, magnitude_bits}
 use Rattle.st_dec.specs.DigitLists.{bytes, value}
 
 -- a shape that a decimal operation can have: whole bytes, each with room for a code
@@ -58,15 +58,15 @@ abbrev pub codes_left_out : Acc → Shape → List ℕ
 codes_left_out a h = drop (digit_count h) (codes_from_place a h)
 
 -- the codes of the operand with its last digit at that place, and zeros below
-abbrev pub moved : Field → Shape → List ℕ
-moved f h = replicate (place h) 0 ++ codes f h
+abbrev pub codes_at_place : Field → Shape → List ℕ
+codes_at_place f h = replicate (place h) 0 ++ codes f h
 
 -- those that the accumulator has room for, and those that are lost
-abbrev pub placed : Field → Shape → List ℕ
-placed f h = take 32 (moved f h)
+abbrev pub codes_kept : Field → Shape → List ℕ
+codes_kept f h = take 32 (codes_at_place f h)
 
-abbrev pub lost : Field → Shape → List ℕ
-lost f h = drop 32 (moved f h)
+abbrev pub codes_lost : Field → Shape → List ℕ
+codes_lost f h = drop 32 (codes_at_place f h)
 
 -- whether one of the codes is not zero
 abbrev pub any_code : List ℕ → Bool

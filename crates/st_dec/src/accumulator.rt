@@ -1,25 +1,20 @@
 //! The accumulator as decimal digits.
 ghost use Rattle.std.specs.Prelude.{◌≡◌, ◌<◌, ◌^◌};
-ghost use Rattle.st_bin.specs.BinaryResult.{is_minus as minus_of, addend_minus};
 ghost use Rattle.st_dec.specs.DigitLists.{joined, value};
 ghost use Rattle.st_dec.specs.DecimalOperand.{IsDecimalShape, place, codes_from_place as codes_from_place_of, field_codes as field_codes_of};
-ghost use Rattle.st_dec.specs.DecimalResult.{acc_value, addend_value};
+ghost use Rattle.st_dec.specs.DecimalResult.{acc_value as acc_value_of};
 
 use crate::digits::digit_count;
-use st_bin::fields::{Shape, is_minus};
-use st_bin::signed::{Signed, exactly_one, low_bits};
-use st_bin::{Acc, digits_value};
+use st_field::fields::Shape;
+use st_field::signed::low_bits;
+use st_field::{Acc, digits_value};
 
-/// The accumulator as a number of 32 digits.
-pub fn number(acc: &Acc) -> Signed
-    ensures sign { result.negative ≡ minus_of acc.now }
-    ensures magnitude { result.mag ≡ acc_value acc.now }
-    ensures bound { result.mag < 2 ^ 127 }
+/// The value of the 32 digits of the accumulator.
+pub fn acc_value(acc: &Acc) -> u128
+    ensures value { result ≡ acc_value_of acc.now }
+    ensures bound { result < 2 ^ 127 }
 {
-    Signed {
-        negative: is_minus(acc.sb),
-        mag: digits_value(acc.mag),
-    }
+    digits_value(acc.mag)
 }
 
 /// The digit of the accumulator, 0 to 31, at which the last digit of a field stands.
@@ -47,27 +42,19 @@ pub fn field_codes(acc: &Acc, shape: &Shape) -> u64
     low_bits(codes_from_place(acc, shape), 4 * digit_count(shape))
 }
 
-/// The accumulator from the digit place on as a number, inverted where the operation is negated.
-pub fn addend(acc: &Acc, shape: &Shape) -> Signed
+/// The value of the digits of the accumulator from the digit place on.
+pub fn value_from_place(acc: &Acc, shape: &Shape) -> u128
     requires { IsDecimalShape shape.now }
-    ensures sign { result.negative ≡ addend_minus acc.now shape.now }
-    ensures magnitude { result.mag ≡ addend_value acc.now shape.now }
-    ensures bound { result.mag < 2 ^ 127 }
+    ensures value { result ≡ value (codes_from_place_of acc.now shape.now) }
+    ensures bound { result < 2 ^ 127 }
 {
-    Signed {
-        negative: exactly_one(is_minus(acc.sb), shape.negated),
-        mag: digits_value(codes_from_place(acc, shape)),
-    }
+    digits_value(codes_from_place(acc, shape))
 }
 
-/// As many digits of the accumulator from the digit place on as the field has, with its sign, as a number.
-pub fn field_side(acc: &Acc, shape: &Shape) -> Signed
+/// The value of as many of these as the field has digits.
+pub fn field_side(acc: &Acc, shape: &Shape) -> u128
     requires { IsDecimalShape shape.now }
-    ensures sign { result.negative ≡ minus_of acc.now }
-    ensures magnitude { result.mag ≡ value (field_codes_of acc.now shape.now) }
+    ensures { result ≡ value (field_codes_of acc.now shape.now) }
 {
-    Signed {
-        negative: is_minus(acc.sb),
-        mag: digits_value(u128::from(field_codes(acc, shape))),
-    }
+    digits_value(u128::from(field_codes(acc, shape)))
 }

@@ -6,12 +6,12 @@
 //! codes              cccccccccccc
 //! ```
 ghost use Rattle.std.specs.Prelude.{◌≡◌, ◌-◌, ◌*◌, ◌<◌, ◌≤◌, ◌^◌};
-ghost use Rattle.st_bin.specs.BinaryOperand.{HasRoom, magnitude_bits as magnitude_bits_of};
+ghost use Rattle.st_field.specs.Fields.{HasRoom, magnitude_bits as magnitude_bits_of};
 ghost use Rattle.st_dec.specs.DigitLists.{bytes, joined};
 ghost use Rattle.st_dec.specs.DecimalOperand.{IsDecimalShape, digit_count as digit_count_of, digit_bytes, codes as codes_of};
 ghost use Rattle.st_dec.specs.DecimalOperand.{zoned, recoded as recoded_of};
 
-use st_bin::fields::{Field, Shape, magnitude_bits};
+use st_field::fields::{Field, Shape, magnitude_bits};
 
 /// How many digits a field has.
 #[tactic(auto, using(crate::proofs::ShapeLemmas::count_rules))]

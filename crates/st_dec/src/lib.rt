@@ -8,7 +8,6 @@ mod digits;
 mod loads;
 mod operand;
 mod operations;
-mod outcome;
 mod stores;
 mod sums;
 

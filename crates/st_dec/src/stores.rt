@@ -1,19 +1,17 @@
 //! Stores into a decimal field.
 ghost use Rattle.std.specs.Prelude.{◌≡◌, ◌<◌, ◌-◌, ◌%◌, ◌^◌};
-ghost use Rattle.st_bin.specs.BinaryOperand.{HasRoom, magnitude_bits as magnitude_bits_of, zone_of};
-ghost use Rattle.st_dec.specs.DigitLists.{joined};
-ghost use Rattle.st_dec.specs.DecimalOperand.{IsDecimalShape, codes_left_out};
-ghost use Rattle.st_dec.specs.DecimalOperand.{field_codes as field_codes_of, zoned, any_code};
-ghost use Rattle.st_dec.specs.DecimalResult.{stored, stored_field as stored_field_of};
+ghost use Rattle.st_field.specs.Fields.{magnitude_bits as magnitude_bits_of, zone_of};
+ghost use Rattle.st_dec.specs.DecimalOperand.{IsDecimalShape, codes_left_out, any_code};
+ghost use Rattle.st_dec.specs.DecimalResult.{stored, stored_magnitude as stored_magnitude_of};
 
 use crate::accumulator::{codes_from_place, field_codes};
 use crate::digits::{digit_count, spread};
-use crate::outcome::in_field;
-use st_bin::Acc;
-use st_bin::fields::{Field, Shape, is_minus};
-use st_bin::indicators::partial_field;
-use st_bin::outcome::Done;
-use st_bin::signed::{exactly_one, exceeds};
+use crate::operand::field_value;
+use st_field::accumulator::stored_field;
+use st_field::fields::Shape;
+use st_field::indicators::partial_field;
+use st_field::signed::exceeds;
+use st_field::{Acc, Done, in_field};
 
 /// The zone of the accumulator, as much of it as a byte has room for.
 fn stored_zone(acc: &Acc, shape: &Shape) -> u64
@@ -27,25 +25,10 @@ fn stored_zone(acc: &Acc, shape: &Shape) -> u64
 /// The magnitude of the field that the accumulator makes from the digit place on.
 fn stored_magnitude(acc: &Acc, shape: &Shape) -> u64
     requires { IsDecimalShape shape.now }
-    ensures value { result ≡ joined shape.now.byte
-        (zoned (zone_of acc.now.sb % 2 ^ (shape.now.byte - 4)) (field_codes_of acc.now shape.now)) }
+    ensures value { result ≡ stored_magnitude_of acc.now shape.now }
     ensures fits { result < 2 ^ magnitude_bits_of shape.now }
 {
     spread(field_codes(acc, shape), stored_zone(acc, shape), shape)
-}
-
-/// The field that the accumulator makes from the digit place on; an unsigned one has plus.
-fn stored_field(acc: &Acc, shape: &Shape) -> Field
-    requires { IsDecimalShape shape.now }
-    ensures value { result ≡ stored_field_of acc.now shape.now }
-    ensures room { HasRoom result shape.now }
-{
-    Field {
-        mag: stored_magnitude(acc, shape),
-        negative: !shape.unsigned && exactly_one(is_minus(acc.sb), shape.negated),
-        flags: acc.sb % 8,
-        zone: acc.sb / 16,
-    }
 }
 
 /// Whether the accumulator has a code that is not zero before those that the field takes.
@@ -62,6 +45,7 @@ pub fn store(acc: &Acc, shape: &Shape) -> Done
     requires { IsDecimalShape shape.now }
     ensures { result ≡ stored acc.now shape.now }
 {
+    let field = stored_field(acc, shape, stored_magnitude(acc, shape));
     let on = partial_field(is_code_lost(acc, shape));
-    in_field(acc, &stored_field(acc, shape), shape, on)
+    in_field(acc, &field, shape, field_value(&field, shape), on)
 }

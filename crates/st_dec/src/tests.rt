@@ -2,8 +2,8 @@
 ghost use Rattle.std.specs.Prelude.{◌<◌};
 
 use super::*;
-use st_bin::{Acc, Done, Shape};
 use st_bits::{Ind, VflOp};
+use st_field::{Acc, Done, Shape};
 
 /// Sixteen digits without zones and sign.
 const DIGITS: Shape = Shape {

@@ -20,7 +20,7 @@ use Rattle.st_prep.specs.Fetch.{index_words}
 use Rattle.st_prep.specs.Plan.{opened}
 use Rattle.st_prep.specs.Ranges.{IsChange, AreAbove, IsPrepared}
 use Rattle.st_prep.proofs.IndexWords.{are_index_words}
-use Rattle.st_exec.specs.Deed.{deed, done}
+use Rattle.st_exec.specs.Deed.{deed, carried_out}
 use Rattle.st_exec.specs.Completion.{with_change, early, is_taken, counter, counted, finished, completed, guessed, is_missed}
 use Rattle.st_exec.specs.Ahead.{IsNotAmong, IsPast, is_indicator_branch}
 use Rattle.st_exec.proofs.Unchanged.{stored-other, early-above, early-done, done-done}
@@ -135,7 +135,7 @@ pub record Late (p : Prepared) (t u : Machine) : Type 0 where
 -- a state between the early change and the counting of the instruction
 abbrev pub late : Bool → Prepared → Machine → Machine
 late true p t = t
-late false p t = done (deed p t) t
+late false p t = carried_out (deed p t) t
 
 late-kept : (b : Bool) (p : Prepared) (t : Machine) → p.suppressed ≡ b → IsPrepared p → p.serial ≡ false
     → length t.words ≡ words_of_storage → Late p t (late b p t)
@@ -154,7 +154,7 @@ late-kept false p t e h free size =
     }
 
 finished-late : (b : Bool) (p : Prepared) (t : Machine)
-    → (if b then counted t p.following else counted (done (deed p t) t) (counter p t))
+    → (if b then counted t p.following else counted (carried_out (deed p t) t) (counter p t))
     ≡ counted (late b p t) (if b then p.following else counter p t)
 finished-late true p t = refl
 finished-late false p t = refl

@@ -18,9 +18,9 @@ use Rattle.st_format.specs.declared.instruction.Instr.TheVariants.{Half, Branch,
 use Rattle.st_format.specs.Operations.{writes_field}
 use Rattle.st_state.specs.Machine.{Machine, IsMachine, word}
 use Rattle.st_state.specs.Interrupts.{applied}
-use Rattle.st_bin.specs.declared.accumulator.Acc.{Acc}
-use Rattle.st_bin.specs.declared.fields.Shape.{Shape}
-use Rattle.st_bin.specs.declared.outcome.Done.{Done}
+use Rattle.st_field.specs.declared.accumulator.Acc.{Acc}
+use Rattle.st_field.specs.declared.fields.Shape.{Shape}
+use Rattle.st_field.specs.declared.outcome.Done.{Done}
 use Rattle.st_bin.specs.BinaryResult as binary
 use Rattle.st_dec.specs.DecimalResult as decimal
 use Rattle.st_prep.specs.Alike.{AreAlike}
@@ -29,12 +29,13 @@ use Rattle.st_prep.specs.declared.entries.Prepared.{Prepared}
 use Rattle.st_prep.specs.Entry.{no_words, one_run, field_words, operand_words, is_index_store, reads_field, reads, writes, is_alone_branch, acts_alone}
 use Rattle.st_prep.specs.Ranges.{HasFields, AreInside, AreAbove, IsPrepared}
 use Rattle.st_exec.specs.Operand.{field_at, operand, accumulator}
-use Rattle.st_exec.specs.Outcome.{taken, result_by, operated, connection, connects, with_register, with_accumulator, with_registers, with_field, settled, shape_of}
-use Rattle.st_exec.specs.declared.outcomes.Outcome.{Outcome}
-use Rattle.st_exec.specs.Deed.{index_deed, branch_deed, indicator_deed, deed_of, done}
+use Rattle.st_conn.specs.Connection.{connection}
+use Rattle.st_exec.specs.Outcome.{taken, result_by, operated, connects, with_register, with_accumulator, with_registers, with_field, with_result, shape_of}
+use Rattle.st_field.specs.declared.outcome.Done.{Done}
+use Rattle.st_exec.specs.Deed.{index_deed, branch_deed, indicator_deed, deed_of, carried_out}
 use Rattle.st_exec.specs.Completion.{with_change, early, counted, completed, guessed, is_missed, counter}
 use Rattle.st_exec.proofs.AlikeStates.{alike-stored, alike-indicators, alike-placed, alike-field_at, alike-accumulator}
-use Rattle.st_exec.proofs.FieldLemmas.{result-field, put_by-field}
+use Rattle.st_exec.proofs.FieldLemmas.{result-field, connection-field}
 use Rattle.st_exec.proofs.InsideLemmas.{some_words, inside-field, inside-field_if}
 use Rattle.st_exec.proofs.SparedLemmas.{marks-registers}
 use Rattle.st_exec.proofs.AheadLemmas.{late, completed-late, early-marks, guessed-right}
@@ -48,26 +49,27 @@ pub record SameButIndicators (d e : Done) : Type 0 where
   pub rm : e.rm ≡ d.rm
   pub ft : e.ft ≡ d.ft
   pub tr : e.tr ≡ d.tr
+  pub counts : e.counts ≡ d.counts
 
 same_result : (d : Done) → SameButIndicators d d
-same_result d = record { acc = refl; field = refl; rm = refl; ft = refl; tr = refl }
+same_result d = record { acc = refl; field = refl; rm = refl; ft = refl; tr = refl; counts = refl }
 
 same-binary : (op : VflOp) (a : Acc) (x : ℕ) (h : Shape) (ft i j : ℕ)
     → SameButIndicators (binary.result op a x h ft i) (binary.result op a x h ft j)
-unfolding binary.result binary.compared_if_equal binary.field_compared_if_equal binary.range_compared binary.field_range_compared
-same-binary Ke a x h ft i j = record { acc = refl; field = refl; rm = refl; ft = refl; tr = refl }
-same-binary Kfe a x h ft i j = record { acc = refl; field = refl; rm = refl; ft = refl; tr = refl }
-same-binary Kr a x h ft i j = record { acc = refl; field = refl; rm = refl; ft = refl; tr = refl }
-same-binary Kfr a x h ft i j = record { acc = refl; field = refl; rm = refl; ft = refl; tr = refl }
+unfolding binary.result
+same-binary Ke a x h ft i j = record { acc = refl; field = refl; rm = refl; ft = refl; tr = refl; counts = refl }
+same-binary Kfe a x h ft i j = record { acc = refl; field = refl; rm = refl; ft = refl; tr = refl; counts = refl }
+same-binary Kr a x h ft i j = record { acc = refl; field = refl; rm = refl; ft = refl; tr = refl; counts = refl }
+same-binary Kfr a x h ft i j = record { acc = refl; field = refl; rm = refl; ft = refl; tr = refl; counts = refl }
 same-binary _ a x h ft i j = same_result _
 
 same-decimal : (op : VflOp) (a : Acc) (x : ℕ) (h : Shape) (i j : ℕ)
     → SameButIndicators (decimal.result op a x h i) (decimal.result op a x h j)
-unfolding decimal.result decimal.compared_if_equal decimal.field_compared_if_equal decimal.range_compared decimal.field_range_compared
-same-decimal Ke a x h i j = record { acc = refl; field = refl; rm = refl; ft = refl; tr = refl }
-same-decimal Kfe a x h i j = record { acc = refl; field = refl; rm = refl; ft = refl; tr = refl }
-same-decimal Kr a x h i j = record { acc = refl; field = refl; rm = refl; ft = refl; tr = refl }
-same-decimal Kfr a x h i j = record { acc = refl; field = refl; rm = refl; ft = refl; tr = refl }
+unfolding decimal.result
+same-decimal Ke a x h i j = record { acc = refl; field = refl; rm = refl; ft = refl; tr = refl; counts = refl }
+same-decimal Kfe a x h i j = record { acc = refl; field = refl; rm = refl; ft = refl; tr = refl; counts = refl }
+same-decimal Kr a x h i j = record { acc = refl; field = refl; rm = refl; ft = refl; tr = refl; counts = refl }
+same-decimal Kfr a x h i j = record { acc = refl; field = refl; rm = refl; ft = refl; tr = refl; counts = refl }
 same-decimal _ a x h i j = same_result _
 
 same-result : (d : Bool) (op : VflOp) (a : Acc) (x : ℕ) (h : Shape) (ft i j : ℕ)
@@ -98,18 +100,11 @@ taken_by false p e n s t h few size inside above = refl
 
 -- ---- outcomes
 
-pub record SameOutcomes (o q : Outcome) : Type 0 where
-  pub done : SameButIndicators o.done q.done
-  pub counts : q.counts ≡ o.counts
-
-same_outcome : (o q : Outcome) → q ≡ o → SameOutcomes o q
-same_outcome o q e = record {
-  done = subst (λ (x : Outcome). SameButIndicators o.done x.done) (sym e) (same_result o.done);
-  counts = ap (λ (x : Outcome). x.counts) e;
-}
+same_results : (o q : Done) → q ≡ o → SameButIndicators o q
+same_results o q e = subst (λ (x : Done). SameButIndicators o x) (sym e) (same_result o)
 
 same-operated : (d : Bool) (op : VflOp) (h : Shape) (p e : ℕ) (s t : Machine) → AreAlike s t
-    → taken op p e h.length t ≡ taken op p e h.length s → SameOutcomes (operated d op h p e s) (operated d op h p e t)
+    → taken op p e h.length t ≡ taken op p e h.length s → SameButIndicators (operated d op h p e s) (operated d op h p e t)
 unfolding operated
 same-operated d op h p e s t k same =
     let x = taken op p e h.length s in
@@ -118,17 +113,14 @@ same-operated d op h p e s t k same =
     ap (λ a. result_by d op a (taken op p e h.length t) h (word t 14) (word t 11)) (alike-accumulator s t k)
     ∙ ap (λ y. result_by d op (accumulator s) y h (word t 14) (word t 11)) same
     ∙ ap (λ ft. result_by d op (accumulator s) x h ft (word t 11)) (k.words 14 (omega arith)) in
-    record {
-      done = subst (λ (y : Done). SameButIndicators (result_by d op (accumulator s) x h (word s 14) (word s 11)) y) (sym equal)
-          (same-result d op (accumulator s) x h (word s 14) (word s 11) (word t 11));
-      counts = refl;
-    }
+    subst (λ (y : Done). SameButIndicators (result_by d op (accumulator s) x h (word s 14) (word s 11)) y) (sym equal)
+    (same-result d op (accumulator s) x h (word s 14) (word s 11) (word t 11))
 
 same-connects : (kind : ConnKind) (table p e offset n : ℕ) (s t : Machine) → AreAlike s t
-    → operand p e n t ≡ operand p e n s → SameOutcomes (connects kind table p e offset n s) (connects kind table p e offset n t)
+    → operand p e n t ≡ operand p e n s → SameButIndicators (connects kind table p e offset n s) (connects kind table p e offset n t)
 unfolding connects
 same-connects kind table p e offset n s t h same =
-    same_outcome _ _
+    same_results _ _
     (ap (λ a. connection kind table a offset (operand p e n t) n) (alike-accumulator s t h)
     ∙ ap (λ x. connection kind table (accumulator s) offset x n) same)
 
@@ -138,26 +130,26 @@ alike-register : (w : ℕ) (x : Option ℕ) (s t : Machine) → AreAlike s t →
 alike-register w None s t h = h
 alike-register w (Some x) s t h = alike-stored s t w x h
 
-alike-registers : (o : Outcome) (s t : Machine) → AreAlike s t → AreAlike (with_registers o s) (with_registers o t)
+alike-registers : (o : Done) (s t : Machine) → AreAlike s t → AreAlike (with_registers o s) (with_registers o t)
 unfolding with_registers
 alike-registers o s t h =
     alike-register 7 o.counts _ _
-    (alike-register 15 o.done.tr _ _
-    (alike-register 14 o.done.ft _ _
-    (alike-register 13 o.done.rm _ _
+    (alike-register 15 o.tr _ _
+    (alike-register 14 o.ft _ _
+    (alike-register 13 o.rm _ _
     (alike-stored _ _ 10 _ (alike-stored _ _ 9 _ (alike-stored s t 8 _ h))))))
 
-same-registers : (o q : Outcome) (t : Machine) → SameOutcomes o q → with_registers q t ≡ with_registers o t
+same-registers : (o q : Done) (t : Machine) → SameButIndicators o q → with_registers q t ≡ with_registers o t
 unfolding with_registers
 same-registers o q t h =
     let f = λ (counts tr ft rm : Option ℕ) (a : Acc).
     with_register 7 counts
     (with_register 15 tr (with_register 14 ft (with_register 13 rm (with_accumulator a t)))) in
-    ap (λ c. f c q.done.tr q.done.ft q.done.rm q.done.acc) h.counts
-    ∙ ap (λ c. f o.counts c q.done.ft q.done.rm q.done.acc) h.done.tr
-    ∙ ap (λ c. f o.counts o.done.tr c q.done.rm q.done.acc) h.done.ft
-    ∙ ap (λ c. f o.counts o.done.tr o.done.ft c q.done.acc) h.done.rm
-    ∙ ap (λ a. f o.counts o.done.tr o.done.ft o.done.rm a) h.done.acc
+    ap (λ c. f c q.tr q.ft q.rm q.acc) h.counts
+    ∙ ap (λ c. f o.counts c q.ft q.rm q.acc) h.tr
+    ∙ ap (λ c. f o.counts o.tr c q.rm q.acc) h.ft
+    ∙ ap (λ c. f o.counts o.tr o.ft c q.acc) h.rm
+    ∙ ap (λ a. f o.counts o.tr o.ft o.rm a) h.acc
 
 alike-field : (f : Option ℕ) (a n : ℕ) (s t : Machine) → AreAlike s t → IfSome f (λ _. a + n ≤ 64 * length s.words)
     → AreAlike (with_field f a n s) (with_field f a n t)
@@ -168,27 +160,27 @@ if_some : (f : Option ℕ) (m n : ℕ) (a : ℕ) → m ≡ n → IfSome f (λ _.
 if_some None m n a e h = tt
 if_some (Some v) m n a e h = omega arith
 
-alike-settled : (o q : Outcome) (a n : ℕ) (s t : Machine) → AreAlike s t → SameOutcomes o q
-    → IfSome o.done.field (λ _. a + n ≤ 64 * length s.words) → AreAlike (settled o a n s) (settled q a n t)
-unfolding settled
-alike-settled o q a n s t h same inside =
+alike-with_result : (o q : Done) (a n : ℕ) (s t : Machine) → AreAlike s t → SameButIndicators o q
+    → IfSome o.field (λ _. a + n ≤ 64 * length s.words) → AreAlike (with_result o a n s) (with_result q a n t)
+unfolding with_result
+alike-with_result o q a n s t h same inside =
     let r = with_registers o s in
-    let u = applied o.done.ind r in
-    let v = applied q.done.ind (with_registers q t) in
+    let u = applied o.ind r in
+    let v = applied q.ind (with_registers q t) in
     let registers : AreAlike r (with_registers q t) =
     subst (λ (y : Machine). AreAlike r y) (sym (same-registers o q t same)) (alike-registers o s t h) in
     let long : 64 * length s.words ≡ 64 * length u.words =
     ap (λ m. 64 * m) (sym (length-set r.words 11 _ ∙ (marks-registers o s).size)) in
-    subst (λ (f : Option ℕ). AreAlike (with_field o.done.field a n u) (with_field f a n v)) (sym same.done.field)
-    (alike-field o.done.field a n u v (alike-indicators r (with_registers q t) _ _ registers)
-    (if_some o.done.field _ _ (a + n) long inside))
+    subst (λ (f : Option ℕ). AreAlike (with_field o.field a n u) (with_field f a n v)) (sym same.field)
+    (alike-field o.field a n u v (alike-indicators r (with_registers q t) _ _ registers)
+    (if_some o.field _ _ (a + n) long inside))
 
 -- ---- deeds
 
 alike-index : (op : HalfOp) (e v : ℕ) (s t : Machine) → AreAlike s t → length s.words ≡ words_of_storage
     → AreInside (if is_index_store op then one_run (e / 64) 1 else no_words)
-    → AreAlike (done (index_deed op e v) s) (done (index_deed op e v) t)
-unfolding done
+    → AreAlike (carried_out (index_deed op e v) s) (carried_out (index_deed op e v) t)
+unfolding carried_out
 alike-index Sx e v s t h size k = alike-placed s t (64 * (e / 64)) (bits 64 v) h (omega (arith, length-bits 64 v, k.inside (omega arith)))
 alike-index Sv e v s t h size k = alike-placed s t (64 * (e / 64)) (bits 25 v) h (omega (arith, length-bits 25 v, k.inside (omega arith)))
 alike-index Sc e v s t h size k = alike-placed s t (64 * (e / 64) + 28) (bits 18 v) h (omega (arith, length-bits 18 v, k.inside (omega arith)))
@@ -197,16 +189,16 @@ alike-index Sva e v s t h size k = alike-placed s t (32 * (e / 32)) (bits 19 v) 
 alike-index _ e v s t h size k = h
 
 alike-branch : (op : BranchOp) (s t : Machine) → AreAlike s t → is_alone_branch op ≡ false
-    → AreAlike (done (branch_deed op) s) (done (branch_deed op) t)
-unfolding done
+    → AreAlike (carried_out (branch_deed op) s) (carried_out (branch_deed op) t)
+unfolding carried_out
 alike-branch Be s t h calm = absurd (cc)
 alike-branch Bd s t h calm = absurd (cc)
 alike-branch Bew s t h calm = absurd (cc)
 alike-branch _ s t h calm = h
 
 alike-indicator : (off : Bool) (e : ℕ) (s t : Machine) → AreAlike s t
-    → AreAlike (done (indicator_deed off e) s) (done (indicator_deed off e) t)
-unfolding done
+    → AreAlike (carried_out (indicator_deed off e) s) (carried_out (indicator_deed off e) t)
+unfolding carried_out
 alike-indicator false e s t h = h
 alike-indicator true e s t h = alike-indicators s t _ _ h
 
@@ -218,21 +210,21 @@ inside-left (Some v) b e n m size few only h = omega (arith, size, inside-field_
 
 alike-deed : (instr : Instr) (e v : ℕ) (s t : Machine) → AreAlike s t → length s.words ≡ words_of_storage
     → HasFields instr → acts_alone instr ≡ false → AreInside (reads instr e) → AreAbove (reads instr e)
-    → AreInside (writes instr e) → AreAlike (done (deed_of instr e v s) s) (done (deed_of instr e v t) t)
-unfolding deed_of done acts_alone reads writes operated connects
+    → AreInside (writes instr e) → AreAlike (carried_out (deed_of instr e v s) s) (carried_out (deed_of instr e v t) t)
+unfolding deed_of carried_out acts_alone reads writes operated connects
 alike-deed (Half op a j x) e v s t h size fields calm inside above written = alike-index op e v s t h size written
 alike-deed (Branch op a x) e v s t h size fields calm inside above written = alike-branch op s t h calm
 alike-deed (Floating n a x) e v s t h size fields calm inside above written = h
 alike-deed (Vfl op d u n p l b o a x) e v s t h size fields calm inside above written =
     let few : l ≤ 64 = fields.1.length_fits in
-    alike-settled _ _ e l s t h
+    alike-with_result _ _ e l s t h
     (same-operated d op (shape_of u n l b o) p e s t h (taken_by (reads_field op) p e l s t h few size inside above))
     (inside-left _ (writes_field (Variable op)) e l (length s.words) size few (result-field d op _ _ _ _ _) written)
 alike-deed (Connect kind table p l b o a x) e v s t h size fields calm inside above written =
     let few : l ≤ 64 = fields.1.length_fits in
-    alike-settled _ _ e l s t h
+    alike-with_result _ _ e l s t h
     (same-connects kind table p e o l s t h (alike-operand p e l s t h few size inside above))
-    (inside-left _ (writes_field (Connective kind)) e l (length s.words) size few (put_by-field kind _ _ _ _) written)
+    (inside-left _ (writes_field (Connective kind)) e l (length s.words) size few (connection-field kind _ _ _ _ _) written)
 alike-deed (Move swap a x second n) e v s t h size fields calm inside above written = absurd (cc)
 alike-deed (BitBranch sense change a x second) e v s t h size fields calm inside above written = absurd (cc)
 alike-deed (IndBranch sense off a x second) e v s t h size fields calm inside above written = alike-indicator off e s t h

@@ -13,11 +13,11 @@ use Rattle.st_prep.specs.declared.entries.Prepared.{Prepared}
 use Rattle.st_prep.specs.Entry.{acts_alone}
 use Rattle.st_prep.specs.Ranges.{IsPrepared}
 use Rattle.st_prep.proofs.BesideLemmas.{with_orders, alike-orders}
-use Rattle.st_exec.specs.Outcome.{operated, connects, with_accumulator, with_register, with_registers, with_field, settled}
-use Rattle.st_exec.specs.declared.outcomes.Outcome.{Outcome}
-use Rattle.st_exec.specs.Deed.{deed_of, deed, done}
+use Rattle.st_exec.specs.Outcome.{operated, connects, with_accumulator, with_register, with_registers, with_field, with_result}
+use Rattle.st_field.specs.declared.outcome.Done.{Done}
+use Rattle.st_exec.specs.Deed.{deed_of, deed, carried_out}
 use Rattle.st_exec.specs.declared.deeds.Deed.{Deed}
-use Rattle.st_exec.specs.declared.deeds.Deed.TheVariants.{Rest, Put, Copy, Exchange, TurnOff, Enable, Wait, Give, Settle}
+use Rattle.st_exec.specs.declared.deeds.Deed.TheVariants.{Rest, Put, Copy, Exchange, TurnOff, Enable, Wait, Give, Leave}
 use Rattle.st_exec.specs.Completion.{with_change, early, counter, counted, guessed}
 use Rattle.st_exec.specs.Transfer.{read_in, printed_out}
 use Rattle.st_exec.proofs.SparedLemmas.{IsQuiet, quiet-deed}
@@ -46,29 +46,29 @@ field-orders : (r q : Option Order) (f : Option ℕ) (a n : ℕ) (t : Machine)
 field-orders r q None a n t = refl
 field-orders r q (Some x) a n t = refl
 
-registers-orders : (r q : Option Order) (o : Outcome) (t : Machine)
+registers-orders : (r q : Option Order) (o : Done) (t : Machine)
     → with_registers o (with_orders r q t) ≡ with_orders r q (with_registers o t)
 unfolding with_registers
 registers-orders r q o t =
-    let a = with_accumulator o.done.acc t in
-    let rm = with_register 13 o.done.rm a in
-    let ft = with_register 14 o.done.ft rm in
-    ap (λ u. with_register 7 o.counts (with_register 15 o.done.tr (with_register 14 o.done.ft u)))
-    (register-orders r q 13 o.done.rm a)
-    ∙ ap (λ u. with_register 7 o.counts (with_register 15 o.done.tr u)) (register-orders r q 14 o.done.ft rm)
-    ∙ ap (with_register 7 o.counts) (register-orders r q 15 o.done.tr ft)
-    ∙ register-orders r q 7 o.counts (with_register 15 o.done.tr ft)
+    let a = with_accumulator o.acc t in
+    let rm = with_register 13 o.rm a in
+    let ft = with_register 14 o.ft rm in
+    ap (λ u. with_register 7 o.counts (with_register 15 o.tr (with_register 14 o.ft u)))
+    (register-orders r q 13 o.rm a)
+    ∙ ap (λ u. with_register 7 o.counts (with_register 15 o.tr u)) (register-orders r q 14 o.ft rm)
+    ∙ ap (with_register 7 o.counts) (register-orders r q 15 o.tr ft)
+    ∙ register-orders r q 7 o.counts (with_register 15 o.tr ft)
 
-settled-orders : (r q : Option Order) (o : Outcome) (a n : ℕ) (t : Machine)
-    → settled o a n (with_orders r q t) ≡ with_orders r q (settled o a n t)
-unfolding settled
-settled-orders r q o a n t =
-    ap (λ u. with_field o.done.field a n (applied o.done.ind u)) (registers-orders r q o t)
-    ∙ field-orders r q o.done.field a n (applied o.done.ind (with_registers o t))
+with_result-orders : (r q : Option Order) (o : Done) (a n : ℕ) (t : Machine)
+    → with_result o a n (with_orders r q t) ≡ with_orders r q (with_result o a n t)
+unfolding with_result
+with_result-orders r q o a n t =
+    ap (λ u. with_field o.field a n (applied o.ind u)) (registers-orders r q o t)
+    ∙ field-orders r q o.field a n (applied o.ind (with_registers o t))
 
 done-orders : (r q : Option Order) (d : Deed) (t : Machine) → IsQuiet d
-    → done d (with_orders r q t) ≡ with_orders r q (done d t)
-unfolding done
+    → carried_out d (with_orders r q t) ≡ with_orders r q (carried_out d t)
+unfolding carried_out
 done-orders r q Rest t k = refl
 done-orders r q (Put a n v) t k = refl
 done-orders r q (Copy from to n) t k = absurd k
@@ -77,7 +77,7 @@ done-orders r q (TurnOff i) t k = refl
 done-orders r q (Enable enabled) t k = absurd k
 done-orders r q Wait t k = absurd k
 done-orders r q (Give write order) t k = absurd k
-done-orders r q (Settle o a n) t k = settled-orders r q o a n t
+done-orders r q (Leave o a n) t k = with_result-orders r q o a n t
 
 deed-orders : (r q : Option Order) (instr : Instr) (e v : ℕ) (t : Machine)
     → deed_of instr e v (with_orders r q t) ≡ deed_of instr e v t
@@ -99,7 +99,7 @@ late-orders : (r q : Option Order) (b : Bool) (p : Prepared) (t : Machine) → p
 late-orders r q true p t e h free = refl
 late-orders r q false p t e h free =
     let calm : acts_alone p.instr ≡ false = (h.ahead free).operation e in
-    ap (λ d. done d (with_orders r q t)) (deed-orders r q p.instr p.e p.value t)
+    ap (λ d. carried_out d (with_orders r q t)) (deed-orders r q p.instr p.e p.value t)
     ∙ done-orders r q (deed p t) t (quiet-deed p.instr p.e p.value t calm)
 
 -- ---- the guess

@@ -7,17 +7,18 @@ use Rattle.st_bits.specs.declared.operations.VflOp.{VflOp}
 use Rattle.st_bits.specs.declared.operations.VflOp.TheVariants.{L, Lwf, Ltrs, Lft, St, Add, AddMg, MAdd, MAddMg, MAdd1, K, Kf, Ke, Kfe, Kr, Kfr, Mul, MulAdd, Div, Lcv}
 use Rattle.st_format.specs.declared.operations.FullOp.TheVariants.{Variable, Connective}
 use Rattle.st_format.specs.Operations.{writes_field}
-use Rattle.st_bin.specs.declared.accumulator.Acc.{Acc}
-use Rattle.st_bin.specs.declared.fields.Field.{Field}
-use Rattle.st_bin.specs.declared.fields.Shape.{Shape}
-use Rattle.st_bin.specs.declared.outcome.Done.{Done}
-use Rattle.st_bin.specs.BinaryOperand.{field_of}
+use Rattle.st_field.specs.declared.accumulator.Acc.{Acc}
+use Rattle.st_field.specs.declared.fields.Field.{Field}
+use Rattle.st_field.specs.declared.fields.Shape.{Shape}
+use Rattle.st_field.specs.declared.outcome.Done.{Done}
+use Rattle.st_field.specs.Fields.{field_of}
 use Rattle.st_bin.specs.BinaryResult as binary
 use Rattle.st_dec.specs.DecimalResult as decimal
 use Rattle.st_prep.specs.Entry.{no_words, field_words}
 use Rattle.st_prep.specs.Ranges.{AreInside}
 use Rattle.st_prep.proofs.Choices.{of_choice}
-use Rattle.st_exec.specs.Outcome.{result_by, put_by}
+use Rattle.st_conn.specs.Connection.{connection}
+use Rattle.st_exec.specs.Outcome.{result_by}
 use Rattle.st_exec.specs.Deed.{IsField}
 use Rattle.st_exec.proofs.InsideLemmas.{inside-field_if}
 
@@ -31,7 +32,7 @@ divided-leaves_none a f h = of_choice (OnlyIf false) (f.mag == 0) _ _ tt tt
 
 binary-field : (op : VflOp) (a : Acc) (x : ℕ) (h : Shape) (ft ind : ℕ)
     → OnlyIf (writes_field (Variable op)) (binary.result op a x h ft ind)
-unfolding binary.result binary.loaded binary.loaded_with_flags binary.transit_set binary.factor_set binary.stored binary.added binary.magnitude_added binary.added_to_field binary.magnitude_added_to_field binary.one_added_to_field binary.compared binary.field_compared binary.compared_if_equal binary.field_compared_if_equal binary.range_compared binary.field_range_compared binary.product binary.product_added binary.converted
+unfolding binary.result binary.stored binary.added binary.magnitude_added binary.added_to_field binary.magnitude_added_to_field binary.one_added_to_field binary.product binary.product_added binary.converted
 binary-field L a x h ft ind = tt
 binary-field Lwf a x h ft ind = tt
 binary-field Ltrs a x h ft ind = tt
@@ -55,7 +56,7 @@ binary-field Lcv a x h ft ind = tt
 
 decimal-field : (op : VflOp) (a : Acc) (x : ℕ) (h : Shape) (ind : ℕ)
     → OnlyIf (writes_field (Variable op)) (decimal.result op a x h ind)
-unfolding decimal.result decimal.loaded decimal.loaded_with_flags decimal.transit_set decimal.factor_set decimal.stored decimal.added decimal.magnitude_added decimal.added_to_field decimal.magnitude_added_to_field decimal.one_added_to_field decimal.compared decimal.field_compared decimal.compared_if_equal decimal.field_compared_if_equal decimal.range_compared decimal.field_range_compared decimal.converted binary.loaded
+unfolding decimal.result decimal.stored decimal.added decimal.magnitude_added decimal.added_to_field decimal.magnitude_added_to_field decimal.one_added_to_field decimal.converted
 decimal-field L a x h ind = tt
 decimal-field Lwf a x h ind = tt
 decimal-field Ltrs a x h ind = tt
@@ -82,10 +83,11 @@ pub result-field : (d : Bool) (op : VflOp) (a : Acc) (x : ℕ) (h : Shape) (ft i
 result-field false op a x h ft ind = binary-field op a x h ft ind
 result-field true op a x h ft ind = decimal-field op a x h ind
 
-pub put_by-field : (kind : ConnKind) (a : Acc) (offset n r : ℕ) → OnlyIf (writes_field (Connective kind)) (put_by kind a offset n r)
-put_by-field C a offset n r = tt
-put_by-field Cm a offset n r = refl
-put_by-field Ct a offset n r = tt
+pub connection-field : (kind : ConnKind) (table : ℕ) (a : Acc) (offset x n : ℕ)
+    → OnlyIf (writes_field (Connective kind)) (connection kind table a offset x n)
+connection-field C table a offset x n = tt
+connection-field Cm table a offset x n = refl
+connection-field Ct table a offset x n = tt
 
 -- a field that is left lies in storage, since the words that are written do
 pub is_field-left : (f : Option ℕ) (b : Bool) (e n : ℕ) → 1 ≤ n → n ≤ 64 → IfSome f (λ v. v < 2 ^ n)

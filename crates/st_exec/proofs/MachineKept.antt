@@ -20,7 +20,7 @@ use Rattle.st_state.specs.Interrupts.{turned, applied}
 use Rattle.st_state.specs.declared.devices.Order.{Order}
 use Rattle.st_state.proofs.Kept.{is_machine-with_word}
 use Rattle.st_state.proofs.Turned.{turned_below}
-use Rattle.st_bin.specs.declared.accumulator.Acc.{Acc}
+use Rattle.st_field.specs.declared.accumulator.Acc.{Acc}
 use Rattle.st_prep.specs.declared.entries.IndexChange.{IndexChange}
 use Rattle.st_prep.specs.declared.entries.Prepared.{Prepared}
 use Rattle.st_prep.specs.Entry.{reads_field, reads, writes}
@@ -29,16 +29,16 @@ use Rattle.st_prep.specs.Ranges.{HasFields, AreInside, HasRoom, IsChange, IsPrep
 use Rattle.st_prep.proofs.Choices.{of_choice}
 use Rattle.st_prep.proofs.PlanLemmas.{fixed-indicators, is_machine-opened}
 use Rattle.st_exec.specs.Operand.{field_at, operand, accumulator}
-use Rattle.st_exec.specs.Outcome.{taken, operated, connects, shape_of, with_accumulator, with_register, with_registers, with_field, settled}
-use Rattle.st_exec.specs.declared.outcomes.Outcome.{Outcome}
-use Rattle.st_exec.specs.Deed.{AreRuns, copied, exchanged, index_deed, branch_deed, bit_deed, indicator_deed, move_deed, order_of, with_order, given, deed_of, deed, done}
+use Rattle.st_exec.specs.Outcome.{taken, operated, connects, shape_of, with_accumulator, with_register, with_registers, with_field, with_result}
+use Rattle.st_field.specs.declared.outcome.Done.{Done}
+use Rattle.st_exec.specs.Deed.{AreRuns, copied, exchanged, index_deed, branch_deed, bit_deed, indicator_deed, move_deed, order_of, with_order, given, deed_of, deed, carried_out}
 use Rattle.st_exec.specs.Completion.{with_change, early, is_taken, target, counter, counted, finished, completed}
 use Rattle.st_exec.specs.declared.deeds.Deed.{Deed}
-use Rattle.st_exec.specs.declared.deeds.Deed.TheVariants.{Rest, Put, Copy, Exchange, TurnOff, Enable, Wait, Give, Settle}
+use Rattle.st_exec.specs.declared.deeds.Deed.TheVariants.{Rest, Put, Copy, Exchange, TurnOff, Enable, Wait, Give, Leave}
 use Rattle.st_exec.proofs.ApartLemmas.{length-placed, word-placed_by}
 use Rattle.st_exec.proofs.BitBounds.{field-below, field-put_below}
 use Rattle.st_exec.proofs.InsideLemmas.{inside-move}
-use Rattle.st_exec.proofs.ResultBounds.{FitsRegisters, is_decimal_shape, result-fits, put_by-fits}
+use Rattle.st_exec.proofs.ResultBounds.{FitsRegisters, is_decimal_shape, result-fits, connection-fits}
 
 -- ---- one word
 
@@ -112,26 +112,26 @@ kept-accumulator a s m h =
     (kept-word _ 9 (a.mag % 2 ^ 64) (kept-word s 8 (a.mag / 2 ^ 64) m (omega arith) (omega arith)) (omega arith) (omega arith))
     (omega arith) (fixed-sign_byte (a.sb * 2 ^ 56))
 
-kept-registers : (o : Outcome) (s : Machine) → IsMachine s → FitsRegisters o.done → IsMachine (with_registers o s)
+kept-registers : (o : Done) (s : Machine) → IsMachine s → FitsRegisters o → IsMachine (with_registers o s)
 unfolding with_registers
 kept-registers o s m h =
     let near : 16 < words_of_storage = omega (arith, words_of_storage_is) in
     kept-register 7 o.counts _
-    (kept-register 15 o.done.tr _
-    (kept-register 14 o.done.ft _
-    (kept-register 13 o.done.rm _ (kept-accumulator o.done.acc s m h.acc) (omega arith) (some-below 13 o.done.rm h.rm))
-    (omega arith) (some-below 14 o.done.ft h.ft))
-    (omega arith) (some-below 15 o.done.tr h.tr))
+    (kept-register 15 o.tr _
+    (kept-register 14 o.ft _
+    (kept-register 13 o.rm _ (kept-accumulator o.acc s m h.acc) (omega arith) (some-below 13 o.rm h.rm))
+    (omega arith) (some-below 14 o.ft h.ft))
+    (omega arith) (some-below 15 o.tr h.tr))
     (omega arith) (some-counts o.counts)
 
 kept-field : (f : Option ℕ) (a n : ℕ) (s : Machine) → IsMachine s → IsMachine (with_field f a n s)
 kept-field None a n s m = m
 kept-field (Some v) a n s m = kept-placed s a n v m
 
-kept-settled : (o : Outcome) (a n : ℕ) (s : Machine) → IsMachine s → FitsRegisters o.done → IsMachine (settled o a n s)
-unfolding settled
-kept-settled o a n s m h =
-    kept-field o.done.field a n _ (kept-applied (with_registers o s) o.done.ind.on o.done.ind.off (kept-registers o s m h))
+kept-with_result : (o : Done) (a n : ℕ) (s : Machine) → IsMachine s → FitsRegisters o → IsMachine (with_result o a n s)
+unfolding with_result
+kept-with_result o a n s m h =
+    kept-field o.field a n _ (kept-applied (with_registers o s) o.ind.on o.ind.off (kept-registers o s m h))
 
 -- ---- runs of words
 
@@ -182,7 +182,7 @@ abbrev pub HasPlace : Deed → Type 0
 HasPlace (Copy from to n) = AreRuns from to n
 HasPlace (Exchange from to n) = AreRuns from to n
 HasPlace (Give write order) = HasArea (Some order)
-HasPlace (Settle o a n) = FitsRegisters o.done
+HasPlace (Leave o a n) = FitsRegisters o
 HasPlace _ = Unit {0}
 
 kept-marks : (s : Machine) (enabled waiting : Bool) → IsMachine s → IsMachine (record s { enabled = enabled; waiting = waiting })
@@ -195,8 +195,8 @@ kept-marks s enabled waiting m = record {
   printer_area = m.printer_area;
 }
 
-pub kept-done : (d : Deed) (s : Machine) → IsMachine s → HasPlace d → IsMachine (done d s)
-unfolding done
+pub kept-done : (d : Deed) (s : Machine) → IsMachine s → HasPlace d → IsMachine (carried_out d s)
+unfolding carried_out
 kept-done Rest s m h = m
 kept-done (Put a n v) s m h = kept-placed s a n v m
 kept-done (Copy from to n) s m h = kept-copied from to n s m h.to_inside
@@ -205,7 +205,7 @@ kept-done (TurnOff i) s m h = kept-applied s 0 _ m
 kept-done (Enable enabled) s m h = kept-marks s enabled s.waiting m
 kept-done Wait s m h = kept-marks s true true m
 kept-done (Give write order) s m h = kept-given write order s m h
-kept-done (Settle o a n) s m h = kept-settled o a n s m h
+kept-done (Leave o a n) s m h = kept-with_result o a n s m h
 
 place-index : (op : HalfOp) (e v : ℕ) → HasPlace (index_deed op e v)
 place-index Sx e v = tt
@@ -262,7 +262,7 @@ place-deed (Vfl op d u n p l b o a i) e v s m fields h k room =
     (is_decimal_shape d u n p l b o fields.1 fields.2) (accumulator-below s m)
     (of_choice (λ (x : ℕ). x < 2 ^ 64) (reads_field op) (operand p e l s) 0 (operand-below p e l s fields.1.length_fits) (omega arith))
 place-deed (Connect kind table p l b o a i) e v s m fields h k room =
-    put_by-fits kind (accumulator s) o l _ (accumulator-below s m)
+    connection-fits kind table (accumulator s) o _ l (accumulator-below s m)
 place-deed (Move swap a i second n) e v s m fields h k room =
     place-move swap (e / 64) (second / 2) n (inside-move swap a i second n e fields.2 h k)
 place-deed (BitBranch sense change a i second) e v s m fields h k room = place-bit change e _
@@ -309,11 +309,11 @@ kept-counted s c m h = record {
 }
 
 kept-finished : (b : Bool) (p : Prepared) (s : Machine) → p.suppressed ≡ b → IsPrepared p → IsMachine s
-    → IsMachine (if b then counted s p.following else counted (done (deed p s) s) (counter p s))
+    → IsMachine (if b then counted s p.following else counted (carried_out (deed p s) s) (counter p s))
 kept-finished true p s e h m = kept-counted s p.following m h.following
 kept-finished false p s e h m =
     let entry = h.entry e in
-    kept-counted (done (deed p s) s) (counter p s)
+    kept-counted (carried_out (deed p s) s) (counter p s)
     (kept-done (deed p s) s m
     (place-deed p.instr p.e p.value s m h.shape (rw entry.reads at h.reads_inside) (rw entry.writes at h.writes_inside) entry.area))
     (of_choice (λ (c : ℕ). c < 2 ^ 19) (is_taken p.instr p.e s) _ _ (target-below p.instr p.following h.shape h.following) h.following)

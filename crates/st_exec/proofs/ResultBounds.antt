@@ -9,19 +9,20 @@ use Rattle.st_bits.specs.declared.operations.ConnKind.{ConnKind}
 use Rattle.st_bits.specs.declared.operations.ConnKind.TheVariants.{C, Cm, Ct}
 use Rattle.st_bits.specs.declared.operations.VflOp.{VflOp}
 use Rattle.st_bits.specs.declared.operations.VflOp.TheVariants.{L, Lwf, Ltrs, Lft, St, Add, AddMg, MAdd, MAddMg, MAdd1, K, Kf, Ke, Kfe, Kr, Kfr, Mul, MulAdd, Div, Lcv}
+use Rattle.st_bits.specs.Bits.{num}
 use Rattle.st_format.proofs.Spelled.{of_choice as of_test, or-left, or-right}
 use Rattle.st_format.specs.Formats.{FitsField}
 use Rattle.st_format.specs.Validity.{misfits}
-use Rattle.st_bin.specs.declared.accumulator.Acc.{Acc}
-use Rattle.st_bin.specs.declared.fields.Field.{Field}
-use Rattle.st_bin.specs.declared.fields.Shape.{Shape}
-use Rattle.st_bin.specs.declared.outcome.Done.{Done}
-use Rattle.st_bin.specs.BinaryOperand.{IsShape, field_of}
+use Rattle.st_field.specs.declared.accumulator.Acc.{Acc}
+use Rattle.st_field.specs.declared.fields.Field.{Field}
+use Rattle.st_field.specs.declared.fields.Shape.{Shape}
+use Rattle.st_field.specs.declared.outcome.Done.{Done}
+use Rattle.st_field.specs.Fields.{IsShape, field_of}
 use Rattle.st_bin.specs.BinaryResult as binary
-use Rattle.st_bin.specs.Digits.{digits_of}
-use Rattle.st_bin.proofs.DigitLemmas.{digits_of-below}
+use Rattle.st_field.specs.Digits.{digits_of}
+use Rattle.st_field.proofs.DigitLemmas.{digits_of-below}
 use Rattle.st_dec.specs.DecimalResult as decimal
-use Rattle.st_dec.specs.DecimalOperand.{IsDecimalShape, digit_count, digit_bytes, codes, place, placed}
+use Rattle.st_dec.specs.DecimalOperand.{IsDecimalShape, digit_count, digit_bytes, codes, place, codes_kept}
 use Rattle.st_dec.specs.DigitLists.{joined}
 use Rattle.st_dec.specs.DigitLists as lists
 use Rattle.st_dec.proofs.DigitLemmas.{joined-below}
@@ -29,9 +30,10 @@ use Rattle.st_dec.proofs.ListLemmas.{codes-below}
 use Rattle.st_dec.proofs.PartLemmas.{length-codes, joined-placed}
 use Rattle.st_dec.proofs.RecodeLemmas.{decimal_fits}
 use Rattle.st_dec.proofs.ShapeLemmas.{count-few}
-use Rattle.st_conn.specs.Connective.{is_covered, placed_at, placed as placed_bits}
+use Rattle.st_conn.specs.Connective.{connected, is_covered, inserted_at, inserted}
+use Rattle.st_conn.specs.Connection.{connection}
 use Rattle.st_prep.proofs.Choices.{of_choice}
-use Rattle.st_exec.specs.Outcome.{result_by, put_by, shape_of}
+use Rattle.st_exec.specs.Outcome.{result_by, shape_of}
 use Rattle.st_exec.proofs.BitBounds.{num-by_weight}
 
 -- the magnitude of the accumulator has 128 bits, and each register that is left has 64
@@ -101,7 +103,7 @@ digits_small v = omega (arith, digits_of-below 32 v)
 
 pub binary-fits : (op : VflOp) (a : Acc) (f : Field) (h : Shape) (ft ind : ℕ) → a.mag < 2 ^ 128 → f.mag < 2 ^ 64
     → FitsRegisters (binary.result_of op a f h ft ind)
-unfolding binary.loaded binary.loaded_with_flags binary.transit_set binary.factor_set binary.stored binary.added binary.magnitude_added binary.added_to_field binary.magnitude_added_to_field binary.one_added_to_field binary.compared binary.field_compared binary.compared_if_equal binary.field_compared_if_equal binary.range_compared binary.field_range_compared binary.product binary.product_added binary.converted
+unfolding binary.stored binary.added binary.magnitude_added binary.added_to_field binary.magnitude_added_to_field binary.one_added_to_field binary.product binary.product_added binary.converted
 binary-fits L a f h ft ind acc mag = fits_alone _ (omega arith) refl refl refl
 binary-fits Lwf a f h ft ind acc mag = fits_alone _ (omega arith) refl refl refl
 binary-fits Ltrs a f h ft ind acc mag = record { acc = acc; rm = tt; ft = tt; tr = mag }
@@ -137,17 +139,17 @@ codes_small f h is =
     let below : joined 4 (codes f h) < 2 ^ (4 * n) = joined-below 4 (codes f h) (codes-below (digit_bytes f h)) in
     omega arith
 
-placed_small : (f : Field) (h : Shape) → joined 4 (placed f h) < 2 ^ 128
-placed_small f h = omega (arith, joined-placed (place h) (digit_bytes f h))
+kept_small : (f : Field) (h : Shape) → joined 4 (codes_kept f h) < 2 ^ 128
+kept_small f h = omega (arith, joined-placed (place h) (digit_bytes f h))
 
 decimal_small : (t : ℕ) → joined 4 (lists.decimal 32 t) < 2 ^ 128
 decimal_small t = omega (arith, decimal_fits 32 t)
 
 pub decimal-fits : (op : VflOp) (a : Acc) (f : Field) (h : Shape) (ind : ℕ) → IsDecimalShape h → a.mag < 2 ^ 128
     → f.mag < 2 ^ 64 → FitsRegisters (decimal.result_of op a f h ind)
-unfolding decimal.loaded decimal.loaded_with_flags decimal.transit_set decimal.factor_set decimal.stored decimal.added decimal.magnitude_added decimal.added_to_field decimal.magnitude_added_to_field decimal.one_added_to_field decimal.compared decimal.field_compared decimal.compared_if_equal decimal.field_compared_if_equal decimal.range_compared decimal.field_range_compared decimal.converted binary.loaded
-decimal-fits L a f h ind is acc mag = fits_alone _ (placed_small f h) refl refl refl
-decimal-fits Lwf a f h ind is acc mag = fits_alone _ (placed_small f h) refl refl refl
+unfolding decimal.stored decimal.added decimal.magnitude_added decimal.added_to_field decimal.magnitude_added_to_field decimal.one_added_to_field decimal.converted
+decimal-fits L a f h ind is acc mag = fits_alone _ (kept_small f h) refl refl refl
+decimal-fits Lwf a f h ind is acc mag = fits_alone _ (kept_small f h) refl refl refl
 decimal-fits Ltrs a f h ind is acc mag = record { acc = acc; rm = tt; ft = tt; tr = codes_small f h is }
 decimal-fits Lft a f h ind is acc mag = record { acc = acc; rm = tt; ft = codes_small f h is; tr = tt }
 decimal-fits Add a f h ind is acc mag = fits_alone _ (decimal_small _) refl refl refl
@@ -175,12 +177,17 @@ result-fits true op a x h ft ind is acc fits = decimal-fits op a (field_of x h) 
 
 -- ---- connectives
 
-placed_bit : (acc offset r n i : ℕ) → placed_at acc offset r n i < 2
-placed_bit acc offset r n i =
+inserted_bit : (acc offset r n i : ℕ) → inserted_at acc offset r n i < 2
+inserted_bit acc offset r n i =
     of_choice (λ (x : ℕ). x < 2) (is_covered offset n i) _ _ (bit_at-lt r (i - offset)) (bit_at-lt acc i)
 
-pub put_by-fits : (kind : ConnKind) (a : Acc) (offset n r : ℕ) → a.mag < 2 ^ 128 → FitsRegisters (put_by kind a offset n r)
-unfolding placed_bits
-put_by-fits C a offset n r acc = fits_alone _ (num-by_weight (placed_at a.mag offset r n) 128 (placed_bit a.mag offset r n)) refl refl refl
-put_by-fits Cm a offset n r acc = fits_alone _ acc refl refl refl
-put_by-fits Ct a offset n r acc = fits_alone _ acc refl refl refl
+inserted_small : (acc offset r n : ℕ) → num (inserted acc offset r n) < 2 ^ 128
+unfolding inserted
+inserted_small acc offset r n = num-by_weight (inserted_at acc offset r n) 128 (inserted_bit acc offset r n)
+
+pub connection-fits : (kind : ConnKind) (table : ℕ) (a : Acc) (offset x n : ℕ) → a.mag < 2 ^ 128
+    → FitsRegisters (connection kind table a offset x n)
+connection-fits C table a offset x n acc =
+    fits_alone _ (inserted_small a.mag offset (num (connected table a.mag offset x n)) n) refl refl refl
+connection-fits Cm table a offset x n acc = fits_alone _ acc refl refl refl
+connection-fits Ct table a offset x n acc = fits_alone _ acc refl refl refl

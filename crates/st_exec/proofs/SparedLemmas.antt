@@ -19,17 +19,17 @@ use Rattle.st_format.specs.declared.instruction.Instr.TheVariants.{Half, Branch,
 use Rattle.st_format.specs.Operations.{writes_field}
 use Rattle.st_state.specs.Machine.{Machine, word, placed, stored}
 use Rattle.st_state.specs.Interrupts.{applied}
-use Rattle.st_bin.specs.declared.accumulator.Acc.{Acc}
+use Rattle.st_field.specs.declared.accumulator.Acc.{Acc}
 use Rattle.st_prep.specs.Entry.{no_words, one_run, field_words, is_index_store, writes, is_alone_branch, acts_alone}
 use Rattle.st_prep.specs.Ranges.{HasFields, AreInside}
-use Rattle.st_exec.specs.Outcome.{with_accumulator, with_register, with_registers, with_field, settled, operated, connects}
-use Rattle.st_exec.specs.declared.outcomes.Outcome.{Outcome}
-use Rattle.st_exec.specs.Deed.{index_deed, branch_deed, indicator_deed, deed_of, done}
+use Rattle.st_exec.specs.Outcome.{with_accumulator, with_register, with_registers, with_field, with_result, operated, connects}
+use Rattle.st_field.specs.declared.outcome.Done.{Done}
+use Rattle.st_exec.specs.Deed.{index_deed, branch_deed, indicator_deed, deed_of, carried_out}
 use Rattle.st_exec.specs.Ahead.{IsNotAmong}
 use Rattle.st_exec.specs.declared.deeds.Deed.{Deed}
-use Rattle.st_exec.specs.declared.deeds.Deed.TheVariants.{Rest, Put, Copy, Exchange, TurnOff, Enable, Wait, Give, Settle}
+use Rattle.st_exec.specs.declared.deeds.Deed.TheVariants.{Rest, Put, Copy, Exchange, TurnOff, Enable, Wait, Give, Leave}
 use Rattle.st_exec.proofs.ApartLemmas.{length-placed, word-placed}
-use Rattle.st_exec.proofs.FieldLemmas.{result-field, put_by-field}
+use Rattle.st_exec.proofs.FieldLemmas.{result-field, connection-field}
 use Rattle.st_exec.proofs.Unchanged.{stored-other}
 
 -- ---- which deeds
@@ -44,7 +44,7 @@ abbrev pub IsQuiet : Deed → Type 0
 IsQuiet Rest = Unit {0}
 IsQuiet (Put a n v) = Unit {0}
 IsQuiet (TurnOff k) = Unit {0}
-IsQuiet (Settle o a n) = Unit {0}
+IsQuiet (Leave o a n) = Unit {0}
 IsQuiet _ = ⊥
 
 -- and word i, unless it is one of the registers
@@ -52,7 +52,7 @@ abbrev pub Spares : Deed → ℕ → Type 0
 Spares Rest i = Unit {0}
 Spares (Put a n v) i = IsApart a n i
 Spares (TurnOff k) i = Unit {0}
-Spares (Settle o a n) i = IfSome o.done.field (λ _. IsApart a n i)
+Spares (Leave o a n) i = IfSome o.field (λ _. IsApart a n i)
 Spares _ i = ⊥
 
 -- ---- the deeds of operations that are not done alone
@@ -116,7 +116,7 @@ spares-deed (Floating n a x) e v t i fields calm h k = tt
 spares-deed (Vfl op d u n p l b o a x) e v t i fields calm h k =
     apart-left _ (writes_field (Variable op)) e l i fields.1.length_fits (result-field d op _ _ _ _ _) h k
 spares-deed (Connect kind table p l b o a x) e v t i fields calm h k =
-    apart-left _ (writes_field (Connective kind)) e l i fields.1.length_fits (put_by-field kind _ _ _ _) h k
+    apart-left _ (writes_field (Connective kind)) e l i fields.1.length_fits (connection-field kind _ _ _ _ _) h k
 spares-deed (Move swap a x second n) e v t i fields calm h k = absurd (cc)
 spares-deed (BitBranch sense change a x second) e v t i fields calm h k = absurd (cc)
 spares-deed (IndBranch sense off a x second) e v t i fields calm h k = spares-indicator off e i
@@ -188,30 +188,30 @@ marks-field : (f : Option ℕ) (a n : ℕ) (t : Machine) → HasMarks t (with_fi
 marks-field None a n t = marks-same t
 marks-field (Some v) a n t = marks-words t _ (length-placed t a (bits n v))
 
-pub marks-registers : (o : Outcome) (t : Machine) → HasMarks t (with_registers o t)
+pub marks-registers : (o : Done) (t : Machine) → HasMarks t (with_registers o t)
 unfolding with_registers
 marks-registers o t =
-    let a = with_accumulator o.done.acc t in
-    let r = with_register 13 o.done.rm a in
-    let f = with_register 14 o.done.ft r in
-    let x = with_register 15 o.done.tr f in
+    let a = with_accumulator o.acc t in
+    let r = with_register 13 o.rm a in
+    let f = with_register 14 o.ft r in
+    let x = with_register 15 o.tr f in
     marks-then t a (with_register 7 o.counts x)
     (marks-words t a.words (length-set _ 10 _ ∙ length-set _ 9 _ ∙ length-set t.words 8 _))
-    (marks-then a r (with_register 7 o.counts x) (marks-register 13 o.done.rm a)
-    (marks-then r f (with_register 7 o.counts x) (marks-register 14 o.done.ft r)
-    (marks-then f x (with_register 7 o.counts x) (marks-register 15 o.done.tr f) (marks-register 7 o.counts x))))
+    (marks-then a r (with_register 7 o.counts x) (marks-register 13 o.rm a)
+    (marks-then r f (with_register 7 o.counts x) (marks-register 14 o.ft r)
+    (marks-then f x (with_register 7 o.counts x) (marks-register 15 o.tr f) (marks-register 7 o.counts x))))
 
-marks-settled : (o : Outcome) (a n : ℕ) (t : Machine) → HasMarks t (settled o a n t)
-unfolding settled
-marks-settled o a n t =
+marks-with_result : (o : Done) (a n : ℕ) (t : Machine) → HasMarks t (with_result o a n t)
+unfolding with_result
+marks-with_result o a n t =
     let r = with_registers o t in
-    let u = applied o.done.ind r in
-    marks-then t r (with_field o.done.field a n u) (marks-registers o t)
-    (marks-then r u (with_field o.done.field a n u) (marks-words r u.words (length-set r.words 11 _))
-    (marks-field o.done.field a n u))
+    let u = applied o.ind r in
+    marks-then t r (with_field o.field a n u) (marks-registers o t)
+    (marks-then r u (with_field o.field a n u) (marks-words r u.words (length-set r.words 11 _))
+    (marks-field o.field a n u))
 
-pub marks-done : (d : Deed) (t : Machine) → IsQuiet d → HasMarks t (done d t)
-unfolding done
+pub marks-done : (d : Deed) (t : Machine) → IsQuiet d → HasMarks t (carried_out d t)
+unfolding carried_out
 marks-done Rest t k = marks-same t
 marks-done (Put a n v) t k = marks-words t _ (length-placed t a (bits n v))
 marks-done (Copy from to n) t k = absurd k
@@ -220,7 +220,7 @@ marks-done (TurnOff i) t k = marks-words t _ (length-set t.words 11 _)
 marks-done (Enable enabled) t k = absurd k
 marks-done Wait t k = absurd k
 marks-done (Give write order) t k = absurd k
-marks-done (Settle o a n) t k = marks-settled o a n t
+marks-done (Leave o a n) t k = marks-with_result o a n t
 
 -- ---- words
 
@@ -255,14 +255,14 @@ with_accumulator-keeps a t i k =
     ∙ stored-other u 9 (a.mag % 2 ^ 64) i (k.other 9 (omega arith) (omega arith) (omega arith))
     ∙ stored-other t 8 (a.mag / 2 ^ 64) i (k.other 8 (omega arith) (omega arith) (omega arith))
 
-with_registers-keeps : (o : Outcome) (t : Machine) (i : ℕ) → IsKept i → word (with_registers o t) i ≡ word t i
+with_registers-keeps : (o : Done) (t : Machine) (i : ℕ) → IsKept i → word (with_registers o t) i ≡ word t i
 unfolding with_registers
 with_registers-keeps o t i k =
     with_register-keeps 7 o.counts _ i (k.other 7 (omega arith) (omega arith) (omega arith))
-    ∙ with_register-keeps 15 o.done.tr _ i (k.other 15 (omega arith) (omega arith) (omega arith))
-    ∙ with_register-keeps 14 o.done.ft _ i (k.other 14 (omega arith) (omega arith) (omega arith))
-    ∙ with_register-keeps 13 o.done.rm _ i (k.other 13 (omega arith) (omega arith) (omega arith))
-    ∙ with_accumulator-keeps o.done.acc t i k
+    ∙ with_register-keeps 15 o.tr _ i (k.other 15 (omega arith) (omega arith) (omega arith))
+    ∙ with_register-keeps 14 o.ft _ i (k.other 14 (omega arith) (omega arith) (omega arith))
+    ∙ with_register-keeps 13 o.rm _ i (k.other 13 (omega arith) (omega arith) (omega arith))
+    ∙ with_accumulator-keeps o.acc t i k
 
 -- a word without a bit of what is put
 placed-keeps : (t : Machine) (a n v i x : ℕ) → length t.words ≡ words_of_storage → IsApart a n i → Stands t i x
@@ -289,20 +289,20 @@ with_field-keeps : (f : Option ℕ) (a n : ℕ) (t : Machine) (i x : ℕ) → le
 with_field-keeps None a n t i x size k h = h.is
 with_field-keeps (Some v) a n t i x size k h = placed-keeps t a n v i x size k h
 
-settled-keeps : (o : Outcome) (a n : ℕ) (t : Machine) (i x : ℕ) → length t.words ≡ words_of_storage → IsKept i
-    → IfSome o.done.field (λ _. IsApart a n i) → Stands t i x → word (settled o a n t) i ≡ x
-unfolding settled
-settled-keeps o a n t i x size kept k h =
+with_result-keeps : (o : Done) (a n : ℕ) (t : Machine) (i x : ℕ) → length t.words ≡ words_of_storage → IsKept i
+    → IfSome o.field (λ _. IsApart a n i) → Stands t i x → word (with_result o a n t) i ≡ x
+unfolding with_result
+with_result-keeps o a n t i x size kept k h =
     let r = with_registers o t in
-    let u = applied o.done.ind r in
+    let u = applied o.ind r in
     let same : word u i ≡ x =
     get_or-set_other r.words 11 i _ 0 (kept.other 11 (omega arith) (omega arith) (omega arith)) ∙ with_registers-keeps o t i kept ∙ h.is in
     let long : length u.words ≡ words_of_storage = length-set r.words 11 _ ∙ (marks-registers o t).size ∙ size in
-    with_field-keeps o.done.field a n u i x long k (record { is = same; below = h.below; fits = h.fits })
+    with_field-keeps o.field a n u i x long k (record { is = same; below = h.below; fits = h.fits })
 
 pub done-keeps : (d : Deed) (t : Machine) (i x : ℕ) → length t.words ≡ words_of_storage → IsKept i → Spares d i
-    → Stands t i x → word (done d t) i ≡ x
-unfolding done
+    → Stands t i x → word (carried_out d t) i ≡ x
+unfolding carried_out
 done-keeps Rest t i x size kept k h = h.is
 done-keeps (Put a n v) t i x size kept k h = placed-keeps t a n v i x size k h
 done-keeps (Copy from to n) t i x size kept k h = absurd k
@@ -312,4 +312,4 @@ done-keeps (TurnOff j) t i x size kept k h =
 done-keeps (Enable enabled) t i x size kept k h = absurd k
 done-keeps Wait t i x size kept k h = absurd k
 done-keeps (Give write order) t i x size kept k h = absurd k
-done-keeps (Settle o a n) t i x size kept k h = settled-keeps o a n t i x size kept k h
+done-keeps (Leave o a n) t i x size kept k h = with_result-keeps o a n t i x size kept k h

@@ -10,12 +10,12 @@ use Rattle.st_prep.specs.Plan.{opened}
 use Rattle.st_prep.specs.Ranges.{IsChange, IsPrepared}
 use Rattle.st_prep.proofs.Choices.{of_choice}
 use Rattle.st_exec.specs.Operand.{AreFirst, AreRead}
-use Rattle.st_exec.specs.Outcome.{with_register, with_registers, with_field, settled}
-use Rattle.st_exec.specs.declared.outcomes.Outcome.{Outcome}
-use Rattle.st_exec.specs.Deed.{copied, exchanged, with_order, given, deed, done}
+use Rattle.st_exec.specs.Outcome.{with_register, with_registers, with_field, with_result}
+use Rattle.st_field.specs.declared.outcome.Done.{Done}
+use Rattle.st_exec.specs.Deed.{copied, exchanged, with_order, given, deed, carried_out}
 use Rattle.st_exec.specs.Completion.{with_change, early, counter, counted, finished, completed}
 use Rattle.st_exec.specs.declared.deeds.Deed.{Deed}
-use Rattle.st_exec.specs.declared.deeds.Deed.TheVariants.{Rest, Put, Copy, Exchange, TurnOff, Enable, Wait, Give, Settle}
+use Rattle.st_exec.specs.declared.deeds.Deed.TheVariants.{Rest, Put, Copy, Exchange, TurnOff, Enable, Wait, Give, Leave}
 
 -- ---- the number done
 
@@ -53,24 +53,24 @@ with_register-done : (w : ℕ) (x : Option ℕ) (t : Machine) → (with_register
 with_register-done w None t = refl
 with_register-done w (Some x) t = refl
 
-with_registers-done : (o : Outcome) (t : Machine) → (with_registers o t).done ≡ t.done
+with_registers-done : (o : Done) (t : Machine) → (with_registers o t).done ≡ t.done
 unfolding with_registers
 with_registers-done o t =
     with_register-done 7 o.counts _
-    ∙ with_register-done 15 o.done.tr _
-    ∙ with_register-done 14 o.done.ft _
-    ∙ with_register-done 13 o.done.rm _
+    ∙ with_register-done 15 o.tr _
+    ∙ with_register-done 14 o.ft _
+    ∙ with_register-done 13 o.rm _
 
 with_field-done : (f : Option ℕ) (a n : ℕ) (t : Machine) → (with_field f a n t).done ≡ t.done
 with_field-done None a n t = refl
 with_field-done (Some x) a n t = refl
 
-settled-done : (o : Outcome) (a n : ℕ) (t : Machine) → (settled o a n t).done ≡ t.done
-unfolding settled
-settled-done o a n t = with_field-done o.done.field a n _ ∙ with_registers-done o t
+with_result-done : (o : Done) (a n : ℕ) (t : Machine) → (with_result o a n t).done ≡ t.done
+unfolding with_result
+with_result-done o a n t = with_field-done o.field a n _ ∙ with_registers-done o t
 
-pub done-done : (d : Deed) (t : Machine) → (done d t).done ≡ t.done
-unfolding done
+pub done-done : (d : Deed) (t : Machine) → (carried_out d t).done ≡ t.done
+unfolding carried_out
 done-done Rest t = refl
 done-done (Put a n v) t = refl
 done-done (Copy from to n) t = copied-done from to n t
@@ -79,10 +79,10 @@ done-done (TurnOff i) t = refl
 done-done (Enable enabled) t = refl
 done-done Wait t = refl
 done-done (Give write order) t = given-done write order t
-done-done (Settle outcome a n) t = settled-done outcome a n t
+done-done (Leave outcome a n) t = with_result-done outcome a n t
 
 finished-done : (b : Bool) (p : Prepared) (t : Machine)
-    → (if b then counted t p.following else counted (done (deed p t) t) (counter p t)).done ≡ t.done + 1
+    → (if b then counted t p.following else counted (carried_out (deed p t) t) (counter p t)).done ≡ t.done + 1
 finished-done true p t = refl
 finished-done false p t = ap (λ n. n + 1) (done-done (deed p t) t)
 

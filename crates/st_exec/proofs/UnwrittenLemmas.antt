@@ -19,11 +19,11 @@ use Rattle.st_prep.specs.Ranges.{HasFields, AreInside, IsPrepared}
 use Rattle.st_prep.proofs.Choices.{of_choice}
 use Rattle.st_prep.proofs.IndexWords.{are_index_words}
 use Rattle.st_prep.proofs.PlanLemmas.{is_machine-opened}
-use Rattle.st_exec.specs.Deed.{copied, exchanged, order_of, with_order, given, branch_deed, bit_deed, move_deed, deed_of, deed, done}
+use Rattle.st_exec.specs.Deed.{copied, exchanged, order_of, with_order, given, branch_deed, bit_deed, move_deed, deed_of, deed, carried_out}
 use Rattle.st_exec.specs.Completion.{early, counter, counted, finished, completed, guessed}
 use Rattle.st_exec.specs.Ahead.{IsNotAmong, IsPast}
 use Rattle.st_exec.specs.declared.deeds.Deed.{Deed}
-use Rattle.st_exec.specs.declared.deeds.Deed.TheVariants.{Rest, Put, Copy, Exchange, TurnOff, Enable, Wait, Give, Settle}
+use Rattle.st_exec.specs.declared.deeds.Deed.TheVariants.{Rest, Put, Copy, Exchange, TurnOff, Enable, Wait, Give, Leave}
 use Rattle.st_exec.proofs.AheadLemmas.{early-marks, early-index, index-at, length-index_words, length-words_after, completed-past}
 use Rattle.st_exec.proofs.MachineKept.{kept-early, kept-completed}
 use Rattle.st_exec.proofs.SparedLemmas.{IsApart, Spares, apart-word, spares-deed, kept-above, Stands, done-keeps}
@@ -79,7 +79,7 @@ SparesAbove (TurnOff k) i = Unit {0}
 SparesAbove (Enable enabled) i = Unit {0}
 SparesAbove Wait i = Unit {0}
 SparesAbove (Give write order) i = Unit {0}
-SparesAbove (Settle o a n) i = IfSome o.done.field (λ _. IsApart a n i)
+SparesAbove (Leave o a n) i = IfSome o.field (λ _. IsApart a n i)
 
 spared : (d : Deed) (i : ℕ) → Spares d i → SparesAbove d i
 spared Rest i h = tt
@@ -90,11 +90,11 @@ spared (TurnOff k) i h = tt
 spared (Enable enabled) i h = tt
 spared Wait i h = tt
 spared (Give write order) i h = tt
-spared (Settle o a n) i h = h
+spared (Leave o a n) i h = h
 
 done-above : (d : Deed) (t : Machine) (i x : ℕ) → length t.words ≡ words_of_storage → 32 ≤ i → SparesAbove d i
-    → Stands t i x → word (done d t) i ≡ x
-unfolding done
+    → Stands t i x → word (carried_out d t) i ≡ x
+unfolding carried_out
 done-above Rest t i x size above k h = h.is
 done-above (Put a n v) t i x size above k h = done-keeps (Put a n v) t i x size (kept-above i (omega arith)) k h
 done-above (Copy from to n) t i x size above k h = copied-other from to n t i k ∙ h.is
@@ -103,7 +103,7 @@ done-above (TurnOff j) t i x size above k h = get_or-set_other t.words 11 i _ 0 
 done-above (Enable enabled) t i x size above k h = h.is
 done-above Wait t i x size above k h = h.is
 done-above (Give write order) t i x size above k h = given-other write order t i (omega arith) ∙ h.is
-done-above (Settle o a n) t i x size above k h = done-keeps (Settle o a n) t i x size (kept-above i (omega arith)) k h
+done-above (Leave o a n) t i x size above k h = done-keeps (Leave o a n) t i x size (kept-above i (omega arith)) k h
 
 -- ---- the deed of each operation
 
@@ -152,7 +152,7 @@ above-deed (Invalid first second full) e v t i fields h k = tt
 
 finished-unwritten : (b : Bool) (p : Prepared) (t : Machine) (i x : ℕ) → p.suppressed ≡ b → IsPrepared p
     → length t.words ≡ words_of_storage → 32 ≤ i → IsNotAmong i p.writes → Stands t i x
-    → word (if b then counted t p.following else counted (done (deed p t) t) (counter p t)) i ≡ x
+    → word (if b then counted t p.following else counted (carried_out (deed p t) t) (counter p t)) i ≡ x
 finished-unwritten true p t i x e h size above k stands = stands.is
 finished-unwritten false p t i x e h size above k stands =
     let entry = h.entry e in

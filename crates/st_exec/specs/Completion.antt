@@ -10,7 +10,7 @@ use Rattle.st_prep.specs.declared.entries.IndexChange.{IndexChange}
 use Rattle.st_prep.specs.declared.entries.Prepared.{Prepared}
 use Rattle.st_prep.specs.Plan.{opened, plan}
 use Rattle.st_exec.specs.Operand.{field_at}
-use Rattle.st_exec.specs.Deed.{deed, done}
+use Rattle.st_exec.specs.Deed.{deed, carried_out}
 
 -- ---- before the operands are read
 
@@ -50,7 +50,7 @@ counted s h = record s { ic = h; done = s.done + 1 }
 unfoldable pub finished : Prepared → Machine → Machine
 finished p t =
     if p.suppressed then counted t p.following
-    else counted (done (deed p t) t) (counter p t)
+    else counted (carried_out (deed p t) t) (counter p t)
 
 -- an entry is completed; where it is a table instruction, its interrupt is taken first
 unfoldable pub completed : Prepared → Machine → Machine

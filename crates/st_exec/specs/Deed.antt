@@ -14,9 +14,9 @@ use Rattle.st_state.specs.Interrupts.{applied, signalled}
 use Rattle.st_state.specs.declared.devices.Order.{Order}
 use Rattle.st_prep.specs.declared.entries.Prepared.{Prepared}
 use Rattle.st_exec.specs.Operand.{field_at}
-use Rattle.st_exec.specs.Outcome.{shape_of, operated, connects, settled}
+use Rattle.st_exec.specs.Outcome.{shape_of, operated, connects, with_result}
 use Rattle.st_exec.specs.declared.deeds.Deed.{Deed}
-use Rattle.st_exec.specs.declared.deeds.Deed.TheVariants.{Rest, Put, Copy, Exchange, TurnOff, Enable, Wait, Give, Settle}
+use Rattle.st_exec.specs.declared.deeds.Deed.TheVariants.{Rest, Put, Copy, Exchange, TurnOff, Enable, Wait, Give, Leave}
 
 -- ---- the deed of each operation
 
@@ -63,9 +63,9 @@ deed_of (Half op address j i) e v t = index_deed op e v
 deed_of (Branch op address i) e v t = branch_deed op
 deed_of (Floating number address i) e v t = Rest
 deed_of (Vfl op d u n p length byte offset address i) e v t =
-    Settle (operated d op (shape_of u n length byte offset) p e t) e length
+    Leave (operated d op (shape_of u n length byte offset) p e t) e length
 deed_of (Connect kind table p length byte offset address i) e v t =
-    Settle (connects kind table p e offset length t) e length
+    Leave (connects kind table p e offset length t) e length
 deed_of (Move swap address i second count) e v t = move_deed swap (e / 64) (second / 2) count
 deed_of (BitBranch sense change address i second) e v t = bit_deed change e (field_at t e 1)
 deed_of (IndBranch sense off address i second) e v t = indicator_deed off e
@@ -103,16 +103,16 @@ abbrev pub given : Bool → Order → Machine → Machine
 given write order t =
     if is_some (order_of write t) then signalled t 8 else with_order write order t
 
-unfoldable pub done : Deed → Machine → Machine
-done Rest t = t
-done (Put a n v) t = placed t a (bits n v)
-done (Copy from to n) t = copied from to n t
-done (Exchange from to n) t = exchanged from to n t
-done (TurnOff i) t = applied (record { on = 0; off = indicator i }) t
-done (Enable enabled) t = record t { enabled = enabled }
-done Wait t = record t { enabled = true; waiting = true }
-done (Give write order) t = given write order t
-done (Settle outcome a n) t = settled outcome a n t
+unfoldable pub carried_out : Deed → Machine → Machine
+carried_out Rest t = t
+carried_out (Put a n v) t = placed t a (bits n v)
+carried_out (Copy from to n) t = copied from to n t
+carried_out (Exchange from to n) t = exchanged from to n t
+carried_out (TurnOff i) t = applied (record { on = 0; off = indicator i }) t
+carried_out (Enable enabled) t = record t { enabled = enabled }
+carried_out Wait t = record t { enabled = true; waiting = true }
+carried_out (Give write order) t = given write order t
+carried_out (Leave result a n) t = with_result result a n t
 
 -- ---- deeds that can be done
 
@@ -137,4 +137,4 @@ CanBeDone (TurnOff i) = i < 64
 CanBeDone (Enable enabled) = Unit {0}
 CanBeDone Wait = Unit {0}
 CanBeDone (Give write order) = HasArea (Some order)
-CanBeDone (Settle outcome a n) = IfSome outcome.done.field (IsField a n)
+CanBeDone (Leave result a n) = IfSome result.field (IsField a n)

@@ -2,7 +2,7 @@
 use Rattle.std.specs.Prelude.{ℕ, ◌≡◌, ◌+◌, ◌*◌, ◌<◌, ◌≤◌, ◌^◌, ◌==◌, List, slice_index, if◌then◌else◌}
 use Rattle.st_bits.specs.Bits.{all_bits, field, num, part}
 use Rattle.st_state.specs.Machine.{Machine, word}
-use Rattle.st_bin.specs.declared.accumulator.Acc.{Acc}
+use Rattle.st_field.specs.declared.accumulator.Acc.{Acc}
 use Rattle.st_bits.specs.declared.operations.VflOp.{VflOp}
 use Rattle.st_prep.specs.Entry.{no_words, operand_words, reads_field}
 use Rattle.st_prep.specs.declared.entries.Words.{Words}

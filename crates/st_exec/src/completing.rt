@@ -4,7 +4,6 @@ ghost use Rattle.st_prep.specs.Entry.{reads};
 ghost use Rattle.st_prep.specs.Plan.{plan};
 ghost use Rattle.st_prep.specs.Ranges.{IsPrepared, HasFields, AreInside};
 ghost use Rattle.st_exec.specs.Operand.{AreOperands, AreFirst, AreRead};
-ghost use Rattle.st_exec.specs.Deed.{done};
 ghost use Rattle.st_exec.specs.Completion.{is_taken as is_taken_of, target as target_of, counter as counter_of, counted, finished, completed, executed};
 
 use crate::deeds::deed_by;

@@ -9,9 +9,8 @@ ghost use Rattle.st_exec.specs.Deed.{index_deed as index_deed_of, branch_deed as
 
 use crate::fields::{connect_field, operate};
 use crate::operands::operand_field;
-use crate::outcomes::Outcome;
-use st_bin::Shape;
 use st_bits::{BranchOp, HalfOp};
+use st_field::{Done, Shape};
 use st_format::Instr;
 use st_state::{Order, State};
 
@@ -21,44 +20,21 @@ pub enum Deed {
     /// Nothing.
     Rest,
     /// The number `bits`, below 2^length, is put into the `length` bits, 1 to 64, from the bit address `at` on.
-    Put {
-        at: u32,
-        length: u8,
-        bits: u64,
-    },
+    Put { at: u32, length: u8, bits: u64 },
     /// `count` words from one word address on are copied to those from another on, one after the other.
-    Copy {
-        from: u32,
-        to: u32,
-        count: u8,
-    },
+    Copy { from: u32, to: u32, count: u8 },
     /// They are exchanged, one after the other.
-    Exchange {
-        from: u32,
-        to: u32,
-        count: u8,
-    },
+    Exchange { from: u32, to: u32, count: u8 },
     /// An indicator, 0 to 63, goes off.
-    TurnOff {
-        indicator: u8,
-    },
+    TurnOff { indicator: u8 },
     /// Interrupts are enabled, or disabled.
-    Enable {
-        enabled: bool,
-    },
+    Enable { enabled: bool },
     /// Interrupts are enabled, and the machine waits.
     Wait,
     /// The reader, or the printer where `write` says so, is given an order.
-    Give {
-        write: bool,
-        order: Order,
-    },
-    /// An operation on a field leaves its outcome in registers, indicators, and the field at the bit address `at`.
-    Settle {
-        outcome: Outcome,
-        at: u32,
-        length: u8,
-    },
+    Give { write: bool, order: Order },
+    /// An operation on a field leaves its result in registers, indicators, and the field at the bit address `at`.
+    Leave { left: Done, at: u32, length: u8 },
 }
 
 /// An index store puts `value`, an index word or a part of it, into the word or the half-word at the address `e`.
@@ -199,9 +175,9 @@ pub fn deed_by(instr: &Instr, e: u32, value: u64, operands: &[u64; 2], state: &S
                 negated,
                 offset,
             };
-            let outcome = operate(decimal, op, &shape, p, e, operands, state);
-            Deed::Settle {
-                outcome,
+            let left = operate(decimal, op, &shape, p, e, operands, state);
+            Deed::Leave {
+                left,
                 at: e,
                 length,
             }
@@ -214,9 +190,9 @@ pub fn deed_by(instr: &Instr, e: u32, value: u64, operands: &[u64; 2], state: &S
             offset,
             ..
         } => {
-            let outcome = connect_field(kind, table, p, e, offset, length, operands, state);
-            Deed::Settle {
-                outcome,
+            let left = connect_field(kind, table, p, e, offset, length, operands, state);
+            Deed::Leave {
+                left,
                 at: e,
                 length,
             }

@@ -1,17 +1,16 @@
 //! What a deed makes of a state.
 ghost use Rattle.std.specs.Prelude.{◌≡◌, ◌*◌, ◌<◌, IfSome};
-ghost use Rattle.st_bin.specs.declared.accumulator.Acc.{Acc};
+ghost use Rattle.st_field.specs.declared.accumulator.Acc.{Acc};
 ghost use Rattle.st_state.specs.Machine.{HasArea};
-ghost use Rattle.st_exec.specs.Outcome.{with_register, with_accumulator, with_registers, with_field, settled};
-ghost use Rattle.st_exec.specs.Deed.{IsField, CanBeDone, order_of as order_by, with_order, given, done};
+ghost use Rattle.st_exec.specs.Outcome.{with_register, with_accumulator, with_registers, with_field, with_result};
+ghost use Rattle.st_exec.specs.Deed.{IsField, CanBeDone, order_of as order_by, with_order, given, carried_out};
 
 use crate::deeds::Deed;
-use crate::outcomes::Outcome;
 use crate::transmission::{copy, exchange};
-use st_bin::Acc;
 use st_bits::indicators::CHANNEL_BUSY_REJECT;
 use st_bits::register::{COUNTS, FACTOR, LEFT_HALF, REMAINDER, RIGHT_HALF, SIGN_BYTE, TRANSIT};
 use st_bits::{Ind, indicator};
+use st_field::{Acc, Done};
 use st_state::{Order, State};
 
 /// The order that a device has: the printer where `write` says so.
@@ -66,14 +65,14 @@ fn put_accumulator(acc: &Acc, state: &mut State)
 
 /// Writes the registers.
 #[tactic(auto, unfolding(crate::specs::Outcome::with_registers))]
-fn put_registers(outcome: &Outcome, state: &mut State)
-    ensures { state.new ≡ with_registers outcome.now state.old }
+fn put_registers(left: &Done, state: &mut State)
+    ensures { state.new ≡ with_registers left.now state.old }
 {
-    put_accumulator(&outcome.done.acc, state);
-    put_register(REMAINDER, outcome.done.rm, state);
-    put_register(FACTOR, outcome.done.ft, state);
-    put_register(TRANSIT, outcome.done.tr, state);
-    put_register(COUNTS, outcome.counts, state);
+    put_accumulator(&left.acc, state);
+    put_register(REMAINDER, left.rm, state);
+    put_register(FACTOR, left.ft, state);
+    put_register(TRANSIT, left.tr, state);
+    put_register(COUNTS, left.counts, state);
 }
 
 /// Writes the `n` bits of the field at the bit address `a`, where it is written.
@@ -87,21 +86,21 @@ fn put_field(field: Option<u64>, a: u32, n: u8, state: &mut State)
 }
 
 /// Leaves what an operation on a field makes: registers and indicators first, and then the field.
-#[tactic(auto, unfolding(crate::specs::Outcome::settled))]
-fn settle(outcome: &Outcome, a: u32, n: u8, state: &mut State)
-    requires { IfSome outcome.now.done.field (IsField a n) }
-    ensures { state.new ≡ settled outcome.now a n state.old }
+#[tactic(auto, unfolding(crate::specs::Outcome::with_result))]
+fn leave(left: &Done, a: u32, n: u8, state: &mut State)
+    requires { IfSome left.now.field (IsField a n) }
+    ensures { state.new ≡ with_result left.now a n state.old }
 {
-    put_registers(outcome, state);
-    state.apply(outcome.done.ind);
-    put_field(outcome.done.field, a, n, state);
+    put_registers(left, state);
+    state.apply(left.ind);
+    put_field(left.field, a, n, state);
 }
 
 /// Does a deed.
-#[tactic(auto, unfolding(crate::specs::Deed::done))]
+#[tactic(auto, unfolding(crate::specs::Deed::carried_out))]
 pub fn carry_out(deed: &Deed, state: &mut State)
     requires { CanBeDone deed.now }
-    ensures { state.new ≡ done deed.now state.old }
+    ensures { state.new ≡ carried_out deed.now state.old }
 {
     match *deed {
         Deed::Rest => (),
@@ -118,10 +117,6 @@ pub fn carry_out(deed: &Deed, state: &mut State)
             state.waiting = true;
         }
         Deed::Give { write, order } => give(write, order, state),
-        Deed::Settle {
-            outcome,
-            at,
-            length,
-        } => settle(&outcome, at, length, state),
+        Deed::Leave { left, at, length } => leave(&left, at, length, state),
     }
 }

@@ -11,7 +11,6 @@ mod kept;
 mod laws;
 mod missed;
 mod operands;
-mod outcomes;
 mod overlap_laws;
 mod step;
 mod transfers;

@@ -9,11 +9,11 @@ use Rattle.std.specs.Char.{is_ascii_digit}
 use Rattle.st_bits.specs.Bits.{part}
 use Rattle.st_bits.specs.Registers.{fixed}
 use Rattle.st_bits.specs.Storage.{words_of_storage, words_of_storage_is}
-use Rattle.st_bin.specs.Digits.{value_of, digits_of}
+use Rattle.st_field.specs.Digits.{value_of, digits_of}
 use Rattle.st_dec.specs.DigitLists.{bytes, joined, value, decimal as digits}
 use Rattle.st_dec.proofs.DigitLemmas.{value_of-first, joined-decimal}
 use Rattle.st_conn.specs.Connective.{leading_zeros}
-use Rattle.st_exec.specs.Outcome.{counts_of}
+use Rattle.st_conn.specs.Connection.{counts_of}
 use Rattle.st_text.specs.Number.{is_number, value as text_value, value_after, good}
 use Rattle.st_card.specs.Controls.{card_number}
 use Rattle.st_card.specs.Limits.{is_part}

@@ -2,7 +2,7 @@
 use Rattle.std.proofs.Common.{lit<, ◌≡◌, ℕ, zero, suc, ◌/◌, ◌%◌, ◌^◌, ◌<◌, ◌≤◌, map, refl, arith}
 use Rattle.std.proofs.Math.Nat.{mod-eq_of_lt, pow-suc}
 use Rattle.std.proofs.lemmas.Nat.{mod-mul-add, div-mul-add}
-use Rattle.st_bin.proofs.DigitLemmas.{power_above_zero}
+use Rattle.st_field.proofs.DigitLemmas.{power_above_zero}
 use Rattle.st_asm.specs.Numbers.{packed}
 use Rattle.st_asm.proofs.FieldLemmas.{digit-below}
 use Rattle.st_dec.specs.DigitLists.{bytes, value, decimal}

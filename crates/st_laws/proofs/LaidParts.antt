@@ -3,9 +3,9 @@ use Rattle.std.proofs.Common.{◌≡◌, ℕ, ◌+◌, ◌-◌, ◌*◌, ◌^◌
 use Rattle.std.proofs.Math.Pow.{pow_pos}
 use Rattle.std.proofs.lemmas.Nat.{mod-mul-add, div-mul-add}
 use Rattle.st_asm.specs.Numbers.{sign_byte}
-use Rattle.st_bin.proofs.FieldLemmas.{each_byte}
-use Rattle.st_bin.specs.declared.fields.Shape.{Shape}
-use Rattle.st_bin.specs.BinaryOperand.{field_of, last_byte, sign_of, flags_of, zone_of}
+use Rattle.st_field.proofs.FieldLemmas.{each_byte}
+use Rattle.st_field.specs.declared.fields.Shape.{Shape}
+use Rattle.st_field.specs.Fields.{field_of, last_byte, sign_of, flags_of, zone_of}
 use Rattle.st_laws.specs.LaidNumbers.{IsRead}
 
 -- a minus has room in its byte

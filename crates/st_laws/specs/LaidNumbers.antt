@@ -3,9 +3,9 @@ use Rattle.std.specs.Prelude.{ℕ, ◌≡◌, Bool, true}
 use Rattle.st_strap.specs.declared.statement.Form.{Form}
 use Rattle.st_strap.specs.WellFormed.{IsNumberForm}
 use Rattle.st_asm.specs.Numbers.{holds, field_of as laid_bits}
-use Rattle.st_bin.specs.declared.fields.Field.{Field}
-use Rattle.st_bin.specs.declared.fields.Shape.{Shape}
-use Rattle.st_bin.specs.BinaryOperand.{field_of}
+use Rattle.st_field.specs.declared.fields.Field.{Field}
+use Rattle.st_field.specs.declared.fields.Shape.{Shape}
+use Rattle.st_field.specs.Fields.{field_of}
 
 -- a number with its sign for which a field of the form has room
 pub record IsHeld (form : Form) (minus : Bool) (number : ℕ) : Type 0 where

@@ -11,9 +11,9 @@ returns-clause-lost c =
     ∙ ap (λ k. ltb (count_leading_zeros 128 c.args.bits) k) c.from-2.ensures
     ∙ same_from_decides _ (is_one_lost c.args.offset c.args.bits)
     (Decides-room c.args.offset c.args.bits c.requires c.ranges.bits.fits)
-    (Decides-past c.args.offset c.args.bits c.requires c.ranges.bits.fits)
+    (Decides-past c.args.offset c.args.bits c.ranges.bits.fits)
 
 pub returns-clause-lost_where : goal.returns-clause-lost_where
 returns-clause-lost_where c =
     Decides-at _ _ (returns-clause-lost c)
-    (Decides-past c.args.offset c.args.bits c.requires c.ranges.bits.fits)
+    (Decides-past c.args.offset c.args.bits c.ranges.bits.fits)

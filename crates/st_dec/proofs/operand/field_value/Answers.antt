@@ -1,6 +1,6 @@
 use Rattle.std.proofs.Common.{◌≤◌, ◌<◌, ◌^◌, ◌∙◌, arith}
 use Rattle.std.proofs.Math.Pow.{pow_mono}
-use Rattle.st_bin.specs.BinaryOperand.{magnitude_bits}
+use Rattle.st_field.specs.Fields.{magnitude_bits}
 use Rattle.st_dec.specs.DecimalOperand.{digit_count}
 use Rattle.st_dec.proofs.ShapeLemmas.{count-few, magnitude-small}
 use Rattle.st_dec.proofs.PartLemmas.{value-codes, field_value-fits}

@@ -13,4 +13,4 @@ magnitude c =
     (bytes-decimal (digit_count c.args.shape.now) c.args.number.mag c.to_decimal-digits.result.0 digits)
 
 pub returns : goal.returns
-returns c = rw (c.in_field.ensures, magnitude c, c.flag_indicators.ensures.value, c.lost_carry.ensures.value, c.to_decimal-digits.ensures.lost, c.digit_count.ensures.value) refl
+returns c = rw (c.in_field.ensures, c.field_value.ensures.value, magnitude c, c.flag_indicators.ensures.value, c.lost_carry.ensures.value, c.to_decimal-digits.ensures.lost, c.digit_count.ensures.value) refl

@@ -34,26 +34,26 @@ returns-in-StoreCounter-clause-can c =
     inside-counter c.in-StoreCounter.address c.in-StoreCounter.i c.in-StoreCounter.second c.args.e c.args.value
     (rw c.in-StoreCounter.is at c.requires.written_inside) (rw c.in-StoreCounter.is at c.requires.part)
 
-pub operate-outcome-requires-clause-inside : goal.operate-outcome-requires-clause-inside
+pub operate-left-requires-clause-inside : goal.operate-left-requires-clause-inside
 unfolding reads
-operate-outcome-requires-clause-inside c = rw c.in-Vfl.is at c.requires.inside
+operate-left-requires-clause-inside c = rw c.in-Vfl.is at c.requires.inside
 
-pub operate-outcome-requires-clause-read : goal.operate-outcome-requires-clause-read
+pub operate-left-requires-clause-read : goal.operate-left-requires-clause-read
 unfolding reads
-operate-outcome-requires-clause-read c = rw c.in-Vfl.is at c.requires.read
+operate-left-requires-clause-read c = rw c.in-Vfl.is at c.requires.read
 
-pub operate-outcome-requires-clause-written : goal.operate-outcome-requires-clause-written
+pub operate-left-requires-clause-written : goal.operate-left-requires-clause-written
 unfolding writes
-operate-outcome-requires-clause-written c = rw c.in-Vfl.is at c.requires.written_inside
+operate-left-requires-clause-written c = rw c.in-Vfl.is at c.requires.written_inside
 
-pub connect_field-outcome-requires-clause-inside : goal.connect_field-outcome-requires-clause-inside
+pub connect_field-left-requires-clause-inside : goal.connect_field-left-requires-clause-inside
 unfolding reads
-connect_field-outcome-requires-clause-inside c = rw c.in-Connect.is at c.requires.inside
+connect_field-left-requires-clause-inside c = rw c.in-Connect.is at c.requires.inside
 
-pub connect_field-outcome-requires-clause-read : goal.connect_field-outcome-requires-clause-read
+pub connect_field-left-requires-clause-read : goal.connect_field-left-requires-clause-read
 unfolding reads
-connect_field-outcome-requires-clause-read c = rw c.in-Connect.is at c.requires.read
+connect_field-left-requires-clause-read c = rw c.in-Connect.is at c.requires.read
 
-pub connect_field-outcome-requires-clause-written : goal.connect_field-outcome-requires-clause-written
+pub connect_field-left-requires-clause-written : goal.connect_field-left-requires-clause-written
 unfolding writes
-connect_field-outcome-requires-clause-written c = rw c.in-Connect.is at c.requires.written_inside
+connect_field-left-requires-clause-written c = rw c.in-Connect.is at c.requires.written_inside

@@ -1,11 +1,11 @@
 use Rattle.std.proofs.Common.{sym, subst}
 use Rattle.st_format.specs.declared.operations.FullOp.TheVariants.{Connective}
 use Rattle.st_format.specs.Operations.{writes_field}
-use Rattle.st_exec.proofs.FieldLemmas.{OnlyIf, put_by-field, is_field-left}
+use Rattle.st_exec.proofs.FieldLemmas.{OnlyIf, connection-field, is_field-left}
 use Rattle.st_exec.proofs.fields.connect_field.Goals as goal
 
 pub returns-clause-field : goal.returns-clause-field
 returns-clause-field c =
     let b = writes_field (Connective c.args.kind) in
-    is_field-left c.put_by.result.field b c.args.e c.args.n c.requires.some c.requires.few c.put_by.ensures.field
-    (subst (OnlyIf b) (sym c.put_by.ensures.value) (put_by-field c.args.kind _ _ _ _)) c.requires.written
+    is_field-left c.connective.result.field b c.args.e c.args.n c.requires.some c.requires.few c.connective.ensures.field
+    (subst (OnlyIf b) (sym c.connective.ensures.done) (connection-field c.args.kind _ _ _ _ _)) c.requires.written

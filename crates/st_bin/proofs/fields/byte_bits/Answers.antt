@@ -1,9 +1,0 @@
-use Rattle.std.proofs.Common.{◌≡◌, ◌-◌, ◌/◌, ◌%◌, ◌^◌, rules}
-use Rattle.st_bin.specs.BinaryOperand.{sign_byte}
-use Rattle.st_bin.proofs.FieldLemmas.{sign_byte-cut}
-use Rattle.st_bin.proofs.fields.byte_bits.Goals as goal
-
-pub returns-clause-bound : goal.returns-clause-bound
-returns-clause-bound c =
-    let cut : c.from.result ≡ sign_byte (c.args.f.now.zone % 2 ^ (c.args.byte - 4)) c.args.f.now.negative c.args.f.now.flags / 2 ^ (4 - c.args.byte) = search rules in
-    rw cut (sign_byte-cut _ _ _ _ c.requires.flags c.requires.some c.requires.small)

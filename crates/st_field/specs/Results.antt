@@ -1,0 +1,89 @@
+-- What operations on fields have in common: their numbers, and what they leave.
+use Rattle.std.specs.Prelude.{ℕ, ◌+◌, ◌*◌, ◌%◌, ◌^◌, Bool, true, false, if◌then◌else◌, None, Some}
+use Rattle.st_bits.specs.declared.storage.Ind.{Ind}
+use Rattle.st_field.specs.declared.accumulator.Acc.{Acc}
+use Rattle.st_field.specs.declared.fields.Field.{Field}
+use Rattle.st_field.specs.declared.fields.Shape.{Shape}
+use Rattle.st_field.specs.declared.operand.Aligned.{Aligned}
+use Rattle.st_field.specs.declared.outcome.Done.{Done}
+use Rattle.st_field.specs.declared.signed.Signed.{Signed}
+use Rattle.st_field.specs.Indicators.{partial_field, flag_indicators, by_number}
+use Rattle.st_field.specs.Fields.{zone_of, sign_of, flags_of, sign_byte, field_bits}
+use Rattle.st_field.specs.Numbers.{exactly_one, exceeds}
+
+-- ---- numbers
+
+-- the sign of the accumulator
+abbrev pub is_minus : Acc → Bool
+is_minus a = sign_of a.sb
+
+-- the magnitude m with the sign of the accumulator, and with that of a field
+abbrev pub number_in : Acc → ℕ → Signed
+number_in a m = record { negative = is_minus a; mag = m }
+
+abbrev pub number_of_field : Field → ℕ → Signed
+number_of_field f m = record { negative = f.negative; mag = m }
+
+-- the operand, and what is added to a field: the same with that sign inverted, where the operation is negated
+abbrev pub operand : Field → Shape → ℕ → Signed
+operand f h m = record { negative = exactly_one f.negative h.negated; mag = m }
+
+abbrev pub addend : Acc → Shape → ℕ → Signed
+addend a h m = record { negative = exactly_one (is_minus a) h.negated; mag = m }
+
+-- the operand as a binary number at the offset, without what is lost past 128 bits
+abbrev pub aligned : Field → Shape → Aligned
+aligned f h = record {
+  bits = f.mag * 2 ^ h.offset % 2 ^ 128;
+  number = operand f h (f.mag * 2 ^ h.offset % 2 ^ 128);
+  on = flag_indicators f.flags + partial_field (exceeds (f.mag * 2 ^ h.offset) 128);
+}
+
+-- the accumulator with another magnitude and sign; zone and flags stay
+abbrev pub with_number : Acc → ℕ → Bool → Acc
+with_number a m minus = record { mag = m; sb = sign_byte (zone_of a.sb) minus (flags_of a.sb) }
+
+-- the field that the accumulator makes, with the magnitude m; an unsigned one has plus
+abbrev pub stored_field : Acc → Shape → ℕ → Field
+stored_field a h m = record {
+  mag = m;
+  negative = if h.unsigned then false else exactly_one (is_minus a) h.negated;
+  flags = flags_of a.sb;
+  zone = zone_of a.sb;
+}
+
+-- ---- what operations leave
+
+-- an operation that leaves the accumulator a and writes no field and no register
+abbrev pub done_with : Acc → Ind → Done
+done_with a ind = record { acc = a; field = None; rm = None; ft = None; tr = None; counts = None; ind = ind }
+
+-- the accumulator becomes a, whose value m is the result number
+abbrev pub in_accumulator : Acc → ℕ → ℕ → Done
+in_accumulator a m on = done_with a (by_number false (is_minus a) m on)
+
+-- the field becomes f, whose value m is the result number
+abbrev pub in_field : Acc → Field → Shape → ℕ → ℕ → Done
+in_field a f h m on =
+    record (done_with a (by_number true f.negative m on)) { field = Some (field_bits f h) }
+
+-- L: the operand, with no zone and no flags
+abbrev pub loaded : Aligned → Done
+loaded x =
+    in_accumulator (record { mag = x.bits; sb = sign_byte 0 x.number.negative 0 }) x.number.mag x.on
+
+-- LWF: the operand, with the zone and flags of its field
+abbrev pub loaded_with_flags : Field → Aligned → Done
+loaded_with_flags f x =
+    in_accumulator (record { mag = x.bits; sb = sign_byte f.zone x.number.negative f.flags }) x.number.mag x.on
+
+-- the operand n is the result number, and the accumulator stays
+abbrev pub operand_kept : Acc → Signed → ℕ → Done
+operand_kept a n on = done_with a (by_number false n.negative n.mag on)
+
+-- LTRS: the bits x of the field go to the transit register, and LFT: to the factor register
+abbrev pub transit_loaded : Acc → Signed → ℕ → ℕ → Done
+transit_loaded a n x on = record (operand_kept a n on) { tr = Some x }
+
+abbrev pub factor_loaded : Acc → Signed → ℕ → ℕ → Done
+factor_loaded a n x on = record (operand_kept a n on) { ft = Some x }

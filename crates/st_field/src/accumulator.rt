@@ -1,0 +1,60 @@
+//! The accumulator with its sign byte.
+ghost use Rattle.std.specs.Prelude.{◌≡◌, ◌<◌, ◌^◌};
+ghost use Rattle.st_field.specs.Fields.{HasRoom, magnitude_bits};
+ghost use Rattle.st_field.specs.Results.{number_in, with_number as with_number_of, addend as addend_of, stored_field as stored_field_of};
+
+use crate::fields::{Field, Shape, is_minus, sign_byte};
+use crate::signed::{Signed, exactly_one};
+
+/// The accumulator with its sign byte.
+#[derive(Clone, Copy, Debug, PartialEq, Eq)]
+pub struct Acc {
+    /// The 128 bits of the accumulator.
+    pub mag: u128,
+    /// The sign byte: zone in bits 0 to 3, sign in bit 4, flags T, U and V in bits 5 to 7; bit 0 is leftmost.
+    pub sb: u8,
+}
+
+/// The number with the sign of the accumulator and the magnitude `mag`.
+pub fn signed_as(acc: &Acc, mag: u128) -> Signed
+    ensures { result ≡ number_in acc.now mag }
+{
+    Signed {
+        negative: is_minus(acc.sb),
+        mag,
+    }
+}
+
+/// The accumulator with another number; zone and flags stay.
+pub fn with_number(acc: &Acc, number: Signed) -> Acc
+    ensures { result ≡ with_number_of acc.now number.mag number.negative }
+{
+    Acc {
+        mag: number.mag,
+        sb: sign_byte(acc.sb / 16, number.negative, acc.sb % 8),
+    }
+}
+
+/// What is added to a field: `mag` with the sign of the accumulator, inverted where the operation is negated.
+pub fn addend(acc: &Acc, shape: &Shape, mag: u128) -> Signed
+    ensures { result ≡ addend_of acc.now shape.now mag }
+{
+    Signed {
+        negative: exactly_one(is_minus(acc.sb), shape.negated),
+        mag,
+    }
+}
+
+/// The field that the accumulator makes, with the magnitude `mag`, which has room; an unsigned one has plus.
+pub fn stored_field(acc: &Acc, shape: &Shape, mag: u64) -> Field
+    requires { mag < 2 ^ magnitude_bits shape.now }
+    ensures value { result ≡ stored_field_of acc.now shape.now mag }
+    ensures room { HasRoom result shape.now }
+{
+    Field {
+        mag,
+        negative: !shape.unsigned && exactly_one(is_minus(acc.sb), shape.negated),
+        flags: acc.sb % 8,
+        zone: acc.sb / 16,
+    }
+}

@@ -1,0 +1,41 @@
+//! Comparisons of the accumulator with a field, of which the two sides are taken as numbers.
+ghost use Rattle.std.specs.Prelude.{◌≡◌, ◌<◌, ◌^◌};
+ghost use Rattle.st_field.specs.Comparisons.{compared, compared_if_equal, compared_for_range};
+
+use crate::accumulator::Acc;
+use crate::indicators::{by_order, by_order_if_equal, by_range};
+use crate::outcome::{Done, done_with};
+use std::cmp::Ordering;
+
+/// The two sides of a comparison.
+#[derive(Clone, Copy)]
+pub struct Compared {
+    /// How the side of the accumulator stands to the operand.
+    pub order: Ordering,
+    /// The indicators of the operand, below 2^63.
+    pub on: u64,
+}
+
+/// Compare: exactly one of AL, AE and AH comes on.
+pub fn compare(acc: &Acc, sides: Compared) -> Done
+    requires { sides.on < 2 ^ 63 }
+    ensures { result ≡ compared acc.now sides }
+{
+    done_with(acc, by_order(sides.order, sides.on))
+}
+
+/// Compare if equal: as `compare`, only where AE is on in `ind`.
+pub fn compare_if_equal(acc: &Acc, sides: Compared, ind: u64) -> Done
+    requires { sides.on < 2 ^ 63 }
+    ensures { result ≡ compared_if_equal acc.now sides ind }
+{
+    done_with(acc, by_order_if_equal(ind, sides.order, sides.on))
+}
+
+/// Compare for range: the operand is the upper end of a range; acts only where AL is off in `ind`.
+pub fn compare_for_range(acc: &Acc, sides: Compared, ind: u64) -> Done
+    requires { sides.on < 2 ^ 63 }
+    ensures { result ≡ compared_for_range acc.now sides ind }
+{
+    done_with(acc, by_range(ind, sides.order, sides.on))
+}

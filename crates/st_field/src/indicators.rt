@@ -1,0 +1,132 @@
+//! The indicators that an operation on a field sets, and what it turns on and off in the end.
+ghost use Rattle.std.specs.Prelude.{◌≡◌, ◌<◌, ◌≤◌, ◌^◌};
+ghost use Rattle.st_field.specs.Indicators.{flag_indicators as flag_indicators_of, number_indicators as number_indicators_of};
+ghost use Rattle.st_field.specs.Indicators.{by_number as by_number_of, without_number as without_number_of, by_order as by_order_of};
+ghost use Rattle.st_field.specs.Indicators.{by_order_if_equal as by_order_if_equal_of, by_range as by_range_of};
+ghost use Rattle.st_field.specs.Indicators.{lost_carry as lost_carry_of, partial_field as partial_field_of};
+
+use crate::signed::Signed;
+use st_bits::indicators::{
+    ACCUMULATOR_EQUAL, ACCUMULATOR_HIGH, ACCUMULATOR_LOW, FLAG_V, LOST_CARRY, PARTIAL_FIELD,
+    RESULT_GREATER, RESULT_LESS, RESULT_NEGATIVE, RESULT_ZERO, TO_MEMORY_OPERATION,
+};
+use st_bits::{Ind, indicator};
+use std::cmp::Ordering;
+
+// The bits of the indicators that several functions name.
+const TO_MEMORY: u64 = 1 << (63 - TO_MEMORY_OPERATION);
+
+const LESS: u64 = 1 << (63 - RESULT_LESS);
+
+const ZERO: u64 = 1 << (63 - RESULT_ZERO);
+
+const GREATER: u64 = 1 << (63 - RESULT_GREATER);
+
+const NEGATIVE: u64 = 1 << (63 - RESULT_NEGATIVE);
+
+const LOW: u64 = 1 << (63 - ACCUMULATOR_LOW);
+
+const EQUAL: u64 = 1 << (63 - ACCUMULATOR_EQUAL);
+
+const HIGH: u64 = 1 << (63 - ACCUMULATOR_HIGH);
+
+/// LC, where a carry is lost.
+pub fn lost_carry(is_lost: bool) -> u64
+    ensures value { result ≡ lost_carry_of is_lost }
+    ensures bound { result ≤ 2 ^ 41 }
+{
+    if is_lost { indicator(LOST_CARRY) } else { 0 }
+}
+
+/// PF, where a part of a field is lost.
+pub fn partial_field(is_lost: bool) -> u64
+    ensures value { result ≡ partial_field_of is_lost }
+    ensures bound { result ≤ 2 ^ 40 }
+{
+    if is_lost { indicator(PARTIAL_FIELD) } else { 0 }
+}
+
+/// TF, UF and VF, by the flags T, U and V.
+pub fn flag_indicators(flags: u8) -> u64
+    requires { flags < 8 }
+    ensures value { result ≡ flag_indicators_of flags }
+    ensures bound { result < 2 ^ 29 }
+{
+    u64::from(flags) << (63 - FLAG_V)
+}
+
+/// RLZ, RZ or RGZ, by a result number, and RN where its sign is minus.
+fn number_indicators(number: Signed) -> u64
+    ensures value { result ≡ number_indicators_of number.negative number.mag }
+    ensures bound { result < 2 ^ 8 }
+{
+    match (number.mag, number.negative) {
+        (0, false) => ZERO,
+        (0, true) => ZERO + NEGATIVE,
+        (_, false) => GREATER,
+        (_, true) => LESS + NEGATIVE,
+    }
+}
+
+/// What a result number turns on and off, together with the indicators `on`. `wrote` says that it stands in the field.
+pub fn by_number(wrote: bool, number: Signed, on: u64) -> Ind
+    requires { on < 2 ^ 63 }
+    ensures { result ≡ by_number_of wrote number.negative number.mag on }
+{
+    let memory = if wrote { TO_MEMORY } else { 0 };
+    Ind {
+        on: on + (memory + number_indicators(number)),
+        off: TO_MEMORY + LESS + ZERO + GREATER + NEGATIVE,
+    }
+}
+
+/// What an operation without a result number turns on and off, together with the indicators `on`.
+fn without_number(on: u64) -> Ind
+    ensures { result ≡ without_number_of on }
+{
+    Ind { on, off: TO_MEMORY }
+}
+
+/// What a comparison turns on and off, together with the indicators `on`: exactly one of AL, AE and AH is on after it.
+pub fn by_order(order: Ordering, on: u64) -> Ind
+    requires { on < 2 ^ 63 }
+    ensures { result ≡ by_order_of order on }
+{
+    let side = match order {
+        Ordering::Less => LOW,
+        Ordering::Equal => EQUAL,
+        Ordering::Greater => HIGH,
+    };
+    Ind {
+        on: on + side,
+        off: TO_MEMORY + LOW + EQUAL + HIGH,
+    }
+}
+
+/// The same, where the comparison acts only if AE is on in `ind`.
+pub fn by_order_if_equal(ind: u64, order: Ordering, on: u64) -> Ind
+    requires { on < 2 ^ 63 }
+    ensures { result ≡ by_order_if_equal_of ind order on }
+{
+    if ind / EQUAL % 2 == 1 {
+        by_order(order, on)
+    } else {
+        without_number(on)
+    }
+}
+
+/// What a comparison with the upper end of a range turns on and off, together with the indicators `on`. It acts only if
+/// AL is off in `ind`: AE is on after it where the accumulator is below that end, else AH.
+pub fn by_range(ind: u64, order: Ordering, on: u64) -> Ind
+    requires { on < 2 ^ 63 }
+    ensures { result ≡ by_range_of ind order on }
+{
+    if ind / LOW % 2 == 1 {
+        return without_number(on);
+    }
+    let side = if order == Ordering::Less { EQUAL } else { HIGH };
+    Ind {
+        on: on + side,
+        off: TO_MEMORY + EQUAL + HIGH,
+    }
+}

@@ -1,0 +1,25 @@
+//! Fields of storage, the accumulator, signed numbers and result indicators: what operations on fields have in common.
+//! `docs/variable-fields.md` has the rules.
+#![tactic(auto)]
+
+pub mod accumulator;
+mod comparisons;
+mod digits;
+pub mod fields;
+pub mod indicators;
+mod loads;
+pub mod operand;
+mod outcome;
+pub mod signed;
+
+pub use accumulator::Acc;
+pub use comparisons::{Compared, compare, compare_for_range, compare_if_equal};
+pub use digits::{digits_value, power_of_ten, to_digits};
+pub use fields::{Field, Shape, read_field, write_field};
+pub use loads::{load, load_factor, load_transit, load_with_flags};
+pub use operand::{Aligned, align, shift};
+pub use outcome::{Done, done_with, in_accumulator, in_field};
+pub use signed::Signed;
+
+#[cfg(test)]
+mod tests;

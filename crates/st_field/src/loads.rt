@@ -1,0 +1,60 @@
+//! Loads of the accumulator, of the factor register and of the transit register.
+ghost use Rattle.std.specs.Prelude.{◌≡◌, ◌<◌, ◌^◌};
+ghost use Rattle.st_field.specs.Results.{loaded, loaded_with_flags, transit_loaded, factor_loaded};
+
+use crate::accumulator::Acc;
+use crate::fields::{Field, sign_byte};
+use crate::indicators::by_number;
+use crate::operand::Aligned;
+use crate::outcome::{Done, done_with, in_accumulator};
+use crate::signed::Signed;
+
+/// Load: the aligned operand, with no zone and no flags.
+pub fn load(operand: Aligned) -> Done
+    requires { operand.on < 2 ^ 63 }
+    ensures { result ≡ loaded operand }
+{
+    let acc = Acc {
+        mag: operand.bits,
+        sb: sign_byte(0, operand.number.negative, 0),
+    };
+    in_accumulator(acc, operand.number.mag, operand.on)
+}
+
+/// Load with flags: the aligned operand, with the zone and flags of its field.
+pub fn load_with_flags(f: &Field, operand: Aligned) -> Done
+    requires zone { f.now.zone < 16 }
+    requires flags { f.now.flags < 8 }
+    requires few { operand.on < 2 ^ 63 }
+    ensures { result ≡ loaded_with_flags f.now operand }
+{
+    let acc = Acc {
+        mag: operand.bits,
+        sb: sign_byte(f.zone, operand.number.negative, f.flags),
+    };
+    in_accumulator(acc, operand.number.mag, operand.on)
+}
+
+/// Load transit and set: `bits`, which the field holds, go to the transit register. The operand is the result number; the
+/// indicators `on` go on too.
+pub fn load_transit(acc: &Acc, operand: Signed, bits: u64, on: u64) -> Done
+    requires { on < 2 ^ 63 }
+    ensures { result ≡ transit_loaded acc.now operand bits on }
+{
+    Done {
+        tr: Some(bits),
+        ..done_with(acc, by_number(false, operand, on))
+    }
+}
+
+/// Load factor: `bits`, which the field holds, go to the factor register. The operand is the result number; the
+/// indicators `on` go on too.
+pub fn load_factor(acc: &Acc, operand: Signed, bits: u64, on: u64) -> Done
+    requires { on < 2 ^ 63 }
+    ensures { result ≡ factor_loaded acc.now operand bits on }
+{
+    Done {
+        ft: Some(bits),
+        ..done_with(acc, by_number(false, operand, on))
+    }
+}

@@ -1,0 +1,69 @@
+//! What an operation on a field leaves.
+ghost use Rattle.std.specs.Prelude.{◌≡◌, ◌<◌, ◌^◌};
+ghost use Rattle.st_field.specs.Fields.{IsShape, HasRoom};
+ghost use Rattle.st_field.specs.Results.{done_with as done_with_of, in_accumulator as in_accumulator_of, in_field as in_field_of};
+
+use crate::accumulator::{Acc, signed_as};
+use crate::fields::{Field, Shape, write_field};
+use crate::indicators::by_number;
+use crate::signed::Signed;
+use st_bits::Ind;
+
+/// What an operation on a field leaves.
+#[derive(Clone, Copy, Debug, PartialEq, Eq)]
+pub struct Done {
+    /// The accumulator with its sign byte.
+    pub acc: Acc,
+    /// The bits of the field, where it is written.
+    pub field: Option<u64>,
+    /// The remainder register, where it changes.
+    pub rm: Option<u64>,
+    /// The factor register, where it changes.
+    pub ft: Option<u64>,
+    /// The transit register, where it changes.
+    pub tr: Option<u64>,
+    /// The counts of leading zeros and of ones, as they stand in their register, where they change.
+    pub counts: Option<u64>,
+    /// The indicators that go on and off.
+    pub ind: Ind,
+}
+
+/// The accumulator becomes `acc`, and no field and no register is written.
+pub fn done_with(acc: &Acc, ind: Ind) -> Done
+    ensures { result ≡ done_with_of acc.now ind }
+{
+    Done {
+        acc: *acc,
+        field: None,
+        rm: None,
+        ft: None,
+        tr: None,
+        counts: None,
+        ind,
+    }
+}
+
+/// The accumulator becomes `acc`, whose value `mag` is the result number; the indicators `on` go on too.
+pub fn in_accumulator(acc: Acc, mag: u128, on: u64) -> Done
+    requires { on < 2 ^ 63 }
+    ensures { result ≡ in_accumulator_of acc mag on }
+{
+    done_with(&acc, by_number(false, signed_as(&acc, mag), on))
+}
+
+/// The field becomes `f`, whose value `mag` is the result number; the indicators `on` go on too.
+pub fn in_field(acc: &Acc, f: &Field, shape: &Shape, mag: u64, on: u64) -> Done
+    requires shape { IsShape shape.now }
+    requires room { HasRoom f.now shape.now }
+    requires few { on < 2 ^ 63 }
+    ensures { result ≡ in_field_of acc.now f.now shape.now mag on }
+{
+    let number = Signed {
+        negative: f.negative,
+        mag: u128::from(mag),
+    };
+    Done {
+        field: Some(write_field(f, shape)),
+        ..done_with(acc, by_number(true, number, on))
+    }
+}
