@@ -2,6 +2,7 @@
 ghost use Rattle.std.specs.Prelude.{◌≡◌, ℕ, ◌+◌, ◌<◌, ◌≤◌, ◌^◌, true, Option, None, List, [], ◌++◌, length};
 ghost use Rattle.st_rows.specs.Asked.{following_asked};
 ghost use Rattle.st_rows.specs.Ranges.{IsEntry};
+ghost use Rattle.st_rows.specs.Rows.{wanted_from};
 ghost use Rattle.st_rows.specs.declared.front.Front.{Front as FrontOf};
 ghost use Rattle.st_port.specs.Parts.{runs_asked};
 
@@ -13,7 +14,7 @@ use st_banks::Delays;
 use st_next::{Next, Outlook};
 use st_port::Port;
 use st_prep::{Place, Prepared};
-use st_rows::{Bus, Entry, Past, rows_are_in_order};
+use st_rows::{Bus, Entry, Past, completions_are_bounded, rows_are_in_order};
 use st_segment::guesses_leave_the_rest;
 use st_state::State;
 
@@ -22,6 +23,7 @@ impl<const N: usize> Look<N> {
     ghost use Rattle.st_ahead.specs.Going.{IsGoing, Goes};
 
     /// The next entry is known as far as the tick `now` allows.
+    #[inline(always)]
     fn advance(&mut self, now: u64, state: &State, delays: &Delays)
         requires some { 1 ≤ N }
         requires few { N ≤ 8 }
@@ -33,16 +35,33 @@ impl<const N: usize> Look<N> {
         ensures levels { self.new.levels ≡ self.old.levels }
         ensures front { self.new.front ≡ self.old.front }
     {
-        next_entries_are_known();
-        open_levels_run_ahead();
-        rows_are_in_order();
-        let _few = self.levels.len();
         if self.next.planned {
             return;
         }
         if self.front.wanted_from() > now {
             return;
         }
+        self.advance_now(now, state, delays);
+    }
+
+    /// The same where its first word is wanted by now.
+    #[inline(never)]
+    fn advance_now(&mut self, now: u64, state: &State, delays: &Delays)
+        requires some { 1 ≤ N }
+        requires few { N ≤ 8 }
+        requires early { now < 2 ^ 63 }
+        requires going { Goes delays.now N now now state.now self.old }
+        requires wanted { wanted_from self.old.front ≤ now }
+        ensures going { (t : Option ℕ) (f : FrontOf) →
+            IsGoing delays.now N now now t state.now f self.old →
+            IsGoing delays.now N now (now + 1) t state.now f self.new }
+        ensures levels { self.new.levels ≡ self.old.levels }
+        ensures front { self.new.front ≡ self.old.front }
+    {
+        next_entries_are_known();
+        open_levels_run_ahead();
+        rows_are_in_order();
+        let _few = self.levels.len();
         let outlook = Outlook {
             tick: now,
             levels: N,
@@ -68,23 +87,24 @@ impl<const N: usize> Look<N> {
         planned_entries_become_levels();
         guesses_leave_the_rest();
         rows_are_in_order();
+        completions_are_bounded();
         delays.shape();
         let _few = self.levels.len();
-        let before = self.front;
         let mut x = *self.levels.index();
         let prepared = self.next.prepare(&mut x, state);
         let filled = self
             .front
-            .complete(delays, N, &self.next.entry, self.next.formed);
+            .fill(delays, N, &self.next.entry, &self.next.formed);
         ask_data(
             &mut self.port,
-            &before.past,
+            &self.front.past,
             &self.next.entry,
             &self.next.formed.bus,
             now,
         );
+        self.levels.push(prepared, &self.front, &filled, state);
+        self.front.pass(&self.next.entry, &filled);
         self.next.restart(place_behind(&prepared), &self.front);
-        self.levels.push(prepared, &before, &filled, state);
     }
 
     /// The next entry is known further, and becomes a level where this is its P. What is planned behind it is prepared later.

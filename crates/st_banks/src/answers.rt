@@ -44,9 +44,16 @@ impl LastAnswers {
     pub fn after(self, w: u32, tick: u64) -> LastAnswers
         ensures { result.ticks ≡ answered_at self.ticks w tick }
     {
-        let mut ticks = self.ticks;
-        ticks[bank_of(w)] = tick;
-        LastAnswers { ticks }
+        let mut after = self;
+        after.answer(w, tick);
+        after
+    }
+
+    /// A read of the word `w` is answered at `tick`.
+    pub fn answer(&mut self, w: u32, tick: u64)
+        ensures { self.new.ticks ≡ answered_at self.old.ticks w tick }
+    {
+        self.ticks[bank_of(w)] = tick;
     }
 }
 

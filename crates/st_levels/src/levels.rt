@@ -180,17 +180,19 @@ impl<const N: usize> Levels<N> {
             × AreAhead ds n tick None (guess t s) (after ds n f (entry t s)) last self.new }
     {
         let r = self.plans.get(0).r;
-        let level = self.ring.retire();
-        self.plans.drop_first();
+        let level = self.ring.oldest();
         let missed = missed(&level.prepared, state);
-        execute_level(&level, &mut self.operands, state);
+        execute_level(level, &mut self.operands, state);
         renew(&mut self.x, level.prepared.serial, state);
-        Completed {
+        let done = Completed {
             address: level.prepared.place.address,
             p: level.p,
             r,
             missed,
-        }
+        };
+        self.ring.drop_oldest();
+        self.plans.drop_first();
+        done
     }
 
     /// Puts the operand words that come at this tick into their slots, as they stand in the state.

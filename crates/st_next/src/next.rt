@@ -346,7 +346,7 @@ impl Next {
                 true
             }
             Given::Found(fetched) => {
-                self.plan(&fetched, outlook, state, delays, port);
+                self.plan(fetched, outlook, state, delays, port);
                 true
             }
         }
@@ -355,30 +355,36 @@ impl Next {
     /// Plans the entry, of which this is fetched.
     fn plan(
         &mut self,
-        fetched: &Fetched,
+        fetched: Fetched,
         outlook: &Outlook,
         state: &State,
         delays: &Delays,
         port: &mut Port,
     )
         requires place { IsPlace self.old.place }
-        requires fetched { IsFetched fetched.now }
+        requires fetched { IsFetched fetched }
         requires front { IsFront outlook.now.levels outlook.now.front.now }
         requires entry { IsEntry (entry_seen self.old.own self.old.target
-            (seen self.old.place fetched.now outlook.now.x.now state.now)) }
+            (seen self.old.place fetched outlook.now.x.now state.now)) }
         requires words { self.old.words
             ≡ words_so_far delays.now outlook.now.front.now self.old.own self.old.target }
         requires few { length port.old.reads < 40 }
         ensures next { IsPlannedAs delays.now outlook.now.levels outlook.now.front.now
-            (seen self.old.place fetched.now outlook.now.x.now state.now) self.old self.new }
+            (seen self.old.place fetched outlook.now.x.now state.now) self.old self.new }
         ensures reads { port.new.reads ≡ port.old.reads
             ++ side_asked outlook.now.front.now.past self.new.entry.side self.new.formed.a }
         ensures bus { port.new.bus ≡ port.old.bus }
     {
+        self.fetched = fetched;
         self.prepared.place = self.place;
-        self.needs = prepare_as(&mut self.prepared, fetched, outlook.x, state);
-        self.entry = entry_of(self.own, self.target, &self.needs, &self.prepared, fetched);
-        self.fetched = *fetched;
+        self.needs = prepare_as(&mut self.prepared, &self.fetched, outlook.x, state);
+        self.entry = entry_of(
+            self.own,
+            self.target,
+            &self.needs,
+            &self.prepared,
+            &self.fetched,
+        );
         let front = outlook.front;
         self.formed = front.form(delays, outlook.levels, &self.entry, self.words);
         self.planned = true;

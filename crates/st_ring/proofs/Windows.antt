@@ -93,3 +93,17 @@ module _ (k : ℕ) (xs : List Level) (start : k < 8) (eight : length xs ≡ 8) w
       get_or-drop 1 old i e ∙ (window-get k xs start eight n (1 + i) e few inside ∙ (ap (λ j. get_or xs j e) same
       ∙ sym (window-get ((k + 1) % 8) xs next eight (n - 1) i e (omega arith) (omega arith))))) in
       drop_more old 0 d (omega (arith, length_old)) ∙ ap₂ ◌∷◌ first tail
+
+-- the levels behind the oldest one
+pub window-dropped : (k : ℕ) (xs : List Level) → k < 8 → length xs ≡ 8 → (n : ℕ) → 0 < n → n ≤ 8
+    → drop 1 (window k n xs) ≡ window ((k + 1) % 8) (n - 1) xs
+window-dropped k [] start eight n some few = absurd (omega arith)
+window-dropped k (x ∷ xs) start eight n some few =
+    ap (λ (levels : List Level). drop 1 levels) (window-oldest k (x ∷ xs) start eight n x some few)
+
+-- the oldest level, and all behind it
+pub window-split : (k : ℕ) (xs : List Level) → k < 8 → length xs ≡ 8 → (n : ℕ) (d : Level) → 0 < n → n ≤ 8
+    → window k n xs ≡ get_or xs k d ∷ drop 1 (window k n xs)
+window-split k xs start eight n d some few =
+    window-oldest k xs start eight n d some few
+    ∙ ap (λ (levels : List Level). get_or xs k d ∷ levels) (sym (window-dropped k xs start eight n some few))

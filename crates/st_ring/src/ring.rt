@@ -1,5 +1,5 @@
 //! The levels of the look-ahead, oldest first.
-ghost use Rattle.std.specs.Prelude.{◌≡◌, ℕ, ◌+◌, ◌<◌, ◌≤◌, List, [], ◌∷◌, ◌++◌, length, slice_get, slice_set, MatchOption, IfSome, Some};
+ghost use Rattle.std.specs.Prelude.{◌≡◌, ℕ, ◌+◌, ◌<◌, ◌≤◌, List, [], ◌∷◌, ◌++◌, length, drop, slice_get, slice_set, MatchOption, IfSome, Some};
 ghost use Rattle.st_ring.specs.declared.level.Level.{Level as Row};
 ghost use Rattle.st_ring.specs.Levels.{HasNumber, filled as filled_of};
 ghost use Rattle.st_ring.specs.Unwinding.{made, Kept, put_back as put_back_of, unwound};
@@ -66,16 +66,34 @@ impl<const N: usize> SpecRing<N> {
         self.len += 1;
     }
 
+    /// The oldest level. There is one.
+    pub fn oldest(&self) -> &Level
+        requires { 0 < length self.now }
+        ensures level { self.now ≡ result.now ∷ drop 1 self.now }
+        ensures number { HasNumber result.now }
+    {
+        &self.slots[self.head]
+    }
+
     /// Takes away the oldest level. There is one.
+    pub fn drop_oldest(&mut self)
+        requires { 0 < length self.old }
+        ensures levels { self.new ≡ drop 1 self.old }
+        ensures len { length self.new + 1 ≡ length self.old }
+    {
+        self.head = (self.head + 1) % SLOTS;
+        self.len -= 1;
+    }
+
+    /// Takes away the oldest level, and gives it. There is one.
     pub fn retire(&mut self) -> Level
         requires { 0 < length self.old }
         ensures level { self.old ≡ result ∷ self.new }
         ensures len { length self.new + 1 ≡ length self.old }
         ensures number { HasNumber result }
     {
-        let oldest = self.slots[self.head];
-        self.head = (self.head + 1) % SLOTS;
-        self.len -= 1;
+        let oldest = *self.oldest();
+        self.drop_oldest();
         oldest
     }
 

@@ -1,7 +1,10 @@
 -- The latest writer of a word, looked for from the newest entry on.
-use Rattle.std.proofs.Common.{◌≡◌, ℕ, ◌+◌, ◌<◌, ◌≤◌, true, false, List, length, get_or, drop, refl, add-one, drop-cons}
+use Rattle.std.specs.Prelude.{◌&&◌, ◌||◌, nat_le, nat_lt}
+use Rattle.std.proofs.Common.{◌≡◌, ℕ, ◌+◌, ◌<◌, ◌≤◌, true, false, List, length, get_or, drop, refl, add-one, drop-cons, arith}
+use Rattle.std.proofs.lemmas.Bool.Decides.{nat_tests}
 use Rattle.std.proofs.lemmas.List.{drop_all}
-use Rattle.st_rows.specs.Entries.{is_among, latest_done}
+use Rattle.st_rows.specs.Entries.{is_in, is_among, latest_done}
+use Rattle.st_rows.specs.declared.entry.Runs.{Runs}
 use Rattle.st_rows.specs.declared.past.Past.{Past}
 
 module _ (past : List Past) (w i : ℕ) (d : Past) where
@@ -18,3 +21,11 @@ module _ (past : List Past) (w i : ℕ) (d : Past) where
 pub latest-none : (past : List Past) (w i : ℕ) → length past ≤ i → latest_done (drop i past) w ≡ 0
 unfolding latest_done
 latest-none past w i end = rw (drop_all i past end) refl
+
+-- runs without words have none
+none-in : (w first len : ℕ) → len ≡ 0 → (nat_le first w && nat_lt w (first + len)) ≡ false
+none-in w first len none = grind (arith, nat_tests)
+
+pub none-among : (w : ℕ) (runs : Runs) → runs.one.len ≡ 0 → runs.two.len ≡ 0 → false ≡ is_among w runs
+unfolding is_among is_in
+none-among w runs one two = rw (none-in w runs.one.first runs.one.len one, none-in w runs.two.first runs.two.len two) refl

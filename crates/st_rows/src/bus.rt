@@ -40,7 +40,7 @@ impl Bus {
     {
         let tick = self.banks.accept_tick(w, self.free, want);
         let answer = delays.answer(tick);
-        self.banks = self.banks.after(w, answer);
+        self.banks.answer(w, answer);
         self.free = tick + 1;
         answer
     }

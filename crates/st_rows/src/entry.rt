@@ -58,6 +58,9 @@ impl Runs {
     pub fn has(self, w: u32) -> bool
         ensures { result ≡ is_among w self }
     {
+        if self.one.len == 0 && self.two.len == 0 {
+            return false;
+        }
         self.one.has(w) || self.two.has(w)
     }
 }

@@ -1,9 +1,9 @@
 //! Fronts: what the row of the next entry is computed from.
-ghost use Rattle.std.specs.Prelude.{◌≡◌, ◌+◌, ◌*◌, ◌-◌, ◌<◌, ◌≤◌, ◌^◌, max, All};
+ghost use Rattle.std.specs.Prelude.{◌≡◌, ◌+◌, ◌*◌, ◌-◌, ◌<◌, ◌≤◌, ◌^◌, ℕ, max, All, List};
 ghost use Rattle.st_rows.specs.BusTimes.{requested};
 ghost use Rattle.st_rows.specs.Rows.{opening, wanted_from, fetched, addressed, bus_sided, side_there, prepared as prepared_of};
-ghost use Rattle.st_rows.specs.Rows.{operands_read, request_inside as request_inside_of, bus_followed, tick_a, bus_a, tick_p, row as row_of, after, fills_of, fills as fills_of_entry};
-ghost use Rattle.st_rows.specs.Ranges.{IsEntry, IsTight, IsBusWithin, IsFetchingWithin, ArePastWithin, IsReadable};
+ghost use Rattle.st_rows.specs.Rows.{operands_read, read_words, request_inside as request_inside_of, bus_followed, tick_a, bus_a, tick_p, row as row_of, after, fills_of, fills as fills_of_entry};
+ghost use Rattle.st_rows.specs.Ranges.{IsEntry, IsTight, IsBusWithin, IsFetchingWithin, IsReadingWithin, ArePastWithin, IsReadable};
 
 use crate::bus::Bus;
 use crate::entry::{Entry, Run};
@@ -57,6 +57,8 @@ pub struct Formed {
 /// An entry whose operands are there.
 #[derive(Clone, Copy, Debug, Default, PartialEq, Eq)]
 pub struct Filled {
+    /// The bus after all its reads.
+    pub bus: Bus,
     /// Its ticks.
     pub row: Row,
     /// When the first two words of its first run of operands are there, 0 where the run has no such word.
@@ -198,27 +200,60 @@ impl Front {
         ensures bound { self.new.c ≤ self.old.c + 16576 }
     {
         delays.shape();
-        let fills = fills(delays, &self.past, entry.reads.one, formed.bus, formed.p);
-        let operands = read_operands(delays, &self.past, entry, formed.bus, formed.p);
+        let filled = self.fill(delays, levels, entry, &formed);
+        self.pass(entry, &filled);
+        filled
+    }
+
+    /// The operand words of the next entry are read, whose address is formed as `form` says, and its following words are asked for; the front
+    /// stays before it.
+    pub fn fill(&self, delays: &Delays, levels: usize, entry: &Entry, formed: &Formed) -> Filled
+        requires entry { IsEntry entry.now }
+        requires tight { IsTight 255 self.now }
+        requires early { self.now.c ≤ 2 ^ 63 + 2 ^ 20 }
+        requires levels { (1 ≤ levels) × (levels ≤ 8) }
+        requires address { formed.now.a ≡ tick_a delays.now self.now entry.now }
+        requires bus { formed.now.bus ≡ bus_a delays.now self.now entry.now }
+        requires tick { formed.now.p ≡ tick_p delays.now levels self.now entry.now }
+        ensures value { result.row ≡ row_of delays.now levels self.now entry.now }
+        ensures fills { result.fills ≡ fills_of_entry delays.now levels self.now entry.now }
+        ensures bus { result.bus ≡ (after delays.now levels self.now entry.now).bus }
+    {
+        delays.shape();
+        let mut operands = Reading {
+            bus: formed.bus,
+            answered: formed.p,
+        };
+        let fills = read_operands(&mut operands, delays, &self.past, entry, formed.p);
         let c = self.c.max(operands.answered) + u64::from(entry.cost);
-        self.bus = follow(operands.bus, delays, entry, formed.p);
-        self.p = formed.p;
-        self.c = c;
-        self.serial = entry.serial;
-        self.past = with_newest(
-            self.past,
-            Past {
-                c,
-                writes: entry.writes,
-            },
-        );
         let row = Row {
             a: formed.a,
             p: formed.p,
             r: operands.answered,
             c,
         };
-        Filled { row, fills }
+        let mut bus = operands.bus;
+        follow(&mut bus, delays, entry, formed.p);
+        Filled { bus, row, fills }
+    }
+
+    /// Goes on behind the next entry, whose operands are there as `fill` says.
+    pub fn pass(&mut self, entry: &Entry, filled: &Filled)
+        ensures { (ds : List ℕ) (n : ℕ) → filled.now.row ≡ row_of ds n self.old entry.now →
+            filled.now.bus ≡ (after ds n self.old entry.now).bus →
+            self.new ≡ after ds n self.old entry.now }
+    {
+        self.bus = filled.bus;
+        self.p = filled.row.p;
+        self.c = filled.row.c;
+        self.serial = entry.serial;
+        self.past = with_newest(
+            self.past,
+            Past {
+                c: filled.row.c,
+                writes: entry.writes,
+            },
+        );
     }
 }
 
@@ -254,59 +289,73 @@ fn prepared_at(levels: usize, past: &[Past; 8], a: u64, y: u64) -> u64
     a.max(y).max(past[levels - 1].c) + 1
 }
 
-/// The operand words are read of an entry that is prepared at `p`.
+/// The operand words are read of an entry that is prepared at `p`. The result says when the first two of its first run are there, 0 where
+/// that has no such word.
 #[tactic(auto, unfolding(crate::specs::Rows::operands_read))]
-fn read_operands(delays: &Delays, past: &[Past; 8], entry: &Entry, bus: Bus, p: u64) -> Reading
+fn read_operands(
+    operands: &mut Reading,
+    delays: &Delays,
+    past: &[Past; 8],
+    entry: &Entry,
+    p: u64,
+) -> [u64; 2]
     requires entry { IsEntry entry.now }
     requires before { ArePastWithin (2 ^ 64 - 2 ^ 17) past.now }
-    requires room { IsBusWithin (2 ^ 64 - 2 ^ 17) bus }
+    requires room { IsBusWithin (2 ^ 64 - 2 ^ 17) operands.old.bus }
     requires early { p ≤ 2 ^ 64 - 2 ^ 17 }
-    ensures { result ≡ operands_read delays.now past.now bus entry.now.reads p }
+    requires start { operands.old.answered ≡ p }
+    ensures value { operands.new ≡ operands_read delays.now past.now operands.old.bus entry.now.reads p }
+    ensures fills { result ≡ fills_of delays.now past.now operands.old.bus entry.now.reads.one p }
 {
     delays.shape();
-    let mut operands = Reading { bus, answered: p };
-    operands.words(delays, past, entry.reads.one, p);
+    let fills = read_run(operands, delays, past, entry.reads.one, p);
     operands.words(delays, past, entry.reads.two, p);
-    operands
+    fills
 }
 
-/// When the first two words of a run of operands are there, of an entry that is prepared at `p`; 0 where there is no such word.
+/// The words of a run of operands are read. The result says when the first two are there, 0 where there is no such word.
 #[tactic(auto, unfolding(crate::specs::Rows::fills_of))]
-fn fills(delays: &Delays, past: &[Past; 8], run: Run, bus: Bus, p: u64) -> [u64; 2]
+fn read_run(operands: &mut Reading, delays: &Delays, past: &[Past; 8], run: Run, p: u64) -> [u64; 2]
     requires words { IsReadable run }
+    requires few { run.len ≤ 16 }
     requires before { ArePastWithin (2 ^ 64 - 2 ^ 17) past.now }
-    requires room { IsBusWithin (2 ^ 64 - 2 ^ 17) bus }
+    requires room { IsReadingWithin (2 ^ 64 - 2 ^ 17) operands.old }
     requires early { p ≤ 2 ^ 64 - 2 ^ 17 }
-    ensures { result ≡ fills_of delays.now past.now bus run p }
+    requires start { operands.old.answered ≡ p }
+    ensures value { operands.new ≡ read_words delays.now past.now operands.old p run.first run.len }
+    ensures fills { result ≡ fills_of delays.now past.now operands.old.bus run p }
 {
     delays.shape();
     if run.len == 0 {
         return [0, 0];
     }
-    let mut operands = Reading { bus, answered: p };
     let first = operands.word(delays, past, run.first, p);
     if run.len == 1 {
         return [first, 0];
     }
-    [first, operands.word(delays, past, run.first + 1, p)]
+    let second = operands.word(delays, past, run.first + 1, p);
+    let behind = Run {
+        first: run.first + 2,
+        len: run.len - 2,
+    };
+    operands.words(delays, past, behind, p);
+    [first, second]
 }
 
 /// The bus after the following words of an entry that is prepared at `p`.
 #[tactic(auto, unfolding(crate::specs::Rows::bus_followed))]
-fn follow(bus: Bus, delays: &Delays, entry: &Entry, p: u64) -> Bus
+fn follow(bus: &mut Bus, delays: &Delays, entry: &Entry, p: u64)
     requires entry { IsEntry entry.now }
-    requires room { IsBusWithin (2 ^ 64 - 1024) bus }
+    requires room { IsBusWithin (2 ^ 64 - 1024) bus.old }
     requires early { p ≤ 2 ^ 64 - 1024 }
-    ensures { result ≡ bus_followed delays.now bus entry.now p }
+    ensures { bus.new ≡ bus_followed delays.now bus.old entry.now p }
 {
     delays.shape();
-    let mut bus = bus;
     if entry.follows {
         let w = entry.own.first + u32::from(entry.own.len);
-        request_inside(&mut bus, delays, w, p);
-        request_inside(&mut bus, delays, w + 1, p);
+        request_inside(bus, delays, w, p);
+        request_inside(bus, delays, w + 1, p);
     }
-    bus
 }
 
 /// Asks for the word `w`, if it is a word of storage.

@@ -17,4 +17,4 @@ pub request_inside-requires-then-entry-clause-room : goal.request_inside-require
 request_inside-requires-then-entry-clause-room c =
     rw c.request_inside.ensures
     (request_inside-within 255 c.args.delays.now (AreDelays-list c.args.delays.now c.shape.ensures) (2 ^ 64 - 1024) (2 ^ 64 - 512) (omega arith)
-    c.args.bus _ c.args.p c.requires.room c.requires.early)
+    c.args.bus.now _ c.args.p c.requires.room c.requires.early)

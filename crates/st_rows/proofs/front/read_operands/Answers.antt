@@ -5,11 +5,11 @@ use Rattle.st_rows.proofs.Stages.{read_sixteen-within}
 use Rattle.st_rows.proofs.front.read_operands.Goals as goal
 
 -- behind the first run
-pub words-requires-2-clause-room : goal.words-requires-2-clause-room
-words-requires-2-clause-room c =
+pub words-requires-clause-room : goal.words-requires-clause-room
+words-requires-clause-room c =
     let m = 2 ^ 64 - 2 ^ 17 in
-    let start : IsReadingWithin m (record { bus = c.args.bus; answered = c.args.p }) = record { bus = c.requires.room; answered = c.requires.early } in
-    rw c.words.ensures
+    let start : IsReadingWithin m c.args.operands.now = record { bus = c.requires.room; answered = omega (arith, c.requires.start, c.requires.early) } in
+    rw c.read_run-fills.ensures.value
     (reading-weaker (m + 16 * 256) (2 ^ 64 - 2 ^ 16) _ (omega arith)
     (read_sixteen-within 255 c.args.delays.now (AreDelays-list c.args.delays.now c.shape.ensures) c.args.past.now c.args.p
     c.args.entry.now.reads.one.first c.args.entry.now.reads.one.len m _ c.requires.entry.one_few start c.requires.early))

@@ -1,9 +1,7 @@
 use Rattle.std.proofs.Common.{◌≡◌, ℕ, ◌+◌, true, List, sym, subst, arith}
-use Rattle.st_next.specs.Progress.{IsKnown}
-use Rattle.st_next.specs.Going.{GoesOn}
-use Rattle.st_ahead.specs.Look.{LookView, is_open}
+use Rattle.st_ahead.specs.Look.{LookView}
 use Rattle.st_ahead.specs.Going.{IsGoing}
-use Rattle.st_ahead.proofs.Further.{going-planned, going-waits, going-open, known, known-further}
+use Rattle.st_ahead.proofs.Further.{going-planned, going-waits}
 use Rattle.st_ahead.proofs.look.Look.advance.Goals as goal
 
 pub returns-then-self-clause-going : goal.returns-then-self-clause-going
@@ -27,39 +25,3 @@ returns-then-wanted_from-now-clause-going g c = λ t f given.
     let is = subst (λ (w : LookView). IsGoing ds n now now t s f w) (sym c.self.view_is) given in
     subst (λ (w : LookView). IsGoing ds n now (now + 1) t s f w) c.self.view_is
     (going-waits ds n now t s f view (omega (arith, c.wanted_from.ensures, c.if-wanted_from-now.true)) is)
-
-pub advance-requires-clause-known : goal.advance-requires-clause-known
-advance-requires-clause-known g c =
-    let ds = c.args.delays.now in
-    let n = g.row.N in
-    let now = c.args.now in
-    let t = c.requires.going.table in
-    let s = c.args.state.now in
-    let f = c.requires.going.front in
-    let view : LookView = record { levels = c.self.inside.levels; front = c.self.inside.front; port = c.self.inside.port; next = c.self.inside.next } in
-    let is = subst (λ (w : LookView). IsGoing ds n now now t s f w) (sym c.self.view_is) c.requires.going.going in
-    let opened : is_open view ≡ true =
-    going-open ds n now now (λ h e range. (c.rows_are_in_order.ensures.done ds n h e range).1) t s f view is
-    (omega (arith, c.wanted_from.ensures, c.if-wanted_from-now.false)) in
-    let run = c.open_levels_run_ahead.ensures ds n now t s f view is.ahead is.prepared is.not_done opened in
-    let before = c.next_entries_are_known.ensures ds n now t s f view is.machine is.indicator is.ahead is.not_done
-    (omega (arith, c.len-few.ensures.value, c.len-few.ensures.within, c.requires.few)) run in
-    subst (λ (x : List ℕ). IsKnown ds n now view.front x s view.next) (sym c.index.ensures) (known ds n now t s f view is opened before)
-
-pub returns-clause-going : goal.returns-clause-going
-returns-clause-going g c = λ t f given.
-    let ds = c.args.delays.now in
-    let n = g.row.N in
-    let now = c.args.now in
-    let s = c.args.state.now in
-    let view : LookView = record { levels = c.self.inside.levels; front = c.self.inside.front; port = c.self.inside.port; next = c.self.inside.next } in
-    let is = subst (λ (w : LookView). IsGoing ds n now now t s f w) (sym c.self.view_is) given in
-    let opened : is_open view ≡ true =
-    going-open ds n now now (λ h e range. (c.rows_are_in_order.ensures.done ds n h e range).1) t s f view is
-    (omega (arith, c.wanted_from.ensures, c.if-wanted_from-now.false)) in
-    let run = c.open_levels_run_ahead.ensures ds n now t s f view is.ahead is.prepared is.not_done opened in
-    let before = c.next_entries_are_known.ensures ds n now t s f view is.machine is.indicator is.ahead is.not_done
-    (omega (arith, c.len-few.ensures.value, c.len-few.ensures.within, c.requires.few)) run in
-    let goes = subst (λ (x : List ℕ). GoesOn ds n now view.front x s view.next c.advance.new.self (now + 1)) c.index.ensures c.advance.ensures.next in
-    known-further ds n now t s f view c.advance.new.self c.advance.new.port (λ h e. c.rows_are_in_order.ensures.prepared ds n h e) opened before
-    goes c.advance.ensures.reads c.advance.ensures.bus c.advance.ensures.few c.advance.ensures.planned c.advance.ensures.same is

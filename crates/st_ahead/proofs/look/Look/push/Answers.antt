@@ -1,5 +1,6 @@
 use Rattle.std.proofs.Common.{◌≡◌, ℕ, ◌+◌, ◌<◌, ◌≤◌, true, List, refl, sym, subst, ◌∙◌, ap, arith}
 use Rattle.st_prep.specs.Plan.{plan}
+use Rattle.st_rows.specs.Ranges.{IsTight}
 use Rattle.st_rows.specs.Rows.{row, after, fills}
 use Rattle.st_rows.specs.declared.entry.Entry.{Entry}
 use Rattle.st_rows.specs.declared.front.Front.{Front}
@@ -29,7 +30,7 @@ returns-clause-prepared g c =
     let due : view.next.formed.p ≡ now = ap (λ (w : LookView). w.next.formed.p) c.self.view_is ∙ c.requires.due in
     let becomes = c.planned_entries_become_levels.ensures ds n now t s f view c.requires.some c.requires.few
     (AreDelays-list ds c.shape.ensures) (omega (arith, c.len-few.ensures.value, c.len-few.ensures.within)) c.requires.early is planned due in
-    ap (λ (x : Front). x.p) c.complete-filled.ensures.after ∙ after-p ds n view.front view.next.entry ∙ sym becomes.tick ∙ due
+    ap (λ (x : Front). x.p) (c.pass.ensures ds n c.fill-filled.ensures.value c.fill-filled.ensures.bus) ∙ after-p ds n view.front view.next.entry ∙ sym becomes.tick ∙ due
 
 pub returns-clause-going : goal.returns-clause-going
 returns-clause-going g c = λ t f given.
@@ -47,24 +48,26 @@ returns-clause-going g c = λ t f given.
     let k = table_behind (count view) t in
     let u = guesses (count view) t s in
     let x = view.next.entry in
-    let new : LookView = record { levels = c.push.new.self; front = c.complete-filled.new.self; port = c.ask_data.new.port; next = c.restart.new.self } in
-    let filled = c.complete-filled.result in
+    let new : LookView = record { levels = c.push.new.self; front = c.pass.new.self; port = c.ask_data.new.port; next = c.restart.new.self } in
+    let filled = c.fill-filled.result in
     let same : x ≡ entry k u = becomes.same in
     let serial : (entry k u).serial ≡ true → u ≡ s = λ alone. becomes.alone (ap (λ (e : Entry). e.serial) same ∙ alone) in
     let before = subst (λ (words : List ℕ). IsBefore now view.front.past words s u) (sym c.index.ensures) becomes.before in
     let plan_is : c.prepare-prepared.result ≡ plan u k =
     c.prepare-prepared.ensures.value ds n now view.front k u becomes.indicator before becomes.is_next (sym due) serial in
-    let row_is : filled.row ≡ row ds n view.front x = c.complete-filled.ensures.value in
+    let row_is : filled.row ≡ row ds n view.front x = c.fill-filled.ensures.value in
     let p_is : filled.row.p ≡ now = ap (λ (r : Row). r.p) row_is ∙ row-p ds n view.front x ∙ sym becomes.tick ∙ due in
     let ready : (row ds n view.front x).p ≤ (row ds n view.front x).r = c.rows_are_in_order.ensures.ready ds n view.front x in
     let done : (row ds n view.front x).r < (row ds n view.front x).c = (c.rows_are_in_order.ensures.done ds n view.front x becomes.range).0 in
     let late : now < filled.row.c = omega (arith, ready, done, p_is, ap (λ (r : Row). r.p) row_is, ap (λ (r : Row). r.c) row_is) in
-    let front : new.front ≡ after ds n view.front x = c.complete-filled.ensures.after in
+    let front : new.front ≡ after ds n view.front x = c.pass.ensures ds n c.fill-filled.ensures.value c.fill-filled.ensures.bus in
+    let tight = subst (λ (h : Front). IsTight 255 h) (sym front) (c.completions_are_bounded.ensures.tight 255 n ds view.front x are becomes.range is.tight) in
+    let bound : new.front.c ≤ view.front.c + 16576 = omega (arith, ap (λ (h : Front). h.c) front, c.completions_are_bounded.ensures.bound 255 n ds view.front x are becomes.range is.tight) in
     let pushed = c.push.ensures.ahead ds n now 255 t s f view.front are is.machine is.indicator is.ahead becomes.run refl (sym p_is) plan_is
-    (row_is ∙ ap (row ds n view.front) same) (c.complete-filled.ensures.fills ∙ ap (fills ds n view.front) same) (λ alone. sym (serial alone)) in
+    (row_is ∙ ap (row ds n view.front) same) (c.fill-filled.ensures.fills ∙ ap (fills ds n view.front) same) (λ alone. sym (serial alone)) in
     let ahead = subst (λ (h : Front). AreAhead ds n now t s f h new.levels) (ap (after ds n view.front) (sym same) ∙ sym front) pushed in
     going-pushed ds n now t s f view new _ c.prepare-prepared.result is becomes planned due c.push.ensures.ring p_is
-    (c.push.ensures.not_done now is.not_done late) ahead front c.complete-filled.ensures.tight c.complete-filled.ensures.bound plan_is
+    (c.push.ensures.not_done now is.not_done late) ahead front tight bound plan_is
     (λ i y place. c.restart.ensures.next ds n i y (c.place_behind.ensures ∙ place))
     (λ i y from. c.restart.ensures.rests now i y from)
     c.restart.ensures.unplanned c.restart.ensures.own c.restart.ensures.target c.restart.ensures.words

@@ -23,22 +23,23 @@ invariant_of-self g c =
     let P : Level → Type 0 = λ level. IsPrepared level.prepared in
     let i = c.self.invariant in
     record {
-      beside = omega (arith, c.retire-level.ensures.len, c.drop_first.ensures.len, i.beside);
-      few = omega (arith, c.retire-level.ensures.len, i.few);
+      beside = omega (arith, c.drop_oldest.ensures.len, c.drop_first.ensures.len, i.beside);
+      few = omega (arith, c.drop_oldest.ensures.len, i.few);
       some = i.some;
       most = i.most;
-      prepared = All-tail P c.retire-level.result c.retire-level.new.self
-          (subst (λ (r : List Level). All P r) c.retire-level.ensures.level i.prepared);
+      prepared = rw c.drop_oldest.ensures.levels (All-tail P c.oldest-level.result.now (drop 1 c.self.inside.ring)
+          (subst (λ (r : List Level). All P r) c.oldest-level.ensures.level i.prepared));
     }
 
 pub returns : goal.returns
 returns g c = λ ds n tick t s f last m some h same.
     let v = c.args.self.now in
-    let level = c.retire-level.result in
-    let rest = c.retire-level.new.self in
+    let level = c.oldest-level.result.now in
+    let rest = c.drop_oldest.new.self in
     let q = c.get.result.now in
     let y = c.renew.new.x in
-    let ring : v.ring ≡ level ∷ rest = sym (ap (λ (w : LevelsView). w.ring) c.self.view_is) ∙ c.retire-level.ensures.level in
+    let ring : v.ring ≡ level ∷ rest = sym (ap (λ (w : LevelsView). w.ring) c.self.view_is) ∙ c.oldest-level.ensures.level
+    ∙ ap (λ (levels : List Level). level ∷ levels) (sym c.drop_oldest.ensures.levels) in
     let levels = subst (λ (r : List Level). AreLevels ds n tick t s f last r v.plans) ring h.levels in
     let first : slice_get v.plans 0 ≡ Some q = sym (ap (λ (w : LevelsView). slice_get w.plans 0) c.self.view_is) ∙ c.get.ensures in
     let is = first-is ds n tick t s f last level rest v.plans q levels first in

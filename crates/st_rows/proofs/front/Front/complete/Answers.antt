@@ -1,74 +1,12 @@
-use Rattle.std.proofs.Common.{◌+◌, ◌-◌, ◌*◌, ◌^◌, refl, arith}
-use Rattle.st_rows.specs.Ranges.{IsReadingWithin}
-use Rattle.st_rows.specs.Rows.{operands, tick_c, row, after}
-use Rattle.st_rows.proofs.Within.{AreDelays-list, bus-weaker}
-use Rattle.st_rows.proofs.Stages.{bus_a-within, p-within, operands_of-within, c-within}
+use Rattle.std.proofs.Common.{arith}
+use Rattle.st_rows.specs.Rows.{after}
+use Rattle.st_rows.proofs.Within.{AreDelays-list}
+use Rattle.st_rows.proofs.Stages.{c-within}
 use Rattle.st_rows.proofs.Tight.{tight-after}
 use Rattle.st_rows.proofs.front.Front.complete.Goals as goal
 
-pub fills-fills-requires-clause-room : goal.fills-fills-requires-clause-room
-fills-fills-requires-clause-room c =
-    let f = c.args.self.now in
-    let are = AreDelays-list c.args.delays.now c.shape.ensures in
-    rw c.requires.bus
-    (bus-weaker (f.c + 8 * 255 + 8) (2 ^ 64 - 2 ^ 17) _ (omega arith)
-    (bus_a-within 255 c.args.delays.now are f c.args.entry.now c.requires.entry c.requires.tight))
-
-pub fills-fills-requires-clause-early : goal.fills-fills-requires-clause-early
-fills-fills-requires-clause-early c =
-    let are = AreDelays-list c.args.delays.now c.shape.ensures in
-    rw c.requires.tick
-    (omega (arith, p-within 255 c.args.delays.now are c.args.self.now c.args.entry.now c.requires.entry c.requires.tight c.args.levels))
-
-pub read_operands-operands-requires-clause-room : goal.read_operands-operands-requires-clause-room
-read_operands-operands-requires-clause-room c =
-    let f = c.args.self.now in
-    let are = AreDelays-list c.args.delays.now c.shape.ensures in
-    rw c.requires.bus
-    (bus-weaker (f.c + 8 * 255 + 8) (2 ^ 64 - 2 ^ 17) _ (omega arith)
-    (bus_a-within 255 c.args.delays.now are f c.args.entry.now c.requires.entry c.requires.tight))
-
-pub read_operands-operands-requires-clause-early : goal.read_operands-operands-requires-clause-early
-read_operands-operands-requires-clause-early c =
-    let are = AreDelays-list c.args.delays.now c.shape.ensures in
-    rw c.requires.tick
-    (omega (arith, p-within 255 c.args.delays.now are c.args.self.now c.args.entry.now c.requires.entry c.requires.tight c.args.levels))
-
-pub overflow_add-c : goal.overflow_add-c
-unfolding operands
-overflow_add-c c =
-    let are = AreDelays-list c.args.delays.now c.shape.ensures in
-    let read : IsReadingWithin (c.args.self.now.c + 40 * 255 + 41) c.read_operands-operands.result =
-    rw (c.read_operands-operands.ensures, c.requires.bus, c.requires.tick)
-    (operands_of-within 255 c.args.delays.now are c.args.self.now c.args.entry.now c.requires.entry c.requires.tight c.args.levels) in
-    omega (arith, read.answered)
-
-pub follow-self-requires-clause-room : goal.follow-self-requires-clause-room
-unfolding operands
-follow-self-requires-clause-room c =
-    let f = c.args.self.now in
-    let are = AreDelays-list c.args.delays.now c.shape.ensures in
-    rw (c.read_operands-operands.ensures, c.requires.bus, c.requires.tick)
-    (bus-weaker (f.c + 40 * 255 + 41) (2 ^ 64 - 1024) _ (omega arith)
-    (operands_of-within 255 c.args.delays.now are f c.args.entry.now c.requires.entry c.requires.tight c.args.levels).bus)
-
-pub follow-self-requires-clause-early : goal.follow-self-requires-clause-early
-follow-self-requires-clause-early c =
-    let are = AreDelays-list c.args.delays.now c.shape.ensures in
-    rw c.requires.tick
-    (omega (arith, p-within 255 c.args.delays.now are c.args.self.now c.args.entry.now c.requires.entry c.requires.tight c.args.levels))
-
-pub returns-clause-value : goal.returns-clause-value
-unfolding row operands tick_c
-returns-clause-value c =
-    rw (c.max.ensures, c.from.ensures, c.read_operands-operands.ensures, c.requires.bus, c.requires.tick, c.requires.address)
-    refl
-
 pub returns-clause-after : goal.returns-clause-after
-unfolding after operands tick_c
-returns-clause-after c =
-    simp (c.with_newest-self.ensures, c.follow-self.ensures, c.max.ensures, c.from.ensures, c.read_operands-operands.ensures, c.requires.bus, c.requires.tick)
-    refl
+returns-clause-after c = c.pass.ensures c.args.delays.now c.args.levels c.fill-filled.ensures.value c.fill-filled.ensures.bus
 
 pub returns-clause-tight : goal.returns-clause-tight
 returns-clause-tight c =
@@ -76,8 +14,8 @@ returns-clause-tight c =
     rw (returns-clause-after c) (tight-after 255 c.args.delays.now are c.args.levels c.args.self.now c.args.entry.now c.requires.entry c.requires.tight)
 
 pub returns-clause-bound : goal.returns-clause-bound
-unfolding operands tick_c
+unfolding after
 returns-clause-bound c =
     let are = AreDelays-list c.args.delays.now c.shape.ensures in
-    rw (c.max.ensures, c.from.ensures, c.read_operands-operands.ensures, c.requires.bus, c.requires.tick)
+    rw (returns-clause-after c)
     (omega (arith, c-within 255 c.args.delays.now are c.args.self.now c.args.entry.now c.requires.entry c.requires.tight c.args.levels))
