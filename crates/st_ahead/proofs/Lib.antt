@@ -15,3 +15,5 @@ pub mod Pushed
 pub mod Turning
 pub mod Cards
 pub mod Views
+pub mod Resting
+pub mod Idling

@@ -41,7 +41,7 @@ not-first : (b : Bool) (a : Ahead) (rest : List Ahead) → (if b then a ∷ rest
 not-first true a rest e = absurd (cc e)
 not-first false a rest e = refl
 
-none-prepared : (ds : List ℕ) (n m k now : ℕ) (t : Option ℕ) (s : Machine) (f : Front) → 1 ≤ m → k ≡ 0
+pub none-prepared : (ds : List ℕ) (n m k now : ℕ) (t : Option ℕ) (s : Machine) (f : Front) → 1 ≤ m → k ≡ 0
     → prepared_before now (ahead ds n m t s f) ≡ ahead ds n k t s f → now ≤ (row ds n f (entry t s)).p
 unfolding ahead prepared_before
 none-prepared ds n zero k now t s f some empty h = absurd (omega (arith, some))
@@ -50,7 +50,7 @@ none-prepared ds n (suc m) zero now t s f some empty h =
     let late : nat_lt (row ds n f (entry t s)).p now ≡ false = not-first _ _ _ h in
     ltb-false (row ds n f (entry t s)).p now late
 
-done-behind : (ds : List ℕ) (n : ℕ) (f : Front) (e : Entry) → AreDelays 255 ds → IsEntry e → IsTight 255 f → (row ds n f e).p < (row ds n f e).c
+pub done-behind : (ds : List ℕ) (n : ℕ) (f : Front) (e : Entry) → AreDelays 255 ds → IsEntry e → IsTight 255 f → (row ds n f e).p < (row ds n f e).c
 unfolding row
 done-behind ds n f e are range tight = omega (arith, later-r 255 ds are n f e range tight, (later-c 255 ds are n f e range tight).1)
 

@@ -1,5 +1,5 @@
 //! The overlapped machine, and the calls that drive it.
-ghost use Rattle.std.specs.Prelude.{◌≡◌, ℕ, ◌+◌, ◌<◌, ◌≤◌, ◌^◌, true, false, is_some, IsSome, IfSome, None, Some, get_or, length, ◌||◌};
+ghost use Rattle.std.specs.Prelude.{◌≡◌, ℕ, ◌+◌, ◌-◌, ◌<◌, ◌≤◌, ◌^◌, true, false, is_some, IsSome, IfSome, None, Some, get_or, length, ◌||◌};
 
 use crate::events::{Event, LevelView, Row, Settled, View};
 use crate::look::Look;
@@ -49,6 +49,7 @@ impl<const N: usize> Machine<N> {
     ghost use Rattle.st_exec.specs.Transfer.{read_in as read_in_of, words_from};
     ghost use Rattle.st_ahead.specs.Overlap.{last_tick as last_tick_of};
     ghost use Rattle.st_ahead.specs.Shown.{AreLevelsOf, index_of, shown};
+    ghost use Rattle.st_ahead.specs.Idle.{AreIdle, after_ticks};
 
     /// A machine before its first tick; the state is neither enabled nor waiting.
     pub fn new(state: State, delays: Delays) -> Machine<N>
@@ -109,6 +110,28 @@ impl<const N: usize> Machine<N> {
             r: done.r,
             c: now,
         })
+    }
+
+    /// Passes over ticks at which nothing happens, as so many calls of `tick` and `settle` would, up to the tick `limit`, at most 2^63, which is not
+    /// made. The result is how many there are; more may follow. No settle is owed.
+    pub fn pass_idle_ticks(&mut self, limit: u64) -> u64
+        requires settled { self.old.owed ≡ false }
+        requires limit { limit ≤ 2 ^ 63 }
+        ensures limit { result ≤ limit - self.old.now }
+        ensures idle { AreIdle result self.old }
+        ensures after { self.new ≡ after_ticks result self.old }
+    {
+        self.delays.shape();
+        let now = self.now;
+        if now == 0 {
+            return 0;
+        }
+        let rests_to = self.look.rests_to(now, limit);
+        if rests_to <= now {
+            return 0;
+        }
+        self.now = rests_to;
+        rests_to - now
     }
 
     /// Decides what comes behind the last tick: an interrupt is taken; or the machine waits, and the decision is still owed; or a missed branch ends

@@ -12,3 +12,4 @@ pub mod FillLemmas
 pub mod PassLemmas
 pub mod OrderLemmas
 pub mod NoLevels
+pub mod RestLemmas

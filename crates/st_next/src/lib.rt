@@ -4,6 +4,7 @@
 
 mod laws;
 mod next;
+mod rest;
 
 pub use laws::{entries_are_planned_in_time, reads_so_far_come_first, reads_so_far_give_the_bus};
 pub use next::{Next, Outlook};

@@ -111,7 +111,7 @@ impl Next {
     }
 
     /// The tick from which on its next word is wanted, as far as the words so far tell.
-    fn wanted(&self, front: &Front) -> u64
+    pub(crate) fn wanted(&self, front: &Front) -> u64
         ensures { result ≡ wanted_next front.now self.now }
     {
         let waits = if self.target.len == 0 { 0 } else { front.c };

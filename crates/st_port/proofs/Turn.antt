@@ -54,6 +54,14 @@ module _ (ds : List ℕ) (now : ℕ) (bus : Bus) (p : PortView) where
   pub turn-next : (xs ys : List Read) (b d : Bus) → d ≡ made_before ds (now + 1) xs b → ys ≡ not_made ds (now + 1) xs b → AreFrom (now + 1) ys d
   turn-next xs ys b d bus_is reads_is = rw (bus_is, reads_is) (first-late ds (now + 1) xs b)
 
+-- the first read is accepted then or later, and so at no earlier tick
+pub from-first : (t : ℕ) (bus : Bus) (p : PortView) (wants : List Want) (x : Want) → record { bus = bus; reads = map read_of wants } ≡ p
+    → Some x ≡ slice_get wants 0 → t ≤ accept_at bus x.w x.tick → AreFrom t p.reads p.bus
+from-first t bus p [] x is first late = absurd (some-want x first)
+from-first t bus p (y ∷ wants) x is first late =
+    let same : x ≡ y = first-want x y first in
+    rw (← is) (rw same at late)
+
 -- a read that is accepted early leaves no tick of the bus past m
 module _ (most : ℕ) (ds : List ℕ) (are : AreDelays most ds) (m : ℕ) (b : Bus) (is : IsBusWithin m b) where
   one-within_if : (fetch : Bool) (w want : ℕ) → accept_at b w want + most + 1 ≤ m

@@ -166,6 +166,20 @@ impl Port {
         self.bus.serve(delays, want.w, want.tick, fetch);
     }
 
+    /// A tick, `limit` at the latest, before which no read is made.
+    pub fn rests_to(&self, limit: u64) -> u64
+        ensures turn { AreFrom result self.now.reads self.now.bus }
+        ensures limit { result ≤ limit }
+    {
+        let Some(want) = self.wants.front() else {
+            return limit;
+        };
+        let bus = &self.bus;
+        bus.banks
+            .accept_tick(want.w, bus.free, want.tick)
+            .min(limit)
+    }
+
     /// Asks for a word that is no instruction word, unless an earlier entry writes it that is done later.
     fn ask_data(&mut self, past: &[Past; 8], w: u32, tick: u64)
         requires { length self.old.reads < 40 }

@@ -1,13 +1,14 @@
 -- Ticks before the next entry is done, and that at which it is done.
 use Rattle.std.specs.Prelude.{is_none, IfSome}
 use Rattle.std.specs.Option.{option_map_or}
-use Rattle.std.proofs.Common.{◌≡◌, ℕ, ◌+◌, ◌≤◌, ◌==◌, true, false, if◌then◌else◌, List, Option, None, Some, refl, sym, ◌∙◌, ap, subst, arith}
+use Rattle.std.proofs.Common.{◌≡◌, ℕ, zero, suc, ◌+◌, ◌-◌, ◌≤◌, ◌==◌, true, false, if◌then◌else◌, List, Option, None, Some, refl, sym, ◌∙◌, ap, subst, arith}
 use Rattle.std.proofs.lemmas.Bool.Decides.{nat_tests}
 use Rattle.st_state.specs.Machine.{Machine}
 use Rattle.st_exec.specs.Step.{interrupt, rests}
 use Rattle.st_rows.specs.declared.front.Front.{Front}
 use Rattle.st_ahead.specs.Overlap.{Overlap, seen, oldest_row}
 use Rattle.st_ahead.specs.Calls.{is_done, completed, row_done, ticked, settled}
+use Rattle.st_ahead.specs.Idle.{after_ticks, IsIdle, AreIdle}
 use Rattle.st_ahead.specs.declared.events.Row.{Row}
 use Rattle.st_run.specs.Ticking.{IsReady, at_completion, AreTicked}
 
@@ -76,6 +77,39 @@ tick-early o m at early same late =
 pub tick-owed : (m : Overlap) → is_done m ≡ false → (ticked m).owed ≡ true
 unfolding ticked
 tick-owed m late = rw late refl
+
+-- so do ticks that are passed over, one after another
+pub after-none : (m : Overlap) → m ≡ after_ticks 0 m
+unfolding after_ticks
+after-none m = refl
+
+pub idle-passes : (o : Overlap) (k at : ℕ) → IsReady o → at ≤ (oldest_row o).c → AreIdle k (record o { now = at })
+    → (after_ticks k (record o { now = at }) ≡ record o { now = at + k }) × (at + k ≤ (oldest_row o).c)
+unfolding after_ticks
+idle-passes o zero at h early idle = let same : at ≡ at + 0 = omega arith in (ap {A = ℕ} (λ x. record o { now = x }) same, omega arith)
+idle-passes o (suc k) at h early idle =
+    let first : IsIdle (record o { now = at }) = idle 0 (omega arith) in
+    let next : settled (ticked (record o { now = at })) ≡ record o { now = at + 1 } = tick-passes o (record o { now = at }) at h refl first.passed in
+    let later : AreIdle k (record o { now = at + 1 }) =
+    λ i before. subst (λ (m : Overlap). IsIdle (after_ticks i m)) next (idle (suc i) (omega (arith, before))) in
+    let rest = idle-passes o k (at + 1) h (tick-early o (record o { now = at }) at early refl first.passed) later in
+    let same : at + 1 + k ≡ at + suc k = omega arith in (
+      ap {A = Overlap} (after_ticks k) next ∙ rest.0 ∙ ap {A = ℕ} (λ x. record o { now = x }) same,
+      omega (arith, rest.1),
+    )
+
+-- up to the tick behind that of the snapshot at the latest
+pub within-limit : (k limit now : ℕ) (snap : Option ℕ) → k ≤ limit - now → IfSome snap (λ x. limit ≤ x + 1) → IfSome snap (λ x. k ≤ x + 1 - now)
+within-limit k limit now None few before = tt
+within-limit k limit now (Some x) few before = omega (arith, before)
+
+pub none-within : (now : ℕ) (snap : Option ℕ) → IfSome snap (λ x. 0 ≤ x + 1 - now)
+none-within now None = tt
+none-within now (Some x) = omega arith
+
+pub over-made : (at k : ℕ) (snap : Option ℕ) → IfSome snap (λ x. at ≤ x + 1) → IfSome snap (λ x. k ≤ x + 1 - at) → IfSome snap (λ x. at + k ≤ x + 1)
+over-made at k None from few = tt
+over-made at k (Some x) from few = omega (arith, from, few)
 
 -- it is done at this tick
 pub tick-done : (o m : Overlap) (at : ℕ) → m ≡ record o { now = at } → is_done m ≡ true → at ≡ (oldest_row o).c

@@ -1,6 +1,9 @@
-use Rattle.std.proofs.Common.{sym, ◌∙◌, ap, arith}
+use Rattle.std.specs.Prelude.{IfSome}
+use Rattle.std.proofs.Common.{◌≡◌, ◌+◌, ◌-◌, ◌≤◌, sym, subst, ◌∙◌, ap, arith}
+use Rattle.st_ahead.specs.Overlap.{Overlap}
 use Rattle.st_ahead.specs.Calls.{settled}
-use Rattle.st_run.proofs.TickLemmas.{tick-answers, tick-early, tick-owed, tick-passes, not-made}
+use Rattle.st_ahead.specs.Idle.{after_ticks, AreIdle}
+use Rattle.st_run.proofs.TickLemmas.{tick-answers, tick-early, tick-owed, tick-passes, idle-passes, not-made, over-made}
 use Rattle.st_run.proofs.ticking.make_ticks.Goals as goal
 
 pub returns-in-Done : goal.returns-in-Done
@@ -13,16 +16,38 @@ pub settle-requires : goal.settle-requires
 settle-requires g c =
     (omega arith, ap (λ q. q.owed) c.tick.ensures.after ∙ tick-owed c.ticks.machine c.in-Passed.ensures.event)
 
+pub pass_idle-at-requires : goal.pass_idle-at-requires
+pass_idle-at-requires g c =
+    let passed =
+    c.settle.ensures.after ∙ ap settled c.tick.ensures.after
+    ∙ tick-passes c.args.machine.now c.ticks.machine c.ticks.at c.requires.ready c.ticks.invariant.same c.in-Passed.ensures.event in
+    (omega arith, ap (λ (q : Overlap). q.owed) passed ∙ c.requires.ready.settled)
+
+pub overflow_add-at-in-ticks : goal.overflow_add-at-in-ticks
+overflow_add-at-in-ticks g c =
+    let passed =
+    c.settle.ensures.after ∙ ap settled c.tick.ensures.after
+    ∙ tick-passes c.args.machine.now c.ticks.machine c.ticks.at c.requires.ready c.ticks.invariant.same c.in-Passed.ensures.event in
+    let late = tick-early c.args.machine.now c.ticks.machine c.ticks.at c.ticks.invariant.early c.ticks.invariant.same c.in-Passed.ensures.event in
+    omega (arith, c.pass_idle-at.ensures.few, ap (λ (q : Overlap). q.now) passed, late, c.requires.in_time)
+
 pub ticks-preserved : goal.ticks-preserved
 ticks-preserved g c =
     let o = c.args.machine.now in
     let late = c.in-Passed.ensures.event in
     let inv = c.ticks.invariant in
+    let at = c.ticks.at + 1 in
+    let k = c.pass_idle-at.result in
+    let passed : c.settle.new.self ≡ record o { now = at } =
+    c.settle.ensures.after ∙ ap settled c.tick.ensures.after
+    ∙ tick-passes o c.ticks.machine c.ticks.at c.requires.ready inv.same late in
+    let early = tick-early o c.ticks.machine c.ticks.at inv.early inv.same late in
+    let all = idle-passes o k at c.requires.ready early (subst (AreIdle k) passed c.pass_idle-at.ensures.idle) in
+    let few = subst (λ (m : Overlap). IfSome c.args.snap (λ x. k ≤ x + 1 - m.now)) passed c.pass_idle-at.ensures.snap in
     record {
-      same =
-          c.settle.ensures.after ∙ ap settled c.tick.ensures.after
-          ∙ tick-passes o c.ticks.machine c.ticks.at c.requires.ready inv.same late;
+      same = c.pass_idle-at.ensures.after ∙ ap {A = Overlap} (after_ticks k) passed ∙ all.0;
       from = omega arith;
-      early = tick-early o c.ticks.machine c.ticks.at inv.early inv.same late;
-      snap = not-made c.ticks.at c.args.snap (sym c.is_last.ensures ∙ c.if-is_last.false) inv.snap;
+      early = all.1;
+      snap =
+          over-made at k c.args.snap (not-made c.ticks.at c.args.snap (sym c.is_last.ensures ∙ c.if-is_last.false) inv.snap) few;
     }

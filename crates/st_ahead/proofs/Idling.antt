@@ -1,0 +1,106 @@
+-- Ticks at which nothing happens, passed over at once.
+use Rattle.std.specs.Prelude.{is_none, if◌then◌else◌}
+use Rattle.std.proofs.Common.{◌≡◌, ℕ, zero, suc, ◌+◌, ◌-◌, ◌<◌, ◌≤◌, ◌^◌, Bool, true, false, List, Option, None, Some, refl, sym, subst, ◌∙◌, ap, arith}
+use Rattle.std.proofs.lemmas.Bool.{ne_eqb}
+use Rattle.st_state.specs.Machine.{Machine}
+use Rattle.st_exec.specs.Step.{interrupt, rests}
+use Rattle.st_rows.specs.Rows.{row}
+use Rattle.st_rows.specs.declared.front.Front.{Front}
+use Rattle.st_segment.specs.Entries.{entry}
+use Rattle.st_levels.specs.Levels.{oldest_front}
+use Rattle.st_ahead.specs.Overlap.{Overlap, seen, oldest_row}
+use Rattle.st_ahead.specs.Calls.{is_done, ticked, settled, answer}
+use Rattle.st_ahead.specs.Idle.{after_ticks, IsIdle, AreIdle}
+use Rattle.st_ahead.specs.Inside.{standing, IsInside}
+use Rattle.st_ahead.specs.Look.{LookView, IsLook}
+use Rattle.st_ahead.specs.declared.events.Settled.TheVariants.{Goes}
+use Rattle.st_ahead.proofs.Standing.{overlap}
+
+-- ---- no tick
+
+pub after-none : (m : Overlap) → m ≡ after_ticks 0 m
+unfolding after_ticks
+after-none m = refl
+
+-- ---- a machine between two ticks, of which no interrupt is due and which is not at rest
+
+module _ (ds : List ℕ) (n : ℕ) (s : Machine) (t : Option ℕ) (f : Front) (due : (if is_none t then interrupt s else None) ≡ None) (awake : rests s ≡ false) where
+  abbrev calm : ℕ → Overlap
+  calm now = overlap ds n s t None f now false false None
+
+  not-done : (now : ℕ) → now < (row ds n f (entry t s)).c → is_done (calm now) ≡ false
+  unfolding seen oldest_row
+  not-done now late = ne_eqb (row ds n f (entry t s)).c now (λ e. absurd (omega (arith, e)))
+
+  goes-on : (now : ℕ) → now < (row ds n f (entry t s)).c → answer (ticked (calm now)) ≡ Goes
+  unfolding ticked answer
+  goes-on now late = rw (not-done now late, due, awake) refl
+
+  next-tick : (now : ℕ) → now < (row ds n f (entry t s)).c → settled (ticked (calm now)) ≡ calm (now + 1)
+  unfolding ticked settled
+  next-tick now late = rw (not-done now late, due, awake) refl
+
+  idle-tick : (now : ℕ) → now < (row ds n f (entry t s)).c → IsIdle (calm now)
+  idle-tick now late = record { passed = not-done now late; goes = goes-on now late }
+
+  after-idle : (k now : ℕ) → now + k ≤ (row ds n f (entry t s)).c → after_ticks k (calm now) ≡ calm (now + k)
+  unfolding after_ticks
+  after-idle zero now late = let same : now ≡ now + 0 = omega arith in ap calm same
+  after-idle (suc k) now late =
+      let same : now + 1 + k ≡ now + suc k = omega arith in
+      ap (after_ticks k) (next-tick now (omega arith)) ∙ after-idle k (now + 1) (omega arith) ∙ ap calm same
+
+  are-idle : (k now : ℕ) → now + k ≤ (row ds n f (entry t s)).c → AreIdle k (calm now)
+  are-idle k now late = λ i before. subst IsIdle (sym (after-idle i now (omega (arith, before)))) (idle-tick (now + i) (omega (arith, before)))
+
+-- ---- what the machine keeps
+
+-- the tick `last` is the one before the next
+over-calm : (n : ℕ) (ds : List ℕ) (s : Machine) (t : Option ℕ) (now k last : ℕ) (v : LookView)
+    → IsInside (standing n ds s t None now false false false v) false v → 1 ≤ k → now + k ≤ 2 ^ 63 → last + 1 ≡ now + k
+    → last < (row ds n (oldest_front v.levels.plans v.front) (entry t s)).c
+    → IsLook ds n last (last + 1) t s (oldest_front v.levels.plans v.front) v
+    → IsInside (standing n ds s t None (now + k) false false false v) false v
+    × AreIdle k (standing n ds s t None now false false false v)
+    × (standing n ds s t None (now + k) false false false v ≡ after_ticks k (standing n ds s t None now false false false v))
+unfolding seen
+over-calm n ds s t now k last v is some early next late look =
+    let f = oldest_front v.levels.plans v.front in
+    let quiet = is.quiet refl in
+    let before : last ≡ now + k - 1 = omega arith in
+    let here = subst (λ (x : ℕ). IsLook ds n last x t s f v) next look in (
+      record {
+        some = is.some;
+        few = is.few;
+        looking = subst (λ (x : ℕ). IsLook ds n x (now + k) t s f v) before here;
+        indicator = is.indicator;
+        in_time = early;
+        fresh_owed = λ e. absurd (cc e);
+        ended_owed = λ e. absurd (cc e);
+        behind_fresh = λ e. refl;
+        done_now = λ e. absurd (cc e);
+        none_taken = λ e. absurd (cc e);
+        quiet = λ e. quiet;
+        unstarted = λ e first. absurd (omega (arith, first));
+      },
+      are-idle ds n s t f quiet.0 quiet.1 k now (omega arith),
+      sym (after-idle ds n s t f quiet.0 quiet.1 k now (omega arith)),
+    )
+
+pub passed-over : (n : ℕ) (ds : List ℕ) (s : Machine) (t b : Option ℕ) (now to : ℕ) (owed ended fresh : Bool) (v : LookView)
+    → IsInside (standing n ds s t b now owed ended fresh v) fresh v → owed ≡ false → now < to → to ≤ 2 ^ 63
+    → (let f = oldest_front v.levels.plans v.front in IsLook ds n (to - 1) (to - 1 + 1) t s f v × (to - 1 < (row ds n f (entry t s)).c))
+    → IsInside (standing n ds s t b to owed ended fresh v) fresh v
+    × AreIdle (to - now) (standing n ds s t b now owed ended fresh v)
+    × (standing n ds s t b to owed ended fresh v ≡ after_ticks (to - now) (standing n ds s t b now owed ended fresh v))
+passed-over n ds s t b now to true ended fresh v is e later early rests = absurd (cc e)
+passed-over n ds s t b now to false true fresh v is e later early rests = absurd (cc (is.ended_owed refl))
+passed-over n ds s t b now to false false true v is e later early rests = absurd (cc (is.fresh_owed refl))
+passed-over n ds s t (Some h) now to false false false v is e later early rests = absurd (cc (is.behind_fresh refl))
+passed-over n ds s t None now to false false false v is e later early rests =
+    let same : now + (to - now) ≡ to = omega arith in
+    let all = over-calm n ds s t now (to - now) (to - 1) v is (omega arith) (omega arith) (omega arith) rests.1 rests.0 in (
+      subst (λ (x : ℕ). IsInside (standing n ds s t None x false false false v) false v) same all.0,
+      all.1,
+      ap (λ (x : ℕ). standing n ds s t None x false false false v) (sym same) ∙ all.2,
+    )
