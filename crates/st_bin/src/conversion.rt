@@ -8,7 +8,7 @@ use st_field::indicators::{flag_indicators, partial_field};
 use st_field::operand::operand;
 use st_field::{Aligned, Done, load, power_of_ten, to_digits};
 
-/// A number `place` decimal digits to the left, without those past the 32nd, and whether one of these is not zero.
+// A number `place` decimal digits to the left, without those past the 32nd, and whether one of these is not zero.
 #[tactic(auto, using(crate::proofs::PlaceLemmas::place_rules))]
 fn place_digits(mag: u64, place: u8) -> (u128, bool)
     requires { place < 32 }

@@ -18,14 +18,14 @@ use st_field::{
     load_transit, load_with_flags,
 };
 
-/// The operand of an operation, as its field holds it.
+// The operand of an operation, as its field holds it.
 fn operand_in(f: &Field, shape: &Shape) -> Signed
     ensures { result ≡ operand_in_of f.now shape.now }
 {
     operand(f, shape, u128::from(f.mag))
 }
 
-/// What an operation makes of the accumulator and a field that was read.
+// What an operation makes of the accumulator and a field that was read.
 fn perform(op: VflOp, acc: &Acc, f: &Field, shape: &Shape, ft: u64, ind: u64) -> Done
     requires shape { IsShape shape.now }
     requires room { HasRoom f.now shape.now }

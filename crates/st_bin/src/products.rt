@@ -12,7 +12,7 @@ use st_field::operand::operand;
 use st_field::signed::{Signed, add, exactly_one, exceeds, low_bits};
 use st_field::{Acc, Done, done_with, in_accumulator, shift};
 
-/// A product or quotient goes to the accumulator: minus where exactly one of accumulator and operand is minus.
+// A product or quotient goes to the accumulator: minus where exactly one of accumulator and operand is minus.
 fn multiplied(acc: &Acc, f: &Field, shape: &Shape, mag: u128, on: u64) -> Done
     requires { on < 2 ^ 63 }
     ensures { result ≡ multiplied_of acc.now f.now shape.now mag on }

@@ -47,7 +47,7 @@ pub fn add_to_magnitude(acc: &Acc, f: &Field, shape: &Shape) -> Done
     put_in_accumulator(acc, sum, operand.on)
 }
 
-/// Whether a sum has no room in `bits` bits.
+// Whether a sum has no room in `bits` bits.
 #[tactic(auto, using(st_field::proofs::FieldLemmas::exceeds_kept))]
 fn is_lost(sum: Sum, bits: u8) -> bool
     requires { bits ≤ 64 }
@@ -57,7 +57,7 @@ fn is_lost(sum: Sum, bits: u8) -> bool
     sum.carry || exceeds(sum.number.mag, bits)
 }
 
-/// A sum goes to the field: its sign and as much of its magnitude as there is room for. Flags and zone stay.
+// A sum goes to the field: its sign and as much of its magnitude as there is room for. Flags and zone stay.
 #[tactic(auto, using(st_field::proofs::FieldLemmas::kept))]
 fn put_in_field(acc: &Acc, f: &Field, shape: &Shape, sum: Sum) -> Done
     requires shape { IsShape shape.now }
@@ -76,7 +76,7 @@ fn put_in_field(acc: &Acc, f: &Field, shape: &Shape, sum: Sum) -> Done
     in_field(acc, &field, shape, mag, on)
 }
 
-/// What is added to the field: the accumulator from the offset on.
+// What is added to the field: the accumulator from the offset on.
 fn part_added(acc: &Acc, shape: &Shape) -> Signed
     requires { IsShape shape.now }
     ensures { result ≡ addend_of acc.now shape.now (from_offset acc.now shape.now) }

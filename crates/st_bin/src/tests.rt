@@ -2,7 +2,7 @@
 use super::*;
 use st_bits::{Ind, VflOp};
 
-/// Eight bits of magnitude and a sign byte of eight.
+// Eight bits of magnitude and a sign byte of eight.
 const PAIR: Shape = Shape {
     length: 16,
     byte: 8,
@@ -11,14 +11,14 @@ const PAIR: Shape = Shape {
     offset: 0,
 };
 
-/// The indicators of a result number and MOP.
+// The indicators of a result number and MOP.
 const NUMBER: u64 = 0x1F0;
 
 fn acc(mag: u128, sb: u8) -> Acc {
     Acc { mag, sb }
 }
 
-/// What an operation on a field of the shape `PAIR` leaves, all indicators being off before.
+// What an operation on a field of the shape `PAIR` leaves, all indicators being off before.
 fn on_pair(op: VflOp, acc: Acc, bits: u16) -> Done {
     binary(op, &acc, u64::from(bits), &PAIR, 0, 0)
 }

@@ -10,8 +10,8 @@ use st_bits::{ConnKind, Ind};
 use st_field::indicators::{by_number, partial_field};
 use st_field::{Acc, Done, Signed, done_with};
 
-/// What the result bits of a connective turn on and off. `wrote` says that they are put into the field, and `lost`
-/// that a one of them was lost.
+// What the result bits of a connective turn on and off. `wrote` says that they are put into the field, and `lost`
+// that a one of them was lost.
 fn result_indicators(bits: u64, wrote: bool, lost: bool) -> Ind
     ensures { result ≡ by_number_of wrote false bits (partial_field_of lost) }
 {
@@ -22,7 +22,7 @@ fn result_indicators(bits: u64, wrote: bool, lost: bool) -> Ind
     by_number(wrote, number, partial_field(lost))
 }
 
-/// The accumulator with the `n` result bits of a connective in it.
+// The accumulator with the `n` result bits of a connective in it.
 fn put_in_accumulator(acc: &Acc, offset: u8, n: u8, bits: u64) -> Done
     requires offset { offset ≤ 127 }
     requires some { 1 ≤ n }
@@ -37,7 +37,7 @@ fn put_in_accumulator(acc: &Acc, offset: u8, n: u8, bits: u64) -> Done
     )
 }
 
-/// Puts the `n` result bits of a connective where its kind says.
+// Puts the `n` result bits of a connective where its kind says.
 fn put_by(kind: ConnKind, acc: &Acc, offset: u8, n: u8, bits: u64) -> Done
     requires offset { offset ≤ 127 }
     requires some { 1 ≤ n }

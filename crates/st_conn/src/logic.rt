@@ -41,7 +41,7 @@ pub fn connect(table: u8, acc: u128, offset: u8, field: u64, n: u8) -> Conn
     }
 }
 
-/// The `n` result bits as a number.
+// The `n` result bits as a number.
 fn results(table: u8, acc: u128, offset: u8, field: u64, n: u8) -> u64
     requires offset { offset ≤ 127 }
     requires some { 1 ≤ n }
@@ -52,7 +52,7 @@ fn results(table: u8, acc: u128, offset: u8, field: u64, n: u8) -> u64
     low_bits(combined(table, field, bits_from(acc, offset)), n)
 }
 
-/// The 64 bits of the accumulator from weight `offset` on.
+// The 64 bits of the accumulator from weight `offset` on.
 fn bits_from(acc: u128, offset: u8) -> u64
     requires { offset ≤ 127 }
     ensures { (j : ℕ) → j < 64 → bit_at result j ≡ bit_at acc (offset + j) }
@@ -60,7 +60,7 @@ fn bits_from(acc: u128, offset: u8) -> u64
     (acc >> offset & u128::from(u64::MAX)) as u64
 }
 
-/// The results of a truth table at 64 positions, one row of the table for each pair of bits.
+// The results of a truth table at 64 positions, one row of the table for each pair of bits.
 fn combined(table: u8, field: u64, acc: u64) -> u64
     ensures { (j : ℕ) → j < 64 → bit_at result j ≡ entry table (bit_at field j) (bit_at acc j) }
 {
@@ -70,7 +70,7 @@ fn combined(table: u8, field: u64, acc: u64) -> u64
         | selected(table, 0, field & acc)
 }
 
-/// All the positions where the table's bit of weight `row` is a one, else none of them.
+// All the positions where the table's bit of weight `row` is a one, else none of them.
 fn selected(table: u8, row: u8, positions: u64) -> u64
     requires { row < 8 }
     ensures { result ≡ bit_at table row * positions }
@@ -78,7 +78,7 @@ fn selected(table: u8, row: u8, positions: u64) -> u64
     u64::from(table >> row & 1) * positions
 }
 
-/// The `n` bits of lowest weight.
+// The `n` bits of lowest weight.
 fn low_bits(bits: u64, n: u8) -> u64
     requires some { 1 ≤ n }
     requires few { n ≤ 64 }
@@ -88,7 +88,7 @@ fn low_bits(bits: u64, n: u8) -> u64
     bits & u64::MAX >> (64 - n)
 }
 
-/// How many zeros a number of `n` bits begins with.
+// How many zeros a number of `n` bits begins with.
 fn zeros_of(bits: u64, n: u8) -> u8
     requires few { n ≤ 64 }
     requires fits { bits < 2 ^ n }
@@ -98,7 +98,7 @@ fn zeros_of(bits: u64, n: u8) -> u8
     (bits.leading_zeros() - (64 - u32::from(n))) as u8
 }
 
-/// How many ones a number of `n` bits has.
+// How many ones a number of `n` bits has.
 fn ones_of(bits: u64, n: u8) -> u8
     requires few { n ≤ 64 }
     requires fits { bits < 2 ^ n }

@@ -21,7 +21,7 @@ pub fn put_acc(acc: u128, offset: u8, bits: u64, n: u8) -> (u128, bool)
     (kept | u128::from(bits) << offset, loses_one(offset, bits))
 }
 
-/// Ones at the `n` weights from `offset` on, as far as there are places for them.
+// Ones at the `n` weights from `offset` on, as far as there are places for them.
 fn places(offset: u8, n: u8) -> u128
     requires offset { offset ≤ 127 }
     requires some { 1 ≤ n }
@@ -31,7 +31,7 @@ fn places(offset: u8, n: u8) -> u128
     u128::MAX >> (128 - n) << offset
 }
 
-/// Whether a one of `bits` would stand past weight 127 if they were inserted from weight `offset` on.
+// Whether a one of `bits` would stand past weight 127 if they were inserted from weight `offset` on.
 fn loses_one(offset: u8, bits: u64) -> bool
     requires { offset ≤ 127 }
     ensures lost { result ≡ is_one_lost offset bits }

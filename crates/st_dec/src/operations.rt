@@ -17,7 +17,7 @@ use st_field::{
     Acc, Done, compare, compare_for_range, compare_if_equal, load, load_factor, load_with_flags,
 };
 
-/// What an operation makes of the accumulator and a field that was read.
+// What an operation makes of the accumulator and a field that was read.
 fn perform(op: VflOp, acc: &Acc, f: &Field, shape: &Shape, ind: u64) -> Done
     requires shape { IsDecimalShape shape.now }
     requires room { HasRoom f.now shape.now }

@@ -13,7 +13,7 @@ use st_field::indicators::partial_field;
 use st_field::signed::exceeds;
 use st_field::{Acc, Done, in_field};
 
-/// The zone of the accumulator, as much of it as a byte has room for.
+// The zone of the accumulator, as much of it as a byte has room for.
 fn stored_zone(acc: &Acc, shape: &Shape) -> u64
     requires { IsDecimalShape shape.now }
     ensures value { result ≡ zone_of acc.now.sb % 2 ^ (shape.now.byte - 4) }
@@ -22,7 +22,7 @@ fn stored_zone(acc: &Acc, shape: &Shape) -> u64
     u64::from(acc.sb / 16 % (1 << (shape.byte - 4)))
 }
 
-/// The magnitude of the field that the accumulator makes from the digit place on.
+// The magnitude of the field that the accumulator makes from the digit place on.
 fn stored_magnitude(acc: &Acc, shape: &Shape) -> u64
     requires { IsDecimalShape shape.now }
     ensures value { result ≡ stored_magnitude_of acc.now shape.now }
@@ -31,7 +31,7 @@ fn stored_magnitude(acc: &Acc, shape: &Shape) -> u64
     spread(field_codes(acc, shape), stored_zone(acc, shape), shape)
 }
 
-/// Whether the accumulator has a code that is not zero before those that the field takes.
+// Whether the accumulator has a code that is not zero before those that the field takes.
 fn is_code_lost(acc: &Acc, shape: &Shape) -> bool
     requires { IsDecimalShape shape.now }
     ensures { result ≡ any_code (codes_left_out acc.now shape.now) }

@@ -17,7 +17,7 @@ use st_field::operand::signed_as as field_as;
 use st_field::signed::{add as sum, add_to_magnitude as sum_in_magnitude};
 use st_field::{Acc, Done, Signed, in_accumulator, in_field, power_of_ten, to_digits};
 
-/// The sum of two numbers of which neither is large, with the sign of `a` where it is zero.
+// The sum of two numbers of which neither is large, with the sign of `a` where it is zero.
 fn sum_of(a: Signed, b: Signed) -> Signed
     requires first { a.mag < 2 ^ 127 }
     requires second { b.mag < 2 ^ 127 }
@@ -27,7 +27,7 @@ fn sum_of(a: Signed, b: Signed) -> Signed
     sum(a, b).number
 }
 
-/// A number with `b` added to its magnitude, neither of them large; 0 where that sum is below 0, and the sign stays.
+// A number with `b` added to its magnitude, neither of them large; 0 where that sum is below 0, and the sign stays.
 fn magnitude_sum(a: Signed, b: Signed) -> Signed
     requires first { a.mag < 2 ^ 127 }
     requires second { b.mag < 2 ^ 127 }
@@ -37,7 +37,7 @@ fn magnitude_sum(a: Signed, b: Signed) -> Signed
     sum_in_magnitude(a, b).number
 }
 
-/// The `count` lowest decimal digits of a number, four bits each, and whether it has more.
+// The `count` lowest decimal digits of a number, four bits each, and whether it has more.
 fn to_decimal(mag: u128, count: u8) -> (u128, bool)
     requires { count ≤ 32 }
     ensures digits { result.0 ≡ joined 4 (decimal_of count mag) }
@@ -48,7 +48,7 @@ fn to_decimal(mag: u128, count: u8) -> (u128, bool)
     (to_digits(mag % limit), mag >= limit)
 }
 
-/// A number goes to the accumulator in 32 decimal digits; the indicators `on` go on too.
+// A number goes to the accumulator in 32 decimal digits; the indicators `on` go on too.
 fn put_in_accumulator(acc: &Acc, number: Signed, on: u64) -> Done
     requires { on < 2 ^ 62 }
     ensures { result ≡ put_in_accumulator_of acc.now number on }
@@ -82,7 +82,7 @@ pub fn add_to_magnitude(acc: &Acc, f: &Field, shape: &Shape) -> Done
     put_in_accumulator(acc, magnitude_sum(number, operand.number), operand.on)
 }
 
-/// A number goes to the field in decimal digits, as many as there is room for. Flags and zones stay.
+// A number goes to the field in decimal digits, as many as there is room for. Flags and zones stay.
 fn put_in_field(acc: &Acc, f: &Field, shape: &Shape, number: Signed) -> Done
     requires shape { IsDecimalShape shape.now }
     requires room { HasRoom f.now shape.now }
@@ -98,7 +98,7 @@ fn put_in_field(acc: &Acc, f: &Field, shape: &Shape, number: Signed) -> Done
     in_field(acc, &field, shape, field_value(&field, shape), on)
 }
 
-/// A field as a number.
+// A field as a number.
 fn number_in(f: &Field, shape: &Shape) -> Signed
     requires { IsDecimalShape shape.now }
     ensures value { result ≡ field_number f.now shape.now }
@@ -107,7 +107,7 @@ fn number_in(f: &Field, shape: &Shape) -> Signed
     field_as(f, u128::from(field_value(f, shape)))
 }
 
-/// What is added to the field: the accumulator from the digit place on.
+// What is added to the field: the accumulator from the digit place on.
 fn part_added(acc: &Acc, shape: &Shape) -> Signed
     requires { IsDecimalShape shape.now }
     ensures value { result ≡ addend_of acc.now shape.now }

@@ -5,7 +5,7 @@ use super::*;
 use st_bits::{Ind, VflOp};
 use st_field::{Acc, Done, Shape};
 
-/// Sixteen digits without zones and sign.
+// Sixteen digits without zones and sign.
 const DIGITS: Shape = Shape {
     length: 64,
     byte: 4,
@@ -14,7 +14,7 @@ const DIGITS: Shape = Shape {
     offset: 0,
 };
 
-/// Two digits with zones of four bits, and a sign byte.
+// Two digits with zones of four bits, and a sign byte.
 const ZONED: Shape = Shape {
     length: 24,
     byte: 8,
@@ -23,16 +23,16 @@ const ZONED: Shape = Shape {
     offset: 0,
 };
 
-/// Minus 42: code 3 with zone 10, code 12 with zone 5, and a sign byte with zone 10 and the flags U and V.
+// Minus 42: code 3 with zone 10, code 12 with zone 5, and a sign byte with zone 10 and the flags U and V.
 const MINUS_42: u64 = 0x00A3_5CAB;
 
-/// UF and VF, which that field turns on.
+// UF and VF, which that field turns on.
 const FLAGS: u64 = 0x0C00_0000;
 
-/// LC.
+// LC.
 const LOST_CARRY: u64 = 0x0200_0000_0000;
 
-/// The indicators of a result number and MOP.
+// The indicators of a result number and MOP.
 const NUMBER: u64 = 0x1F0;
 
 fn acc(mag: u128, sb: u8) -> Acc {
@@ -43,14 +43,14 @@ fn ind(on: u64, off: u64) -> Ind {
     Ind { on, off }
 }
 
-/// What an operation on a field of the shape `DIGITS`, at an offset, leaves.
+// What an operation on a field of the shape `DIGITS`, at an offset, leaves.
 fn on_digits(op: VflOp, acc: Acc, bits: u64, offset: u8) -> Done
     requires { offset < 128 }
 {
     decimal(op, &acc, bits, &Shape { offset, ..DIGITS }, 0)
 }
 
-/// What an operation on the field `MINUS_42`, at an offset, leaves, where the indicators `before` were on.
+// What an operation on the field `MINUS_42`, at an offset, leaves, where the indicators `before` were on.
 fn on_zoned(op: VflOp, acc: Acc, offset: u8, before: u64) -> Done
     requires { offset < 128 }
 {

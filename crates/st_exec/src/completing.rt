@@ -16,7 +16,7 @@ use st_format::Instr;
 use st_prep::{Prepared, Words};
 use st_state::State;
 
-/// Whether a branch on a bit or on an indicator is taken.
+// Whether a branch on a bit or on an indicator is taken.
 #[tactic(auto, unfolding(crate::specs::Completion::is_taken), using(st_bits::specs::Storage::words_of_storage_is))]
 fn is_taken(instr: &Instr, e: u32, operands: &[u64; 2], state: &State) -> bool
     requires inside { AreInside (reads instr.now e) }
@@ -34,7 +34,7 @@ fn is_taken(instr: &Instr, e: u32, operands: &[u64; 2], state: &State) -> bool
     }
 }
 
-/// Where it branches to; another instruction goes on at `following`.
+// Where it branches to; another instruction goes on at `following`.
 #[tactic(auto, unfolding(crate::specs::Completion::target))]
 fn target(instr: &Instr, following: u32) -> u32
     requires fields { HasFields instr.now }
@@ -48,7 +48,7 @@ fn target(instr: &Instr, following: u32) -> u32
     }
 }
 
-/// The counter after an entry that is not suppressed.
+// The counter after an entry that is not suppressed.
 fn counter(p: &Prepared, operands: &[u64; 2], state: &State) -> u32
     requires prepared { IsPrepared p.now }
     requires executed { p.now.suppressed ≡ false }
@@ -63,7 +63,7 @@ fn counter(p: &Prepared, operands: &[u64; 2], state: &State) -> u32
     }
 }
 
-/// Counts an instruction as done, the counter being the half-word address `h` after it.
+// Counts an instruction as done, the counter being the half-word address `h` after it.
 fn count(state: &mut State, h: u32)
     requires counter { h < 2 ^ 19 }
     requires few { state.old.done < 2 ^ 63 }
@@ -73,7 +73,7 @@ fn count(state: &mut State, h: u32)
     state.done += 1;
 }
 
-/// Does what an entry does once its operands are there.
+// Does what an entry does once its operands are there.
 #[tactic(auto, unfolding(crate::specs::Completion::finished))]
 fn finish(p: &Prepared, operands: &[u64; 2], state: &mut State)
     requires prepared { IsPrepared p.now }

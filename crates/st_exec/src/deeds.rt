@@ -37,7 +37,7 @@ pub enum Deed {
     Leave { left: Done, at: u32, length: u8 },
 }
 
-/// An index store puts `value`, an index word or a part of it, into the word or the half-word at the address `e`.
+// An index store puts `value`, an index word or a part of it, into the word or the half-word at the address `e`.
 fn index_deed(op: HalfOp, e: u32, value: u64) -> Deed
     requires address { e < 2 ^ 24 }
     requires part { FitsPart op value }
@@ -61,7 +61,7 @@ fn index_deed(op: HalfOp, e: u32, value: u64) -> Deed
     }
 }
 
-/// A branch enables or disables interrupts, or waits.
+// A branch enables or disables interrupts, or waits.
 fn branch_deed(op: BranchOp) -> Deed
     ensures value { result ≡ branch_deed_of op }
     ensures can { CanBeDone result }
@@ -74,7 +74,7 @@ fn branch_deed(op: BranchOp) -> Deed
     }
 }
 
-/// Words are copied or exchanged.
+// Words are copied or exchanged.
 fn move_deed(swap: bool, from: u32, to: u32, count: u8) -> Deed
     requires { AreRuns from to count }
     ensures value { result ≡ move_deed_of swap from to count }
@@ -87,7 +87,7 @@ fn move_deed(swap: bool, from: u32, to: u32, count: u8) -> Deed
     }
 }
 
-/// A bit, which is `bit`, is left, becomes zero, becomes one, or is inverted.
+// A bit, which is `bit`, is left, becomes zero, becomes one, or is inverted.
 fn bit_deed(change: u8, e: u32, bit: u64) -> Deed
     requires change { change < 4 }
     requires inside { e + 1 ≤ 64 * words_of_storage }
@@ -108,7 +108,7 @@ fn bit_deed(change: u8, e: u32, bit: u64) -> Deed
     }
 }
 
-/// An indicator is turned off, where it is to be.
+// An indicator is turned off, where it is to be.
 fn indicator_deed(off: bool, e: u32) -> Deed
     ensures value { result ≡ indicator_deed_of off e }
     ensures can { CanBeDone result }
@@ -122,7 +122,7 @@ fn indicator_deed(off: bool, e: u32) -> Deed
     }
 }
 
-/// An order is given, which is due `count` instructions after this one, when `done` were done before it.
+// An order is given, which is due `count` instructions after this one, when `done` were done before it.
 fn order_deed(write: bool, e: u32, count: u32, done: u64) -> Deed
     requires above { 32 ≤ e / 64 }
     requires inside { e / 64 + 8 ≤ words_of_storage }

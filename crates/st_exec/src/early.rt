@@ -24,7 +24,7 @@ pub fn take(table: Option<u8>, state: &mut State)
     state.waiting = false;
 }
 
-/// Changes an index word, if one is to be changed.
+// Changes an index word, if one is to be changed.
 fn change_index(index: Option<IndexChange>, state: &mut State)
     requires { IfSome index (λ c. c.number < 16) }
     ensures { state.new ≡ with_change index state.old }

@@ -10,7 +10,7 @@ use crate::operands::first_operands;
 use st_prep::{Prepared, Words, plan_in};
 use st_state::State;
 
-/// The operand in place `k`, which is 0 where there is none.
+// The operand in place `k`, which is 0 where there is none.
 fn operand_at(words: Words, k: u8, state: &State) -> u64
     requires runs { IsRuns words }
     requires inside { AreInside words }

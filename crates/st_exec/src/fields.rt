@@ -20,7 +20,7 @@ use st_field::{Acc, Done, Shape};
 use st_prep::reads_field;
 use st_state::State;
 
-/// The operand of `n` bits at the bit address `e`. In form 1 it is the first `n` of the 24 bits of `e` itself.
+// The operand of `n` bits at the bit address `e`. In form 1 it is the first `n` of the 24 bits of `e` itself.
 fn operand(p: u8, e: u32, n: u8, operands: &[u64; 2], state: &State) -> u64
     requires some { 1 ≤ n }
     requires few { n ≤ 64 }
@@ -37,7 +37,7 @@ fn operand(p: u8, e: u32, n: u8, operands: &[u64; 2], state: &State) -> u64
     }
 }
 
-/// The accumulator and its sign byte.
+// The accumulator and its sign byte.
 fn accumulator(state: &State) -> Acc
     ensures { result ≡ accumulator_of state.now }
 {
@@ -47,7 +47,7 @@ fn accumulator(state: &State) -> Acc
     }
 }
 
-/// What an operation reads of its field: nothing where it is ST.
+// What an operation reads of its field: nothing where it is ST.
 fn taken(op: VflOp, p: u8, e: u32, n: u8, operands: &[u64; 2], state: &State) -> u64
     requires some { 1 ≤ n }
     requires few { n ≤ 64 }
@@ -64,7 +64,7 @@ fn taken(op: VflOp, p: u8, e: u32, n: u8, operands: &[u64; 2], state: &State) ->
     }
 }
 
-/// The result of an operation on a field with the bits `bits`, decimal or binary.
+// The result of an operation on a field with the bits `bits`, decimal or binary.
 fn result_by(
     is_decimal: bool,
     op: VflOp,

@@ -40,7 +40,7 @@ pub struct Trail {
     pub printer: Option<Order>,
 }
 
-/// The word address of the index-side word of the next entry, or of the table instruction of an interrupt.
+// The word address of the index-side word of the next entry, or of the table instruction of an interrupt.
 #[tactic(auto, unfolding(st_prep::specs::Plan::sight))]
 fn index_side(taken: Option<u8>, state: &State) -> Option<u32>
     requires { IfSome taken (λ i. i < 64) }
@@ -51,7 +51,7 @@ fn index_side(taken: Option<u8>, state: &State) -> Option<u32>
     look(&place, &fetched, &index_words(state), state).index_read
 }
 
-/// Words 0 to 31.
+// Words 0 to 31.
 fn registers(state: &State) -> [u64; 32]
     ensures { (w : ℕ) → w < 32 → slice_index result w ≡ word_of state.now w }
 {
@@ -62,7 +62,7 @@ fn registers(state: &State) -> [u64; 32]
     registers
 }
 
-/// The trail of an entry that is to be completed.
+// The trail of an entry that is to be completed.
 fn trail_of(taken: Option<u8>, p: &Prepared, state: &State) -> Trail
     requires taken { taken ≡ interrupt_of state.now }
     requires indicator { IfSome taken (λ i. i < 64) }

@@ -10,7 +10,7 @@ use st_format::Instr;
 use st_prep::Prepared;
 use st_state::State;
 
-/// The indicators with those of `on` turned on and the others of `off` turned off.
+// The indicators with those of `on` turned on and the others of `off` turned off.
 fn turned(indicators: u64, on: u64, off: u64) -> u64
     ensures { result ≡ turned_of 64 on off indicators }
 {

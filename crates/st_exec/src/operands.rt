@@ -11,7 +11,7 @@ use st_bits::register::FIRST_STORAGE_WORD;
 use st_prep::Words;
 use st_state::State;
 
-/// The operand in place `k` of the first run, which is 0 where there is none.
+// The operand in place `k` of the first run, which is 0 where there is none.
 fn operand_in_run(words: &Words, k: u8, state: &State) -> u64
     requires runs { IsRuns words.now }
     requires inside { AreInside words.now }
@@ -36,8 +36,8 @@ pub fn first_operands(words: &Words, state: &State) -> [u64; 2]
     ]
 }
 
-/// The word at the address `w`, which is in place `k` of the operands. A register is read anew, since the entry itself may
-/// have changed it before its operands are read.
+// The word at the address `w`, which is in place `k` of the operands. A register is read anew, since the entry itself may
+// have changed it before its operands are read.
 fn operand_word(operands: &[u64; 2], k: usize, w: u32, state: &State) -> u64
     requires place { k < 2 }
     requires inside { w < words_of_storage }

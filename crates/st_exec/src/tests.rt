@@ -7,12 +7,12 @@ use st_state::{Order, State};
 use std::alloc::{AllocError, Global};
 use std::test::Fail;
 
-/// `LVI,$X1,100.0` in a left half, and `BEW` in a right one.
+// `LVI,$X1,100.0` in a left half, and `BEW` in a right one.
 const LOAD: u64 = 0x0019_0300_0000_0000;
 
 const WAIT: u64 = 0x0000_0000_0000_0970;
 
-/// A list of `n` words with no bit that is one.
+// A list of `n` words with no bit that is one.
 fn zeros(alloc: Global, n: usize) -> Result<Vec<u64>, AllocError>
     ensures size { IfOk result (λ v. length v.items ≡ n) }
     ensures zeros { IfOk result (λ v. (w : ℕ) → slice_index v.items w ≡ 0) }
@@ -20,7 +20,7 @@ fn zeros(alloc: Global, n: usize) -> Result<Vec<u64>, AllocError>
     vec![in alloc; 0; n]
 }
 
-/// The state that a blank image opens with, its counter at the left half of word 32.
+// The state that a blank image opens with, its counter at the left half of word 32.
 fn opened(alloc: Global) -> Result<State, Fail>
     ensures { IfOk result (λ s. s.done ≡ 0) }
 {

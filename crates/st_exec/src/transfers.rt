@@ -6,7 +6,7 @@ ghost use Rattle.st_exec.specs.Transfer.{all_stored, words_from, read_in as read
 use st_bits::indicators::{END_EXCEPTION, END_OF_OPERATION};
 use st_state::State;
 
-/// Writes the words of a card to the eight words from the word address `w` on.
+// Writes the words of a card to the eight words from the word address `w` on.
 fn store_card(w: u32, card: &[u64; 8], state: &mut State)
     requires { w + 8 ≤ words_of_storage }
     ensures { state.new ≡ all_stored state.old w card.now }
@@ -16,7 +16,7 @@ fn store_card(w: u32, card: &[u64; 8], state: &mut State)
     }
 }
 
-/// The eight words from the word address `w` on.
+// The eight words from the word address `w` on.
 fn words_at(w: u32, state: &State) -> [u64; 8]
     requires { w + 8 ≤ words_of_storage }
     ensures { result ≡ words_from state.now w 8 }

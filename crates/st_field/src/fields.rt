@@ -67,7 +67,7 @@ pub fn sign_byte(zone: u8, negative: bool, flags: u8) -> u8
     zone * 16 + if negative { 8 } else { 0 } + flags
 }
 
-/// The last byte of a field as a sign byte: what a short one lacks on the right is 0.
+// The last byte of a field as a sign byte: what a short one lacks on the right is 0.
 fn last_byte(bits: u64, byte: u8) -> u8
     requires some { 1 ≤ byte }
     requires small { byte ≤ 8 }
@@ -102,8 +102,8 @@ pub fn read_field(bits: u64, shape: &Shape) -> Field
     }
 }
 
-/// The bits of the last byte of a signed field: what has no room is dropped, zone bits at the left and, of a short
-/// byte, flags at the right.
+// The bits of the last byte of a signed field: what has no room is dropped, zone bits at the left and, of a short
+// byte, flags at the right.
 fn byte_bits(f: &Field, byte: u8) -> u64
     requires some { 1 ≤ byte }
     requires small { byte ≤ 8 }

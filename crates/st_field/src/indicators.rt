@@ -55,7 +55,7 @@ pub fn flag_indicators(flags: u8) -> u64
     u64::from(flags) << (63 - FLAG_V)
 }
 
-/// RLZ, RZ or RGZ, by a result number, and RN where its sign is minus.
+// RLZ, RZ or RGZ, by a result number, and RN where its sign is minus.
 fn number_indicators(number: Signed) -> u64
     ensures value { result ≡ number_indicators_of number.negative number.mag }
     ensures bound { result < 2 ^ 8 }
@@ -80,7 +80,7 @@ pub fn by_number(wrote: bool, number: Signed, on: u64) -> Ind
     }
 }
 
-/// What an operation without a result number turns on and off, together with the indicators `on`.
+// What an operation without a result number turns on and off, together with the indicators `on`.
 fn without_number(on: u64) -> Ind
     ensures { result ≡ without_number_of on }
 {

@@ -31,7 +31,7 @@ pub struct Sum {
     pub carry: bool,
 }
 
-/// The sum of two numbers of one sign.
+// The sum of two numbers of one sign.
 fn sum_of_alike(a: Signed, b: Signed) -> Sum
     requires { a.negative ≡ b.negative }
     ensures magnitude { result.number.mag ≡ unsigned_abs (number_of a +ℤ number_of b) % 2 ^ 128 }
@@ -48,7 +48,7 @@ fn sum_of_alike(a: Signed, b: Signed) -> Sum
     }
 }
 
-/// The sum of two numbers of different signs, with the sign of `a` where it is zero.
+// The sum of two numbers of different signs, with the sign of `a` where it is zero.
 fn sum_of_opposites(a: Signed, b: Signed) -> Signed
     requires { a.negative ≢ b.negative }
     ensures magnitude { result.mag ≡ unsigned_abs (number_of a +ℤ number_of b) }

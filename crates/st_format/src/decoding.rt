@@ -119,7 +119,7 @@ fn checked(op: FullOp, first: u32, second: u32) -> Format
     }
 }
 
-/// The instruction of this format that two half-words spell.
+// The instruction of this format that two half-words spell.
 #[inline(always)]
 fn spelled_by(format: Format, first: u32, second: u32) -> Instr
     ensures { result ≡ spelled_as format first second }

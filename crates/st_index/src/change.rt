@@ -39,7 +39,7 @@ pub fn add_value(x: u64, d: i32) -> u64
     with_value(x, value_of(x) + d)
 }
 
-/// One less than a count, modulo 2^18: zero becomes 262,143.
+// One less than a count, modulo 2^18: zero becomes 262,143.
 fn lower(count: u32) -> u32
     requires { count < 2 ^ 18 }
     ensures value { result ≡ one_less count }
@@ -57,7 +57,7 @@ pub fn count_down(x: u64) -> u64
     with_count(x, lower(count_of(x)))
 }
 
-/// What a progressive form adds to the value: the increment, negated in the V- forms.
+// What a progressive form adds to the value: the increment, negated in the V- forms.
 fn signed(form: u8, increment: u32) -> i32
     requires { increment < 2 ^ 24 }
     ensures value { result ≡ increment_of form increment }
@@ -70,21 +70,21 @@ fn signed(form: u8, increment: u32) -> i32
     }
 }
 
-/// Whether a progressive form counts.
+// Whether a progressive form counts.
 fn counts(form: u8) -> bool
     ensures { result ≡ is_counting form }
 {
     matches!(form, 3 | 4 | 6 | 7)
 }
 
-/// Whether a refill follows a progressive form that left the count `count`.
+// Whether a refill follows a progressive form that left the count `count`.
 fn refills(form: u8, count: u32) -> bool
     ensures { result ≡ (is_refilling form && count == 0) }
 {
     matches!(form, 4 | 7) && count == 0
 }
 
-/// The index word `x` after a progressive form, before a refill.
+// The index word `x` after a progressive form, before a refill.
 fn advance(form: u8, x: u64, increment: u32) -> u64
     requires { increment < 2 ^ 24 }
     ensures { result ≡ progressed form x increment }

@@ -6,7 +6,7 @@ ghost use Rattle.st_index.specs.IndexChange.{selected_sum, selected_value as val
 
 use st_bits::value_of;
 
-/// The value of an index word where bit `j` of the list, 0 leftmost, is one, else 0.
+// The value of an index word where bit `j` of the list, 0 leftmost, is one, else 0.
 fn selected_value(list: u16, j: usize, word: u64) -> i32
     requires { j < 16 }
     ensures value { result ≡ value_if (bit_at list (15 - j)) word }

@@ -4,7 +4,7 @@ use st_bits::Ind;
 
 const MINUS_ZERO: u64 = 0x0000_0080_0000_0000;
 
-/// The indicators of an index result that are off unless they come on.
+// The indicators of an index result that are off unless they come on.
 const RESULT: u64 = 0xF000;
 
 #[test]

@@ -6,7 +6,7 @@ ghost use Rattle.st_prep.specs.Ranges.{HasFields};
 use st_format::Instr;
 use st_index::effective;
 
-/// Index word `i`, and zero where `i` is 0.
+// Index word `i`, and zero where `i` is 0.
 #[inline(always)]
 #[tactic(auto, unfolding(crate::specs::EarlyChange::index_part))]
 fn index_part(x: &[u64; 16], i: u8) -> u64
@@ -16,7 +16,7 @@ fn index_part(x: &[u64; 16], i: u8) -> u64
     if i == 0 { 0 } else { x[i as usize] }
 }
 
-/// Where a half-word instruction points.
+// Where a half-word instruction points.
 #[inline(always)]
 #[tactic(auto, unfolding(crate::specs::EarlyChange::half_address))]
 fn half_address(x: &[u64; 16], address: u32, i: u8) -> u32
@@ -28,7 +28,7 @@ fn half_address(x: &[u64; 16], address: u32, i: u8) -> u32
     effective(32 * address, index_part(x, i))
 }
 
-/// Where a full-word instruction points.
+// Where a full-word instruction points.
 #[inline(always)]
 #[tactic(auto, unfolding(crate::specs::EarlyChange::bit_address))]
 fn bit_address(x: &[u64; 16], address: u32, i: u8) -> u32
@@ -40,7 +40,7 @@ fn bit_address(x: &[u64; 16], address: u32, i: u8) -> u32
     effective(address, index_part(x, i))
 }
 
-/// Where the field of an operation with the progressive form `p` begins.
+// Where the field of an operation with the progressive form `p` begins.
 #[inline(always)]
 #[tactic(auto, unfolding(crate::specs::EarlyChange::field_address))]
 fn field_address(x: &[u64; 16], p: u8, address: u32, i: u8) -> u32

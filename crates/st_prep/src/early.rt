@@ -29,7 +29,7 @@ pub struct Half {
     pub j: u8,
 }
 
-/// The refill address of an index word, where its count became zero.
+// The refill address of an index word, where its count became zero.
 #[inline(always)]
 #[tactic(auto, unfolding(crate::specs::EarlyChange::refill_word))]
 fn refill_word(y: u64) -> Option<u32>
@@ -42,7 +42,7 @@ fn refill_word(y: u64) -> Option<u32>
     }
 }
 
-/// The index-side word of a half-word instruction with the effective address `e`, `x` being index word J.
+// The index-side word of a half-word instruction with the effective address `e`, `x` being index word J.
 #[inline(always)]
 #[tactic(auto, unfolding(crate::specs::EarlyChange::half_side))]
 fn half_side(op: HalfOp, x: u64, e: u32) -> Option<u32>
@@ -65,7 +65,7 @@ fn half_side(op: HalfOp, x: u64, e: u32) -> Option<u32>
     }
 }
 
-/// The index-side word of a progressive form, `x` being its index word.
+// The index-side word of a progressive form, `x` being its index word.
 #[inline(always)]
 #[tactic(auto, unfolding(crate::specs::EarlyChange::progressive_side))]
 fn progressive_side(p: u8, x: u64, address: u32) -> Option<u32>
@@ -111,7 +111,7 @@ fn nothing() -> Early
     }
 }
 
-/// Two numbers are compared.
+// Two numbers are compared.
 #[inline(always)]
 #[tactic(auto, unfolding(crate::specs::EarlyChange::compared))]
 fn compared(a: i32, b: i32) -> Early
@@ -123,7 +123,7 @@ fn compared(a: i32, b: i32) -> Early
     }
 }
 
-/// Index word `number`, which was `kept`, becomes `y`, and then the word of a refill where there is one.
+// Index word `number`, which was `kept`, becomes `y`, and then the word of a refill where there is one.
 #[inline(always)]
 #[tactic(auto, unfolding(crate::specs::EarlyChange::changed))]
 fn changed(number: u8, kept: u64, y: u64, refill: Option<u64>) -> Early
@@ -139,7 +139,7 @@ fn changed(number: u8, kept: u64, y: u64, refill: Option<u64>) -> Early
     }
 }
 
-/// What a half-word instruction makes of index word J; `e` is its effective address and `read` its index-side word.
+// What a half-word instruction makes of index word J; `e` is its effective address and `read` its index-side word.
 #[inline(always)]
 #[tactic(auto, unfolding(crate::specs::EarlyChange::half_change))]
 fn half_change(half: Half, words: &[u64; 16], e: u32, read: Option<u64>) -> Early
@@ -181,7 +181,7 @@ fn half_change(half: Half, words: &[u64; 16], e: u32, read: Option<u64>) -> Earl
     }
 }
 
-/// What a progressive form makes of index word `i`, which is `x`; `read` is its index-side word.
+// What a progressive form makes of index word `i`, which is `x`; `read` is its index-side word.
 #[inline(always)]
 #[tactic(auto, unfolding(crate::specs::EarlyChange::progressive_change))]
 fn progressive_change(p: u8, i: u8, x: u64, address: u32, read: Option<u64>) -> Early

@@ -12,7 +12,7 @@ use st_bits::register::FIRST_STORAGE_WORD;
 use st_format::Instr;
 use st_state::{Access, State};
 
-/// The number of words in the area of an order.
+// The number of words in the area of an order.
 const AREA: u8 = 8;
 
 /// The instruction that is executed: the target of EX, or else the instruction itself.
@@ -29,7 +29,7 @@ pub fn executed(fetched: &Fetched) -> &Instr
     }
 }
 
-/// The indicator that forbids the access to a word.
+// The indicator that forbids the access to a word.
 #[inline(always)]
 fn forbidden(state: &State, access: Access, w: u32) -> Option<u8>
     ensures value { result ≡ forbidden_by (word state.now 3) state.now.enabled access w }
@@ -38,7 +38,7 @@ fn forbidden(state: &State, access: Access, w: u32) -> Option<u8>
     state.may(access, w)
 }
 
-/// The indicator of the first of `len` words that may not be accessed.
+// The indicator of the first of `len` words that may not be accessed.
 #[inline(always)]
 fn forbidden_run(state: &State, access: Access, first: u32, len: u8) -> Option<u8>
     requires { first < 2 ^ 18 }
@@ -55,7 +55,7 @@ fn forbidden_run(state: &State, access: Access, first: u32, len: u8) -> Option<u
     None
 }
 
-/// The same of two runs of words.
+// The same of two runs of words.
 #[inline(always)]
 #[tactic(auto, unfolding(crate::specs::Checks::forbidden_words))]
 fn forbidden_words(state: &State, access: Access, words: Words) -> Option<u8>
@@ -71,7 +71,7 @@ fn forbidden_words(state: &State, access: Access, words: Words) -> Option<u8>
     ))
 }
 
-/// The indicator that forbids the index-side word to be read.
+// The indicator that forbids the index-side word to be read.
 #[inline(always)]
 #[tactic(auto, unfolding(crate::specs::Checks::forbidden_side))]
 fn forbidden_side(state: &State, word: Option<u32>) -> Option<u8>
@@ -84,7 +84,7 @@ fn forbidden_side(state: &State, word: Option<u32>) -> Option<u8>
     }
 }
 
-/// The indicator that forbids the area of an order with the effective address `e`.
+// The indicator that forbids the area of an order with the effective address `e`.
 #[inline(always)]
 #[tactic(auto, unfolding(crate::specs::Checks::forbidden_area))]
 fn forbidden_area(state: &State, instr: &Instr, e: u32) -> Option<u8>
@@ -101,7 +101,7 @@ fn forbidden_area(state: &State, instr: &Instr, e: u32) -> Option<u8>
     forbidden_run(state, area_access(write), e / 64, AREA)
 }
 
-/// What an order does with its area: the printer reads it, the reader writes it.
+// What an order does with its area: the printer reads it, the reader writes it.
 #[inline(always)]
 fn area_access(write: bool) -> Access
     ensures { result ≡ area_access_of write }
@@ -109,7 +109,7 @@ fn area_access(write: bool) -> Access
     if write { Access::Read } else { Access::Write }
 }
 
-/// The indicator of an operation that cannot be executed.
+// The indicator of an operation that cannot be executed.
 #[inline(always)]
 #[tactic(auto, unfolding(crate::specs::Checks::operation_fault))]
 fn operation_fault(instr: &Instr) -> Option<u8>

@@ -60,7 +60,7 @@ pub fn place_of(state: &State, table: Option<u8>) -> Place
     }
 }
 
-/// The half-word address of the next entry's instruction.
+// The half-word address of the next entry's instruction.
 fn address(state: &State, table: Option<u8>) -> u32
     requires { IfSome table (λ i. i < 64) }
     ensures value { result ≡ address_by table state.now }
@@ -74,14 +74,14 @@ fn address(state: &State, table: Option<u8>) -> u32
     }
 }
 
-/// The half at the half-word address `h` of a word with this content.
+// The half at the half-word address `h` of a word with this content.
 fn half_of(content: u64, h: u32) -> u32
     ensures { result ≡ half_by content h }
 {
     part(content, 32 * (h % 2), 32) as u32
 }
 
-/// A half-word that may not be fetched.
+// A half-word that may not be fetched.
 fn nothing() -> Decoded
     ensures { result ≡ nothing_of }
 {
@@ -95,7 +95,7 @@ fn nothing() -> Decoded
     }
 }
 
-/// The instruction at the half-word address `h`, whose first half is `first`, of two half-words.
+// The instruction at the half-word address `h`, whose first half is `first`, of two half-words.
 fn with_second(first: u32, h: u32, contents: &[u64], state: &State) -> Part
     requires address { h < 2 ^ 19 }
     requires some { 1 ≤ length contents.now }
@@ -118,7 +118,7 @@ fn with_second(first: u32, h: u32, contents: &[u64], state: &State) -> Part
     has(decode(first, half_of(contents[1], h + 1)), None, 2)
 }
 
-/// An instruction that is known by `used` of the contents.
+// An instruction that is known by `used` of the contents.
 #[inline(always)]
 fn has(decoded: Decoded, fault: Option<u8>, used: usize) -> Part
     ensures { result ≡ Part.Has (record { decoded = decoded; fault = fault }) used }
@@ -129,7 +129,7 @@ fn has(decoded: Decoded, fault: Option<u8>, used: usize) -> Part
     }
 }
 
-/// The instruction at the half-word address `h`, whose first word is read.
+// The instruction at the half-word address `h`, whose first word is read.
 #[tactic(auto, unfolding(crate::specs::Reading::with_first))]
 fn with_first(h: u32, contents: &[u64], state: &State) -> Part
     requires address { h < 2 ^ 19 }
@@ -147,7 +147,7 @@ fn with_first(h: u32, contents: &[u64], state: &State) -> Part
     }
 }
 
-/// The instruction at the half-word address `h`, as far as the contents tell.
+// The instruction at the half-word address `h`, as far as the contents tell.
 #[inline(always)]
 #[tactic(auto, unfolding(crate::specs::Reading::instruction_at))]
 fn part_at(h: u32, contents: &[u64], state: &State) -> Part
@@ -174,7 +174,7 @@ pub fn is_execute(instr: &Instr) -> bool
     matches!(*instr, Instr::Half { op: HalfOp::Ex, .. })
 }
 
-/// EX with the target that it points to.
+// EX with the target that it points to.
 fn with_target(ex: Decoded, target: Found) -> Fetched
     requires ex { HasFields ex.instr }
     requires target { IsFound target }
@@ -192,7 +192,7 @@ fn with_target(ex: Decoded, target: Found) -> Fetched
     }
 }
 
-/// EX, whose target is read, as far as the contents behind its own tell.
+// EX, whose target is read, as far as the contents behind its own tell.
 #[inline(never)]
 fn fetch_target(own: Found, x: &[u64; 16], contents: &[u64], state: &State) -> Fetching
     requires own { IsFound own }
@@ -208,7 +208,7 @@ fn fetch_target(own: Found, x: &[u64; 16], contents: &[u64], state: &State) -> F
     }
 }
 
-/// The entry with this own instruction, as far as the contents behind it tell.
+// The entry with this own instruction, as far as the contents behind it tell.
 #[inline(always)]
 #[tactic(auto, unfolding(crate::specs::Reading::own_use))]
 fn own_or_target(own: Found, x: &[u64; 16], contents: &[u64], state: &State) -> Fetching
@@ -227,7 +227,7 @@ fn own_or_target(own: Found, x: &[u64; 16], contents: &[u64], state: &State) -> 
     })
 }
 
-/// The content of the word at the word address `w`, unless it may not be fetched.
+// The content of the word at the word address `w`, unless it may not be fetched.
 #[inline(always)]
 fn fetched_word(w: u32, state: &State) -> Option<u64>
     ensures allowed { IfSome result (λ c. forbidden_by (word state.now 3) state.now.enabled
@@ -240,8 +240,8 @@ fn fetched_word(w: u32, state: &State) -> Option<u64>
     }
 }
 
-/// The second half-word of the instruction at the half-word address `h`, whose first word has this content, unless it may
-/// not be fetched.
+// The second half-word of the instruction at the half-word address `h`, whose first word has this content, unless it may
+// not be fetched.
 #[inline(always)]
 fn second_half(h: u32, content: u64, state: &State) -> Option<u32>
     requires address { h < 2 ^ 19 }
@@ -261,8 +261,8 @@ fn second_half(h: u32, content: u64, state: &State) -> Option<u32>
     }
 }
 
-/// The half-words of the instruction at the half-word address `h`, the content of its first word being known, unless one
-/// of them may not be fetched. Where there is only one, 0 stands for the second.
+// The half-words of the instruction at the half-word address `h`, the content of its first word being known, unless one
+// of them may not be fetched. Where there is only one, 0 stands for the second.
 #[inline(always)]
 #[tactic(auto, unfolding(crate::specs::Reading::with_first))]
 fn halves_in(h: u32, content: u64, state: &State) -> Option<(u32, u32)>

@@ -23,7 +23,7 @@ pub fn next(place: &Place, halves: u8) -> u32
     }
 }
 
-/// The counter after a count that branches, `x` being index word J before it.
+// The counter after a count that branches, `x` being index word J before it.
 fn after_count(x: u64, e: u32, following: u32) -> u32
     ensures { result ≡ after_count_of x e following }
 {
@@ -74,7 +74,7 @@ pub fn after(instr: &Instr, x: &[u64; 16], e: u32, counter: u32, following: u32)
     }
 }
 
-/// What an index store writes of the index word `x`.
+// What an index store writes of the index word `x`.
 #[inline(always)]
 fn stored_part(op: HalfOp, x: u64) -> u64
     ensures { result ≡ stored_part_of op x }

@@ -24,7 +24,7 @@ use st_bits::{HalfOp, Ind, indicator};
 use st_format::{Decoded, Format, FullOp, decode_as, format_of};
 use st_state::State;
 
-/// Whether an entry is done alone even where it is suppressed.
+// Whether an entry is done alone even where it is suppressed.
 #[inline(always)]
 fn is_alone(place: &Place, fetched: &Fetched) -> bool
     ensures { result ≡ is_alone_of place.now fetched.now }
@@ -32,7 +32,7 @@ fn is_alone(place: &Place, fetched: &Fetched) -> bool
     place.table.is_some() || is_execute(&fetched.instr.instr)
 }
 
-/// What an entry is aimed at, before it is checked.
+// What an entry is aimed at, before it is checked.
 #[inline(always)]
 #[tactic(auto, unfolding(crate::specs::Plan::aimed))]
 fn aimed(place: &Place, fetched: &Fetched, x: &[u64; 16]) -> Aim
@@ -54,7 +54,7 @@ fn aimed(place: &Place, fetched: &Fetched, x: &[u64; 16]) -> Aim
     }
 }
 
-/// What an entry is aimed at, and the first check that it fails.
+// What an entry is aimed at, and the first check that it fails.
 #[inline(always)]
 #[tactic(auto, unfolding(crate::specs::Plan::aim, crate::specs::Plan::fault_of))]
 fn aim(place: &Place, fetched: &Fetched, x: &[u64; 16], state: &State) -> Aim
@@ -67,7 +67,7 @@ fn aim(place: &Place, fetched: &Fetched, x: &[u64; 16], state: &State) -> Aim
     aim
 }
 
-/// Whether an entry that is not suppressed is done alone.
+// Whether an entry that is not suppressed is done alone.
 #[inline(always)]
 #[tactic(auto, unfolding(crate::specs::Plan::is_serial))]
 fn is_serial(aim: &Aim) -> bool
@@ -80,7 +80,7 @@ fn is_serial(aim: &Aim) -> bool
         || has_register(aim.writes)
 }
 
-/// What an entry needs.
+// What an entry needs.
 #[inline(always)]
 fn needs(aim: &Aim) -> Needs
     ensures { result ≡ needs_by aim.now.fault aim.now }
@@ -112,7 +112,7 @@ pub fn look(place: &Place, fetched: &Fetched, x: &[u64; 16], state: &State) -> N
     needs(&aim(place, fetched, x, state))
 }
 
-/// Fills in an entry that is suppressed by the indicator `i`.
+// Fills in an entry that is suppressed by the indicator `i`.
 #[inline(never)]
 #[tactic(auto, unfolding(crate::specs::Plan::suppressed))]
 fn suppress(aim: &Aim, i: u8, p: &mut Prepared)
@@ -136,7 +136,7 @@ fn suppress(aim: &Aim, i: u8, p: &mut Prepared)
     p.serial = aim.alone;
 }
 
-/// Fills in an entry that is not suppressed; `read` is its index-side word.
+// Fills in an entry that is not suppressed; `read` is its index-side word.
 #[inline(always)]
 #[tactic(auto, unfolding(crate::specs::Plan::entry))]
 fn enter(aim: &Aim, x: &[u64; 16], read: Option<u64>, p: &mut Prepared)
@@ -159,7 +159,7 @@ fn enter(aim: &Aim, x: &[u64; 16], read: Option<u64>, p: &mut Prepared)
     p.serial = is_serial(aim);
 }
 
-/// Fills in the entry that stands at `p.place`, before the index words are changed by it.
+// Fills in the entry that stands at `p.place`, before the index words are changed by it.
 #[inline(always)]
 fn fill(aim: &Aim, x: &[u64; 16], read: Option<u64>, p: &mut Prepared)
     requires place { p.old.place.counter < 2 ^ 19 }
@@ -176,7 +176,7 @@ fn fill(aim: &Aim, x: &[u64; 16], read: Option<u64>, p: &mut Prepared)
     }
 }
 
-/// What holds of a word that was read.
+// What holds of a word that was read.
 fn read_shape(read: Option<u64>)
     ensures { IfSome read (λ w. w < 2 ^ 64) }
 {
@@ -237,7 +237,7 @@ pub fn prepare_without_side(
     needs
 }
 
-/// A word of zeros in the place of an index-side word, where one is asked for.
+// A word of zeros in the place of an index-side word, where one is asked for.
 fn zero_for(word: Option<u32>) -> Option<u64>
     ensures value { result ≡ option_map (λ w. 0) word }
     ensures shape { IfSome result (λ w. w < 2 ^ 64) }
@@ -248,7 +248,7 @@ fn zero_for(word: Option<u32>) -> Option<u64>
     }
 }
 
-/// Makes the change of an index word, if there is one.
+// Makes the change of an index word, if there is one.
 fn change_index(index: Option<IndexChange>, x: &mut [u64; 16])
     requires { IfSome index IsChange }
     ensures { x.new ≡ words_after x.old index }
@@ -286,7 +286,7 @@ pub fn prepare(
     p
 }
 
-/// The word that a table instruction, or another one, finds at the word address `w`.
+// The word that a table instruction, or another one, finds at the word address `w`.
 fn found_word(state: &State, table: Option<u8>, w: u32) -> u64
     requires inside { w < words_of_storage }
     requires indicator { IfSome table (λ i. i < 64) }
@@ -300,7 +300,7 @@ fn found_word(state: &State, table: Option<u8>, w: u32) -> u64
     }
 }
 
-/// A word of indicators with indicator `i` off.
+// A word of indicators with indicator `i` off.
 fn without(indicators: u64, i: u8) -> u64
     requires { i < 64 }
     ensures { result ≡ turned 64 0 (indicator_of i) indicators }
@@ -321,7 +321,7 @@ pub fn side_word(state: &State, table: Option<u8>, w: Option<u32>) -> Option<u64
     }
 }
 
-/// Fills in the entry of a state that stands at `p.place`, by what is fetched there.
+// Fills in the entry of a state that stands at `p.place`, by what is fetched there.
 #[inline(always)]
 #[tactic(auto, unfolding(crate::specs::Plan::prepared, crate::specs::Plan::needs))]
 fn fill_fetched(fetched: &Fetched, x: &[u64; 16], state: &State, p: &mut Prepared)
@@ -334,7 +334,7 @@ fn fill_fetched(fetched: &Fetched, x: &[u64; 16], state: &State, p: &mut Prepare
     fill(&aim, x, read, p);
 }
 
-/// The same of an own instruction that is not EX and whose words may be fetched.
+// The same of an own instruction that is not EX and whose words may be fetched.
 #[inline(always)]
 fn fill_plain(own: Decoded, x: &[u64; 16], state: &State, p: &mut Prepared)
     requires place { IsPlace p.old.place }
@@ -349,7 +349,7 @@ fn fill_plain(own: Decoded, x: &[u64; 16], state: &State, p: &mut Prepared)
     fill_fetched(&fetched, x, state, p);
 }
 
-/// The same of half-words whose format is known.
+// The same of half-words whose format is known.
 #[inline(always)]
 fn fill_as(format: Format, halves: (u32, u32), x: &[u64; 16], state: &State, p: &mut Prepared)
     requires place { IsPlace p.old.place }
@@ -359,7 +359,7 @@ fn fill_as(format: Format, halves: (u32, u32), x: &[u64; 16], state: &State, p: 
     fill_plain(decode_as(format, halves.0, halves.1), x, state, p);
 }
 
-/// The same, of a format that is not frequent.
+// The same, of a format that is not frequent.
 #[inline(never)]
 fn fill_seldom(format: Format, halves: (u32, u32), x: &[u64; 16], state: &State, p: &mut Prepared)
     requires place { IsPlace p.old.place }
@@ -369,7 +369,7 @@ fn fill_seldom(format: Format, halves: (u32, u32), x: &[u64; 16], state: &State,
     fill_as(format, halves, x, state, p);
 }
 
-/// The same, of a full word.
+// The same, of a full word.
 #[inline(always)]
 fn fill_whole(op: FullOp, halves: (u32, u32), x: &[u64; 16], state: &State, p: &mut Prepared)
     requires place { IsPlace p.old.place }
@@ -391,7 +391,7 @@ fn fill_whole(op: FullOp, halves: (u32, u32), x: &[u64; 16], state: &State, p: &
     }
 }
 
-/// The same, of any format. What follows knows the format, so that it is told apart once.
+// The same, of any format. What follows knows the format, so that it is told apart once.
 #[inline(always)]
 fn fill_own(format: Format, halves: (u32, u32), x: &[u64; 16], state: &State, p: &mut Prepared)
     requires place { IsPlace p.old.place }
@@ -406,7 +406,7 @@ fn fill_own(format: Format, halves: (u32, u32), x: &[u64; 16], state: &State, p:
     }
 }
 
-/// Fills in the entry of a state that stands at `p.place`, which may be EX, or of which a word may not be fetched.
+// Fills in the entry of a state that stands at `p.place`, which may be EX, or of which a word may not be fetched.
 #[inline(never)]
 fn fill_other(x: &[u64; 16], state: &State, p: &mut Prepared)
     requires { IsPlace p.old.place }
@@ -416,7 +416,7 @@ fn fill_other(x: &[u64; 16], state: &State, p: &mut Prepared)
     fill_fetched(&fetch_all(&p.place, x, state), x, state, p);
 }
 
-/// Whether an instruction of this format is EX.
+// Whether an instruction of this format is EX.
 #[inline(always)]
 #[tactic(auto, unfolding(crate::specs::Reading::is_execute))]
 fn is_execute_format(format: Format) -> bool
@@ -429,7 +429,7 @@ fn is_execute_format(format: Format) -> bool
     }
 }
 
-/// Fills in the entry of a state that stands at `p.place`, of which these are the half-words.
+// Fills in the entry of a state that stands at `p.place`, of which these are the half-words.
 #[inline(always)]
 fn fill_spelled(first: u32, second: u32, x: &[u64; 16], state: &State, p: &mut Prepared)
     requires place { IsPlace p.old.place }
@@ -447,7 +447,7 @@ fn fill_spelled(first: u32, second: u32, x: &[u64; 16], state: &State, p: &mut P
     }
 }
 
-/// Fills in the next entry of a state, or its table instruction.
+// Fills in the next entry of a state, or its table instruction.
 #[inline(always)]
 fn fill_next(table: Option<u8>, state: &State, p: &mut Prepared)
     requires { IfSome table (λ i. i < 64) }

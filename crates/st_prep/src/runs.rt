@@ -41,7 +41,7 @@ fn two_runs(first: u32, first2: u32, len: u8) -> Words
     }
 }
 
-/// The one or two words that the `length` bits from bit `e` on touch.
+// The one or two words that the `length` bits from bit `e` on touch.
 #[inline(always)]
 #[tactic(auto, unfolding(crate::specs::Entry::field_words))]
 fn field_words(e: u32, length: u8) -> Words
@@ -70,7 +70,7 @@ fn operand_words(p: u8, e: u32, length: u8) -> Words
     }
 }
 
-/// The words that a transmission reads.
+// The words that a transmission reads.
 #[inline(always)]
 fn words_read(swap: bool, from: u32, to: u32, count: u8) -> Words
     ensures { result ≡ words_read_of swap from to count }
@@ -82,7 +82,7 @@ fn words_read(swap: bool, from: u32, to: u32, count: u8) -> Words
     }
 }
 
-/// The words that it writes.
+// The words that it writes.
 #[inline(always)]
 fn words_written(swap: bool, from: u32, to: u32, count: u8) -> Words
     ensures { result ≡ words_written_of swap from to count }
@@ -94,7 +94,7 @@ fn words_written(swap: bool, from: u32, to: u32, count: u8) -> Words
     }
 }
 
-/// Whether an operation stores an index word or a part of it.
+// Whether an operation stores an index word or a part of it.
 #[inline(always)]
 fn is_index_store(op: HalfOp) -> bool
     ensures { result ≡ is_store op }

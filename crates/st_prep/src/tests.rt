@@ -7,7 +7,7 @@ use st_state::State;
 use std::alloc::{AllocError, Global};
 use std::test::Fail;
 
-/// A list of `n` words with no bit that is one.
+// A list of `n` words with no bit that is one.
 fn zeros(alloc: Global, n: usize) -> Result<Vec<u64>, AllocError>
     ensures size { IfOk result (λ v. length v.items ≡ n) }
     ensures zeros { IfOk result (λ v. (w : ℕ) → slice_index v.items w ≡ 0) }
@@ -15,7 +15,7 @@ fn zeros(alloc: Global, n: usize) -> Result<Vec<u64>, AllocError>
     vec![in alloc; 0; n]
 }
 
-/// A state with blank storage and the counter at 32.0.
+// A state with blank storage and the counter at 32.0.
 fn opened(alloc: Global) -> Result<State, Fail> {
     let image = zeros(alloc, WORDS as usize)?;
     let Ok(state) = State::new(alloc, &image, 64) else {
@@ -24,7 +24,7 @@ fn opened(alloc: Global) -> Result<State, Fail> {
     Ok(state)
 }
 
-/// An instruction at 32.0, index word 1 before it, and its entry.
+// An instruction at 32.0, index word 1 before it, and its entry.
 struct Row {
     card: &'static str,
     word: u64,
@@ -37,7 +37,7 @@ struct Row {
     serial: bool,
 }
 
-/// Both runs of words.
+// Both runs of words.
 fn runs(words: Words) -> (u32, u8, u32, u8) {
     (words.first, words.len, words.first2, words.len2)
 }

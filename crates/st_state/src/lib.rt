@@ -184,7 +184,7 @@ impl State {
         })
     }
 
-    /// Whether the boundary register protects the word.
+    // Whether the boundary register protects the word.
     fn protects(&self, w: u32) -> bool
         ensures { result ≡ is_protected (word_of self.now BOUNDS) self.now.enabled w }
     {
@@ -252,7 +252,7 @@ impl State {
     }
 }
 
-/// What stands in word `w` after `value` is written to it.
+// What stands in word `w` after `value` is written to it.
 fn fixed_word(w: u32, value: u64) -> u64
     ensures { result ≡ fixed w value }
 {

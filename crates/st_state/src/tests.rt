@@ -5,7 +5,7 @@ use super::*;
 use std::alloc::AllocError;
 use std::test::Fail;
 
-/// A list of `n` words with no bit that is one.
+// A list of `n` words with no bit that is one.
 fn zeros(alloc: Global, n: usize) -> Result<Vec<u64>, AllocError>
     ensures size { IfOk result (λ v. length v.items ≡ n) }
     ensures zeros { IfOk result (λ v. (w : ℕ) → slice_index v.items w ≡ 0) }
@@ -13,7 +13,7 @@ fn zeros(alloc: Global, n: usize) -> Result<Vec<u64>, AllocError>
     vec![in alloc; 0; n]
 }
 
-/// The state that a blank image opens with.
+// The state that a blank image opens with.
 fn opened(alloc: Global) -> Result<State, Fail> {
     let image = zeros(alloc, WORDS as usize)?;
     let Ok(state) = State::new(alloc, &image, 64) else {
