@@ -9,7 +9,9 @@ ghost use Rattle.st_sweep.specs.Sweep.{without_cards};
 
 use st_card::Signal;
 use st_exec::{is_at_rest, print_out, read_in};
-use st_run::plain::{due_signals, printer_is_due, printer_is_free, reader_is_due, reader_is_free, signals_at_rest};
+use st_run::plain::{
+    due_signals, printer_is_due, printer_is_free, reader_is_due, reader_is_free, signals_at_rest,
+};
 use st_state::{Device, State};
 
 // The reader's order takes effect, if it has one. There is no card.
