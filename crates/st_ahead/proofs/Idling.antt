@@ -8,13 +8,13 @@ use Rattle.st_rows.specs.Rows.{row}
 use Rattle.st_rows.specs.declared.front.Front.{Front}
 use Rattle.st_segment.specs.Entries.{entry}
 use Rattle.st_levels.specs.Levels.{oldest_front}
-use Rattle.st_ahead.specs.Overlap.{Overlap, seen, oldest_row}
-use Rattle.st_ahead.specs.Calls.{is_done, ticked, settled, answer}
+use Rattle.st_ahead.specs.Overlap.{Overlap, seen, oldest_row, interrupt_due}
+use Rattle.st_ahead.specs.Calls.{is_done, completed, ticked, passed, settled_by, answer_by, settled, answer}
 use Rattle.st_ahead.specs.Idle.{after_ticks, IsIdle, AreIdle}
 use Rattle.st_ahead.specs.Inside.{standing, IsInside}
 use Rattle.st_ahead.specs.Look.{LookView, IsLook}
 use Rattle.st_ahead.specs.declared.events.Settled.TheVariants.{Goes}
-use Rattle.st_ahead.proofs.Standing.{overlap}
+use Rattle.st_ahead.proofs.Standing.{overlap, left_over}
 
 -- ---- no tick
 
@@ -103,4 +103,37 @@ passed-over n ds s t None now to false false false v is e later early rests =
       subst (λ (x : ℕ). IsInside (standing n ds s t None x false false false v) false v) same all.0,
       all.1,
       ap (λ (x : ℕ). standing n ds s t None x false false false v) (sym same) ∙ all.2,
+    )
+
+-- ---- what idle ticks leave of any machine
+
+goes-by : (due : Option ℕ) (at_rest : Bool) (behind : Option ℕ) (m : Overlap) → answer_by due at_rest behind m ≡ Goes
+    → settled_by due at_rest behind m ≡ passed m
+goes-by (Some i) at_rest behind m e = absurd (cc e)
+goes-by None true behind m e = absurd (cc e)
+goes-by None false (Some h) m e = absurd (cc e)
+goes-by None false None m e = refl
+
+pub goes-passed : (m : Overlap) → answer m ≡ Goes → settled m ≡ passed m
+unfolding answer settled
+goes-passed m e = goes-by (interrupt_due m) (rests m.state) m.behind m e
+
+pub late-ticked : (m : Overlap) → is_done m ≡ false → ticked m ≡ record m { owed = true; closing = None }
+unfolding ticked
+late-ticked m e = left_over (is_done m) (completed m) (record m { owed = true; closing = None }) e
+
+idle-step : (m : Overlap) → IsIdle m → settled (ticked m) ≡ passed m
+idle-step m is = goes-passed (ticked m) is.goes ∙ ap {A = Overlap} passed (late-ticked m is.passed)
+
+-- no settle is owed, and the state stays
+pub idle-kept : (k : ℕ) (m : Overlap) → m.owed ≡ false → AreIdle k m
+    → ((after_ticks k m).owed ≡ false) × ((after_ticks k m).now ≡ m.now + k) × ((after_ticks k m).state ≡ m.state)
+unfolding after_ticks
+idle-kept zero m owes idle = (owes, omega arith, refl)
+idle-kept (suc k) m owes idle =
+    let next : settled (ticked m) ≡ passed m = idle-step m (idle 0 (omega arith)) in
+    let rest = idle-kept k (settled (ticked m)) (ap (λ (x : Overlap). x.owed) next) (λ i before. idle (suc i) (omega (arith, before))) in (
+      rest.0,
+      omega (arith, rest.1, ap (λ (x : Overlap). x.now) next),
+      rest.2 ∙ ap (λ (x : Overlap). x.state) next,
     )

@@ -11,6 +11,8 @@ mod look_rest;
 mod look_shape;
 mod look_tick;
 mod machine;
+#[cfg(test)]
+mod tests;
 
 pub use events::{Event, LevelView, Row, Settled, View};
 pub use going_laws::{

@@ -412,7 +412,8 @@ impl<const N: usize> Machine<N> {
 
     /// The levels, oldest first.
     pub fn ring(&self) -> &SpecRing<N>
-        ensures { AreLevelsOf self.entry.now result.now }
+        ensures levels { AreLevelsOf self.entry.now result.now }
+        ensures few { length result.now ≤ 8 }
     {
         looks_are_levels();
         self.delays.shape();

@@ -19,7 +19,7 @@ use crate::plain::{printer_is_due, printer_is_free, reader_is_due, reader_is_fre
 use crate::serving::{Served, serve};
 use crate::turn::Turn;
 use arrayvec::{ArrayString, ArrayVec};
-use st_ahead::{LevelView, Machine, Settled};
+use st_ahead::{Machine, Settled};
 use st_card::Signal;
 use st_exch::Hopper;
 use st_exec::is_at_rest;
@@ -44,26 +44,8 @@ pub(crate) struct Decided {
 pub(crate) fn levels_ahead<const N: usize>(driven: &Driven<N>) -> ArrayVec<(u32, u64), 8>
     ensures { result.items ≡ map (λ a. (address_of a, a.row.p)) (levels_of driven.now.machine) }
 {
-    let ring = driven.machine.ring();
-    if ring.len() > 8 {
-        // That never is.
-        few_levels(driven);
-        return ArrayVec::new();
-    }
-    levels_in(ring)
+    levels_in(driven.machine.ring())
 }
-
-/// There are eight levels at most: what is shown has room for no more.
-fn few_levels<const N: usize>(driven: &Driven<N>)
-    ensures { length (levels_of driven.now.machine) ≤ 8 }
-{
-    eight(driven.machine.view().levels);
-}
-
-/// There is room for eight levels.
-fn eight(levels: [Option<LevelView>; 8])
-    ensures { length levels ≡ 8 }
-{}
 
 /// The half-word address of each level, oldest first, and the tick at which it was prepared. There are eight at most.
 fn levels_in<const N: usize>(ring: &SpecRing<N>) -> ArrayVec<(u32, u64), 8>

@@ -1,4 +1,4 @@
-use Rattle.std.proofs.Common.{◌≡◌, subst, ◌∙◌, sym}
+use Rattle.std.proofs.Common.{◌≡◌, length, subst, ◌∙◌, sym, ap, arith}
 use Rattle.st_rows.proofs.Within.{AreDelays-list}
 use Rattle.st_ring.specs.declared.level.Level.{Level}
 use Rattle.std.specs.Prelude.{List}
@@ -8,8 +8,8 @@ use Rattle.st_ahead.specs.Inside.{standing}
 use Rattle.st_ahead.proofs.Showing.{look-inside, soon-last, showing, showing-ring, showing-index}
 use Rattle.st_ahead.proofs.machine.Machine.ring.Goals as goal
 
-pub returns : goal.returns
-returns g c =
+pub returns-clause-levels : goal.returns-clause-levels
+returns-clause-levels g c =
     let n = g.row.N in
     let i = c.self.inside in
     let m = standing n i.delays i.state i.taken i.behind i.now i.owed i.ended i.fresh i.look in
@@ -18,3 +18,6 @@ returns g c =
     c.self.invariant.some c.self.invariant.few (AreDelays-list i.delays c.shape.ensures) (soon-last i.owed i.now) c.shape-2.ensures look) in
     subst (λ (x : Overlap). AreLevelsOf x c.ring.result.now) c.self.view_is
     (subst (λ (levels : List Level). AreLevelsOf m levels) (sym c.ring.ensures) (showing-ring m i.look is))
+
+pub returns-clause-few : goal.returns-clause-few
+returns-clause-few g c = omega (arith, c.shape-2.ensures, c.self.invariant.few, ap length c.ring.ensures)
