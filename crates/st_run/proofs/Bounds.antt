@@ -8,7 +8,7 @@ use Rattle.st_state.specs.Machine.{Machine}
 use Rattle.st_prep.proofs.Choices.{of_choice}
 use Rattle.st_exec.specs.Completion.{guess}
 use Rattle.st_exec.specs.Step.{interrupt, rests}
-use Rattle.st_run.specs.Run.{Scene, Happening, Ends, settled, interrupts_by}
+use Rattle.st_run.specs.Run.{Scene, PlainEvent, Ends, settled, interrupts_by}
 use Rattle.st_exec.proofs.StepLemmas.{step-done}
 use Rattle.st_banks.specs.declared.answers.LastAnswers.{LastAnswers}
 use Rattle.st_banks.specs.declared.answers.TheConstants.{BANKS}
@@ -152,7 +152,7 @@ module _ (b : ℕ) (m : Moment) (has : HasTime b m.tick m.scene.machine) where
       each-time b (λ a. at m.tick m.scene.machine (drop_of a)) (reverse m.dropped)
       (λ a. at-time b m.tick m.scene.machine (drop_of a) has)
 
-  happenings-time : (hs : List Happening) → All (IsInTime b) (map (happening_at m) hs)
+  happenings-time : (hs : List PlainEvent) → All (IsInTime b) (map (happening_at m) hs)
   happenings-time hs = each-time b (happening_at m) hs (λ h. at-time b m.tick m.scene.machine (Happens h) has)
 
   between-time : All (IsInTime b) (between m)

@@ -12,7 +12,7 @@ use Rattle.st_prep.specs.BesideOrders.{AreAlikeBesideOrders}
 use Rattle.st_prep.proofs.Choices.{of_choice}
 use Rattle.st_exec.specs.Step.{rests}
 use Rattle.st_exec.specs.Transfer.{read_in}
-use Rattle.st_run.specs.Run.{Signal, Scene, Reached, Happening, with_due_signals, with_signals_at_rest, first_card, cards_after, with_reader, with_printer, nothing, and_then, if_due, with_due_orders, with_device, with_order_at_rest, with_wait, settled}
+use Rattle.st_run.specs.Run.{Signal, Scene, Transition, PlainEvent, with_due_signals, with_signals_at_rest, first_card, cards_after, with_reader, with_printer, nothing, and_then, if_due, with_due_orders, with_device, with_order_at_rest, with_wait, settled}
 use Rattle.st_exec.proofs.BesideEntries.{beside-printed, beside-no_card, beside-signalled, beside-same, beside-then}
 use Rattle.st_ahead.specs.Overlap.{Overlap, interrupt_due}
 use Rattle.st_ahead.specs.Calls.{ended, settled as settled_of, read_in_by, printed_by, MayServe}
@@ -26,7 +26,7 @@ use Rattle.st_run.proofs.EndedLemmas.{opened, ended-behind, ended-since, ended-s
 
 -- ---- texts
 
-texts-joined : (t u : Option (List ℕ)) (xs ys : List Happening) → (length xs ≤ 1 → AreTexts t xs) → (length ys ≤ 1 → AreTexts u ys)
+texts-joined : (t u : Option (List ℕ)) (xs ys : List PlainEvent) → (length xs ≤ 1 → AreTexts t xs) → (length ys ≤ 1 → AreTexts u ys)
     → length (xs ++ ys) ≤ 1 → AreTexts (first_text t u) (xs ++ ys)
 texts-joined None u [] ys first second few = second few
 texts-joined None u (x ∷ xs) ys first second few =
@@ -43,7 +43,7 @@ text-none (Some text) = refl
 
 -- ---- two things
 
-pub came-then : (r : Reached) (f : Scene → Reached) (t u : Option (List ℕ)) (x y z : Bool) (a b c : Together)
+pub came-then : (r : Transition) (f : Scene → Transition) (t u : Option (List ℕ)) (x y z : Bool) (a b c : Together)
     → Came r t x y a b → Came (f (scene_of b)) u y z b c → Came (and_then r f) (first_text t u) x z a c
 came-then r f t u x y z a b c first next =
     let second : Came (f r.scene) u y z b c = subst (λ d. Came (f d) u y z b c) first.scene next in
@@ -54,15 +54,15 @@ came-then r f t u x y z a b c first next =
       serves = λ may. second.serves (first.serves may);
     }
 
-pub came-before : (r : Reached) (f : Scene → Reached) (t : Option (List ℕ)) (x y z : Bool) (a b c : Together)
+pub came-before : (r : Transition) (f : Scene → Transition) (t : Option (List ℕ)) (x y z : Bool) (a b c : Together)
     → Came r t x y a b → Came (f (scene_of b)) None y z b c → Came (and_then r f) t x z a c
 came-before r f t x y z a b c first next =
     subst (λ u. Came (and_then r f) u x z a c) (text-none t) (came-then r f t None x y z a b c first next)
 
-pub came-is : (r q : Reached) (t : Option (List ℕ)) (x y : Bool) (a b : Together) → r ≡ q → Came r t x y a b → Came q t x y a b
+pub came-is : (r q : Transition) (t : Option (List ℕ)) (x y : Bool) (a b : Together) → r ≡ q → Came r t x y a b → Came q t x y a b
 came-is r q t x y a b same came = subst (λ k. Came k t x y a b) same came
 
-pub came-text : (r : Reached) (t u : Option (List ℕ)) (x y : Bool) (a b : Together) → t ≡ u → Came r t x y a b → Came r u x y a b
+pub came-text : (r : Transition) (t u : Option (List ℕ)) (x y : Bool) (a b : Together) → t ≡ u → Came r t x y a b → Came r u x y a b
 came-text r t u x y a b same came = subst (λ k. Came r k x y a b) same came
 
 -- ---- nothing, and what changes the state alone
@@ -79,7 +79,7 @@ since-state : (o m k : Overlap) (over : Bool) → m ≡ record (closed_if over o
     → k ≡ record (closed_if over o) { state = k.state }
 since-state o m k over first next = next ∙ ap (λ (x : Overlap). record x { state = k.state }) first
 
-pub came-state : (r : Reached) (t : Option (List ℕ)) (over : Bool) (a b : Together) → scene_of b ≡ r.scene
+pub came-state : (r : Transition) (t : Option (List ℕ)) (over : Bool) (a b : Together) → scene_of b ≡ r.scene
     → (length r.happened ≤ 1 → AreTexts t r.happened)
     → b.machine ≡ record a.machine { state = b.machine.state } → AreAlikeBesideOrders a.machine.state b.machine.state
     → Came r t over over a b

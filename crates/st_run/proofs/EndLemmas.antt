@@ -2,7 +2,7 @@
 use Rattle.std.proofs.Common.{◌≡◌, ℕ, zero, suc, ◌+◌, ◌*◌, ◌≤◌, Bool, true, false, if◌then◌else◌, List, ◌++◌, sym, subst, arith}
 use Rattle.std.proofs.Math.Nat.{mul-add}
 use Rattle.st_exec.specs.Step.{rests}
-use Rattle.st_run.specs.Run.{Scene, Ran, settled, stepped, ended, goes_on, run}
+use Rattle.st_run.specs.Run.{Scene, Execution, settled, stepped, ended, goes_on, run}
 use Rattle.st_rows.specs.Ranges.{AreDelays}
 use Rattle.st_run.specs.Events.{Timed}
 use Rattle.st_run.specs.Moments.{Moment, start, next_scene, next_state, standing, next_moment}
@@ -14,7 +14,7 @@ use Rattle.st_run.proofs.DoneLemmas.{settled-done}
 use Rattle.st_run.proofs.ShownLemmas.{last-append, last_events-tick}
 
 -- the events end in time for a run, whatever tick is given for no events
-EndsInTime : ℕ → List Timed → Ran → Type 0
+EndsInTime : ℕ → List Timed → Execution → Type 0
 EndsInTime b xs ran = (t : ℕ) → last_tick t xs ≤ b * (ran.last.done + 1)
 
 last-ends : (b : ℕ) (m : Moment) (snaps : List ℕ) → HasTime b m.tick m.scene.machine
@@ -27,7 +27,7 @@ last-ends b m snaps has t =
     let late : m.tick ≤ b * ((next_state m).done + 1) = subst (λ k. m.tick ≤ b * (k + 1)) (sym same) early in
     omega (arith, late, last_events-tick t m snaps)
 
-ends-if : (c : Bool) (b : ℕ) (m : Moment) (xs turn rest : List Timed) (later : Ran)
+ends-if : (c : Bool) (b : ℕ) (m : Moment) (xs turn rest : List Timed) (later : Execution)
     → EndsInTime b xs (ended (settled m.scene)) → EndsInTime b rest later
     → EndsInTime b (if c then xs else turn ++ rest) (if c then ended (settled m.scene) else goes_on (settled m.scene) later)
 unfolding EndsInTime

@@ -1,7 +1,7 @@
 -- The last thing that is told of a run is told at its end.
 use Rattle.std.proofs.Common.{◌≡◌, ℕ, zero, suc, Bool, true, false, if◌then◌else◌, List, [], ◌∷◌, ◌++◌, ◌+◌, refl, sym, ◌∙◌, map}
 use Rattle.st_exec.specs.Step.{rests}
-use Rattle.st_run.specs.Run.{Scene, Ran, Ends, settled, stepped, ended, goes_on, run}
+use Rattle.st_run.specs.Run.{Scene, Execution, Ends, settled, stepped, ended, goes_on, run}
 use Rattle.st_run.specs.Events.{Timed}
 use Rattle.st_run.specs.Moments.{Moment, start, next_scene, next_state, standing, next_moment}
 use Rattle.st_run.specs.TimedRun.{ticks_before, ticks_from, drops, happening_at, last_snapshot_at, between, until_done, last_events, timed_from}
@@ -20,7 +20,7 @@ done-append d [] ys = refl
 done-append d (x ∷ xs) ys = done-append x.done xs ys
 
 -- events end like a run, whatever was before them
-record EndsLike (ran : Ran) (xs : List Timed) : Type 0 where
+record EndsLike (ran : Execution) (xs : List Timed) : Type 0 where
   done : (d : ℕ) → last_done d xs ≡ ran.last.done
   tick : (t u : ℕ) → last_tick t xs ≡ last_tick u xs
 
@@ -33,7 +33,7 @@ last-like m snaps =
       tick = λ t u. last_events-tick t m snaps ∙ sym (last_events-tick u m snaps);
     }
 
-like-if : (c : Bool) (m : Moment) (xs turn rest : List Timed) (later : Ran)
+like-if : (c : Bool) (m : Moment) (xs turn rest : List Timed) (later : Execution)
     → EndsLike (ended (settled m.scene)) xs → EndsLike later rest
     → EndsLike (if c then ended (settled m.scene) else goes_on (settled m.scene) later) (if c then xs else turn ++ rest)
 like-if true m xs turn rest later here there = here

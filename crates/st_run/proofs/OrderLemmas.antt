@@ -4,7 +4,7 @@ use Rattle.std.proofs.Common.{◌≡◌, ℕ, zero, suc, ◌+◌, ◌≤◌, ◌
 use Rattle.std.proofs.lemmas.Bool.{cases_Bool, ltb-true, ltb-false}
 use Rattle.st_prep.proofs.Choices.{of_choice}
 use Rattle.st_exec.specs.Step.{interrupt, rests}
-use Rattle.st_run.specs.Run.{Happening, Ends, settled, interrupts_by}
+use Rattle.st_run.specs.Run.{PlainEvent, Ends, settled, interrupts_by}
 use Rattle.st_rows.specs.Rows.{row, tick_c, after}
 use Rattle.st_run.specs.Events.{Timed, drop_of, snapshot}
 use Rattle.st_run.specs.Moments.{Moment, Standing, next_state, ends_segment, next_segment, next_front, standing, next_row, next_moment}
@@ -76,7 +76,7 @@ module _ (m : Moment) where
   unfolding drops
   drops-lead = leads-at m.tick (λ a. at m.tick m.scene.machine (drop_of a)) (reverse m.dropped) (λ a. refl)
 
-  happenings-lead : (hs : List Happening) → Leads m.tick m.tick (map (happening_at m) hs)
+  happenings-lead : (hs : List PlainEvent) → Leads m.tick m.tick (map (happening_at m) hs)
   happenings-lead hs = leads-at m.tick (happening_at m) hs (λ h. refl)
 
   between-lead : Leads m.tick m.tick (between m)

@@ -9,7 +9,7 @@ use Rattle.st_state.specs.declared.devices.Device.TheVariants.{Reader, Printer}
 use Rattle.st_prep.proofs.Choices.{of_choice}
 use Rattle.st_exec.specs.Step.{rests}
 use Rattle.st_exec.specs.Transfer.{all_stored, read_in}
-use Rattle.st_run.specs.Run.{Signal, Scene, Reached, first_card, with_due_signals, with_signals_at_rest, with_reader, with_printer, if_due, with_due_orders, with_device, with_order_at_rest, with_wait, settled, nothing, and_then}
+use Rattle.st_run.specs.Run.{Signal, Scene, Transition, first_card, with_due_signals, with_signals_at_rest, with_reader, with_printer, if_due, with_due_orders, with_device, with_order_at_rest, with_wait, settled, nothing, and_then}
 
 -- how many orders the printer has
 orders : Option Order → ℕ
@@ -22,7 +22,7 @@ orders-few None = omega arith
 orders-few (Some order) = omega arith
 
 -- what happened, and what can still be printed, is no more than could be printed before
-record PrintsWithin (c : Scene) (r : Reached) : Type 0 where
+record PrintsWithin (c : Scene) (r : Transition) : Type 0 where
   few : length r.happened + orders r.scene.machine.printer ≤ orders c.machine.printer
 
 -- ---- signals and the reader print nothing
@@ -67,7 +67,7 @@ if_due-few done o = of_choice (λ p. orders p ≤ orders o) (is_due done o) o No
 
 -- ---- one after another
 
-then-prints : (c : Scene) (r : Reached) (f : Scene → Reached) → PrintsWithin c r → PrintsWithin r.scene (f r.scene)
+then-prints : (c : Scene) (r : Transition) (f : Scene → Transition) → PrintsWithin c r → PrintsWithin r.scene (f r.scene)
     → PrintsWithin c (and_then r f)
 then-prints c r f first second =
     record { few = omega (arith, first.few, second.few, length-append r.happened (f r.scene).happened) }

@@ -10,7 +10,7 @@ use Rattle.st_state.specs.Orders.{next_device}
 use Rattle.st_state.specs.declared.devices.Order.{Order}
 use Rattle.st_prep.proofs.Choices.{of_choice}
 use Rattle.st_exec.specs.Step.{interrupt, rests}
-use Rattle.st_run.specs.Run.{Signal, Scene, Happening, Ends, with_due_signals, with_due_orders, with_order_at_rest, with_signals_at_rest, with_wait, settled, interrupts_by, if_due, Reached, nothing, and_then, with_reader, with_printer, with_device}
+use Rattle.st_run.specs.Run.{Signal, Scene, PlainEvent, Ends, with_due_signals, with_due_orders, with_order_at_rest, with_signals_at_rest, with_wait, settled, interrupts_by, if_due, Transition, nothing, and_then, with_reader, with_printer, with_device}
 use Rattle.st_rows.specs.Ranges.{AreDelays}
 use Rattle.st_rows.specs.Rows.{opening}
 use Rattle.st_ahead.specs.Overlap.{started}
@@ -78,9 +78,9 @@ order-idle c awake = ap {A = Bool} (λ b. if b then with_device (next_device c.m
 wait-idle : (c : Scene) → rests c.machine ≡ false → with_wait c ≡ nothing c
 unfolding with_wait
 wait-idle c awake =
-    let ending : Scene → Reached = λ d. nothing (with_signals_at_rest d.machine d.signals d.cards) in
-    ap {A = Reached} (λ r. and_then (and_then r with_order_at_rest) ending) (order-idle c awake)
-    ∙ ap {A = Reached} (λ r. and_then (and_then (nothing c) (λ d. r)) ending) (order-idle c awake)
+    let ending : Scene → Transition = λ d. nothing (with_signals_at_rest d.machine d.signals d.cards) in
+    ap {A = Transition} (λ r. and_then (and_then r with_order_at_rest) ending) (order-idle c awake)
+    ∙ ap {A = Transition} (λ r. and_then (and_then (nothing c) (λ d. r)) ending) (order-idle c awake)
     ∙ ap {A = Scene} (λ d. nothing d) (rest-idle c.machine c.signals c.cards awake)
 
 module _ (c : Scene) (is : IsIdle c.machine) where
@@ -93,24 +93,24 @@ module _ (c : Scene) (is : IsIdle c.machine) where
   settled-idle : settled c ≡ nothing due
   unfolding settled
   settled-idle =
-      ap {A = Reached} (λ r. and_then r with_wait) (orders-idle due due-idle)
-      ∙ ap {A = Reached} (λ r. and_then (nothing due) (λ d. r)) (wait-idle due (idle-rests due.machine due-idle))
+      ap {A = Transition} (λ r. and_then r with_wait) (orders-idle due due-idle)
+      ∙ ap {A = Transition} (λ r. and_then (nothing due) (λ d. r)) (wait-idle due (idle-rests due.machine due-idle))
 
   same-not_less : (n : ℕ) → nat_lt n n ≡ false
   same-not_less n = let le : n ≤ n = omega arith in le-ltb n n le
 
   no-card : has_card (start c) ≡ false
   no-card =
-      ap {A = Reached} (λ r. nat_lt (length r.scene.cards) (length c.cards)) settled-idle
+      ap {A = Transition} (λ r. nat_lt (length r.scene.cards) (length c.cards)) settled-idle
       ∙ ap {A = List (List ℕ)} (λ xs. nat_lt (length xs) (length c.cards)) (signals-cards c.machine c.signals c.cards)
       ∙ same-not_less (length c.cards)
 
   no-wait : has_waited (start c) ≡ false
-  no-wait = ap {A = Reached} (λ r. rests r.scene.machine) (orders-idle due due-idle) ∙ idle-rests due.machine due-idle
+  no-wait = ap {A = Transition} (λ r. rests r.scene.machine) (orders-idle due due-idle) ∙ idle-rests due.machine due-idle
 
   no-interrupt : is_some (interrupt (next_state (start c))) ≡ false
   no-interrupt =
-      ap {A = Reached} (λ r. is_some (interrupt r.scene.machine)) settled-idle
+      ap {A = Transition} (λ r. is_some (interrupt r.scene.machine)) settled-idle
       ∙ ap is_some (idle-interrupt due.machine due-idle)
 
   no-end : ends_segment (start c) ≡ false
@@ -126,7 +126,7 @@ module _ (c : Scene) (is : IsIdle c.machine) where
   standing-idle : standing (start c) ≡ first
   unfolding next_front
   standing-idle =
-      ap {A = Reached} (λ r. record (standing (start c)) { scene = r.scene }) settled-idle
+      ap {A = Transition} (λ r. record (standing (start c)) { scene = r.scene }) settled-idle
       ∙ ap {A = Bool} (λ b. record { scene = due; tick = 0; front = if b then next_segment (start c) else opening unread 0 }) no-end
 
   between-idle : between (start c) ≡ []
@@ -135,11 +135,11 @@ module _ (c : Scene) (is : IsIdle c.machine) where
       let m = start c in
       ap {A = Bool} (λ b. (if b then drops m else []) ++ map (happening_at m)
       ((settled c).happened ++ interrupts_by (interrupt (next_state m)) (next_state m))) no-end
-      ∙ ap {A = Reached} (λ r. map (happening_at m) (r.happened ++ interrupts_by (interrupt r.scene.machine) r.scene.machine)) settled-idle
+      ∙ ap {A = Transition} (λ r. map (happening_at m) (r.happened ++ interrupts_by (interrupt r.scene.machine) r.scene.machine)) settled-idle
       ∙ ap {A = Option ℕ} (λ o. map (happening_at m) (interrupts_by o due.machine)) (idle-interrupt due.machine due-idle)
 
   awake-idle : rests (next_state (start c)) ≡ false
-  awake-idle = ap {A = Reached} (λ r. rests r.scene.machine) settled-idle ∙ idle-rests due.machine due-idle
+  awake-idle = ap {A = Transition} (λ r. rests r.scene.machine) settled-idle ∙ idle-rests due.machine due-idle
 
   pub run-idle : (ds : List ℕ) (n budget : ℕ) (snaps : List ℕ) → budget ≢ 0
       → timed_run ds n budget c snaps ≡ timed_behind ds n (budget - 1) first snaps
@@ -162,7 +162,7 @@ module _ (b : ℕ) (m : Moment) (few : m.scene.machine.done ≤ b) where
   unfolding drops
   drops-few = each-few b (λ (a : Ahead). at m.tick m.scene.machine (drop_of a)) (reverse m.dropped) (λ a. few)
 
-  happenings-few : (hs : List Happening) → All (IsFew b) (map (happening_at m) hs)
+  happenings-few : (hs : List PlainEvent) → All (IsFew b) (map (happening_at m) hs)
   happenings-few hs = each-few b (happening_at m) hs (λ h. few)
 
   between-few : All (IsFew b) (between m)

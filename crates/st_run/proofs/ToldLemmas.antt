@@ -6,7 +6,7 @@ use Rattle.std.proofs.lemmas.List.{reverse-append, map-append}
 use Rattle.std.proofs.lemmas.List.Elements.{All-head, All-tail}
 use Rattle.st_state.specs.Machine.{Machine}
 use Rattle.st_exec.specs.Step.{interrupt, rests}
-use Rattle.st_run.specs.Run.{Happening, Ends, settled, interrupts_by}
+use Rattle.st_run.specs.Run.{PlainEvent, Ends, settled, interrupts_by}
 use Rattle.st_segment.specs.Ahead.{Ahead}
 use Rattle.st_run.specs.Events.{Timed, address_of, drop_of}
 use Rattle.st_run.specs.Moments.{Moment, Standing, next_state, ends_segment, next_moment}
@@ -63,9 +63,9 @@ module _ (m : Moment) where
       ∙ ap (map tell) (map-both dropped_at dropped_told (reverse m.dropped)
       ∙ ap (map dropped_told) (sym (reverse-map dropped_at m.dropped)))
 
-  tell-happenings : (hs : List Happening) → told (map (happening_at m) hs) ≡ map tell (map what_happens hs)
+  tell-happenings : (hs : List PlainEvent) → told (map (happening_at m) hs) ≡ map tell (map what_happens hs)
   tell-happenings hs =
-      told-each (happening_at m) (λ (h : Happening). tell (what_happens h)) hs (λ h. refl)
+      told-each (happening_at m) (λ (h : PlainEvent). tell (what_happens h)) hs (λ h. refl)
       ∙ map-both what_happens tell hs
 
   -- the entries that are dropped where the segment ends

@@ -2,7 +2,7 @@
 use Rattle.std.specs.Prelude.{map, reverse}
 use Rattle.std.proofs.Common.{◌≡◌, ℕ, zero, suc, ◌+◌, Bool, true, false, if◌then◌else◌, List, [], ◌∷◌, ◌++◌, refl, sym, ◌∙◌, ap, append_assoc, append-nil}
 use Rattle.st_exec.specs.Step.{step, rests, address, interrupt}
-use Rattle.st_run.specs.Run.{Happening, Executes, Ends, settled, interrupts_by, Ran, ended, stepped, happens, goes_on, run}
+use Rattle.st_run.specs.Run.{PlainEvent, Executes, Ends, settled, interrupts_by, Execution, ended, stepped, happens, goes_on, run}
 use Rattle.st_run.specs.Events.{Timed, plain, untimed, drop_of, snapshot}
 use Rattle.st_run.specs.Moments.{Moment, Standing, next_scene, next_state, ends_segment, standing, next_moment}
 use Rattle.st_run.specs.TimedRun.{at, ticks_before, ticks_from, snapshot_at, last_snapshot_at, drops, drops_if_ends, happening_at, between, completion, until_done, last_events, timed_from}
@@ -23,7 +23,7 @@ none-of f [] void = refl
 none-of f (x ∷ xs) void = rw (void x) (none-of f xs void)
 
 -- the happenings of the plain run are what they were
-happenings : (m : Moment) (hs : List Happening) → untimed (map (happening_at m) hs) ≡ hs
+happenings : (m : Moment) (hs : List PlainEvent) → untimed (map (happening_at m) hs) ≡ hs
 unfolding untimed
 happenings m [] = refl
 happenings m (h ∷ hs) = ap (λ rest. h ∷ rest) (happenings m hs)
@@ -97,7 +97,7 @@ module _ (ds : List ℕ) (n left : ℕ) (m : Moment) (snaps : List ℕ) where
   abbrev rest : List Timed
   rest = timed_from ds n left next (ticks_from next.tick snaps)
 
-  abbrev later : Ran
+  abbrev later : Execution
   later = run left (stepped (next_scene m))
 
   turns-plain : (b : Bool) → untimed rest ≡ later.happened

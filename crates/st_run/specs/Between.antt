@@ -2,7 +2,7 @@
 use Rattle.std.specs.Prelude.{ℕ, ◌≡◌, ◌≢◌, ◌≤◌, Bool, true, false, ◌||◌, is_some, length, nat_le, List, [], ◌∷◌, Option, None, Some}
 use Rattle.st_state.specs.Orders.{is_due}
 use Rattle.st_exec.specs.Step.{rests}
-use Rattle.st_run.specs.Run.{Reached, Signal}
+use Rattle.st_run.specs.Run.{Transition, Signal}
 use Rattle.st_ahead.specs.Overlap.{Overlap, interrupt_due}
 use Rattle.st_ahead.specs.Calls.{ended, settled, MayServe}
 use Rattle.st_ahead.specs.declared.events.Settled.{Settled}
@@ -19,7 +19,7 @@ first_text None later = later
 
 -- the scene is the one that is reached, and the text is what was printed, if that is no more than one; by now the
 -- segment has ended or not, as it had before or not
-pub record Came (r : Reached) (text : Option (List ℕ)) (before after : Bool) (old new : Together) : Type 0 where
+pub record Came (r : Transition) (text : Option (List ℕ)) (before after : Bool) (old new : Together) : Type 0 where
   pub scene : scene_of new ≡ r.scene
   pub told : length r.happened ≤ 1 → AreTexts text r.happened
   pub since : (b : Together) → IsBehind b → IsSince b.machine before old → IsSince b.machine after new

@@ -3,7 +3,7 @@ use Rattle.std.specs.Prelude.{ℕ, ◌+◌, Bool, nat_le, List, [], ◌∷◌, �
 use Rattle.st_bits.specs.declared.register.TheConstants.{FIRST_INDEX_WORD, FIRST_STORAGE_WORD}
 use Rattle.st_state.specs.Machine.{Machine, word}
 use Rattle.st_prep.specs.declared.entries.IndexChange.{IndexChange}
-use Rattle.st_run.specs.Run.{Happening, Executes}
+use Rattle.st_run.specs.Run.{PlainEvent, Executes}
 use Rattle.st_rows.specs.declared.front.Row.{Row}
 use Rattle.st_segment.specs.Ahead.{Ahead, plan_of}
 use Rattle.st_segment.specs.Guesses.{split_words}
@@ -31,7 +31,7 @@ pub data Event : Type 0 where
   Completes : Machine → ℕ → Row → Event
   Drops : ℕ → ℕ → Event
   Shows : ℕ → Machine → List Level → Event
-  Happens : Happening → Event
+  Happens : PlainEvent → Event
 
 -- an event, with the number of entries that are done by then and the tick at which the last of them was,
 -- 0 before the first
@@ -78,13 +78,13 @@ snapshot tick taken s levels =
 -- ---- what is left without the timetable
 
 -- what an event is in the plain run
-abbrev pub plain : Event → List Happening
+abbrev pub plain : Event → List PlainEvent
 plain (Completes s address row) = Executes s address ∷ []
 plain (Drops address p) = []
 plain (Shows tick s levels) = []
 plain (Happens happening) = happening ∷ []
 
 -- what a list of events is there
-unfoldable pub untimed : List Timed → List Happening
+unfoldable pub untimed : List Timed → List PlainEvent
 untimed [] = []
 untimed (x ∷ xs) = plain x.event ++ untimed xs

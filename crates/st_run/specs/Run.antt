@@ -22,16 +22,16 @@ pub record Scene : Type 0 where
 
 -- what a report shows of a run: eight words are printed, an interrupt is taken, the instruction at an address is done
 -- and leaves this state, the run ends
-pub data Happening : Type 0 where
-  Prints : Machine → List ℕ → Happening
-  Interrupts : Machine → ℕ → Happening
-  Executes : Machine → ℕ → Happening
-  Ends : Machine → Bool → Happening
+pub data PlainEvent : Type 0 where
+  Prints : Machine → List ℕ → PlainEvent
+  Interrupts : Machine → ℕ → PlainEvent
+  Executes : Machine → ℕ → PlainEvent
+  Ends : Machine → Bool → PlainEvent
 
 -- a scene, and what happened on the way to it
-pub record Reached : Type 0 where
+pub record Transition : Type 0 where
   pub scene : Scene
-  pub happened : List Happening
+  pub happened : List PlainEvent
 
 -- the signals at the front that are due come, one after another
 abbrev pub with_due_signals : Machine → List Signal → List (List ℕ) → Scene
@@ -51,11 +51,11 @@ cards_after [] = []
 cards_after (card ∷ cards) = cards
 
 -- a scene where nothing happens
-abbrev pub nothing : Scene → Reached
+abbrev pub nothing : Scene → Transition
 nothing c = record { scene = c; happened = [] }
 
 -- an order of the reader takes effect
-abbrev pub with_reader : Option Order → Scene → Reached
+abbrev pub with_reader : Option Order → Scene → Transition
 with_reader None c = nothing c
 with_reader (Some order) c = record {
   scene = record c {
@@ -66,7 +66,7 @@ with_reader (Some order) c = record {
 }
 
 -- an order of the printer takes effect: eight words are printed, and EOP is turned on
-abbrev pub with_printer : Option Order → Scene → Reached
+abbrev pub with_printer : Option Order → Scene → Transition
 with_printer None c = nothing c
 with_printer (Some order) c = record {
   scene = record c { machine = printed_out c.machine };
@@ -74,7 +74,7 @@ with_printer (Some order) c = record {
 }
 
 -- one thing after another
-abbrev pub and_then : Reached → (Scene → Reached) → Reached
+abbrev pub and_then : Transition → (Scene → Transition) → Transition
 and_then r f = let q = f r.scene in record { scene = q.scene; happened = r.happened ++ q.happened }
 
 -- the order, where it is due
@@ -82,19 +82,19 @@ abbrev pub if_due : ℕ → Option Order → Option Order
 if_due done order = if is_due done order then order else None
 
 -- the orders that are due take effect, the reader's first
-unfoldable pub with_due_orders : Scene → Reached
+unfoldable pub with_due_orders : Scene → Transition
 with_due_orders c =
     and_then (with_reader (if_due c.machine.done c.machine.reader) c)
     (λ d. with_printer (if_due d.machine.done d.machine.printer) d)
 
 -- the order of this device takes effect
-abbrev pub with_device : Option Device → Scene → Reached
+abbrev pub with_device : Option Device → Scene → Transition
 with_device None c = nothing c
 with_device (Some Reader) c = with_reader c.machine.reader c
 with_device (Some Printer) c = with_printer c.machine.printer c
 
 -- the order that is given takes effect where the machine rests; the reader's where both are due at once
-unfoldable pub with_order_at_rest : Scene → Reached
+unfoldable pub with_order_at_rest : Scene → Transition
 with_order_at_rest c = if rests c.machine then with_device (next_device c.machine) c else nothing c
 
 -- signals come one at a time as long as the machine rests
@@ -105,29 +105,29 @@ with_signals_at_rest s (x ∷ xs) cards =
     else record { machine = s; signals = x ∷ xs; cards = cards }
 
 -- what ends a wait: orders, then signals
-unfoldable pub with_wait : Scene → Reached
+unfoldable pub with_wait : Scene → Transition
 with_wait c =
     and_then (and_then (with_order_at_rest c) with_order_at_rest)
     (λ d. nothing (with_signals_at_rest d.machine d.signals d.cards))
 
 -- what comes between two instructions: the due signals, the due orders, and what ends a wait
-unfoldable pub settled : Scene → Reached
+unfoldable pub settled : Scene → Transition
 settled c = and_then (with_due_orders (with_due_signals c.machine c.signals c.cards)) with_wait
 
 -- a run to its end: what happened, and the last state
-pub record Ran : Type 0 where
-  pub happened : List Happening
+pub record Execution : Type 0 where
+  pub happened : List PlainEvent
   pub last : Machine
 
 -- the run ends here, the machine at rest or the budget used up
-abbrev pub ended : Reached → Ran
+abbrev pub ended : Transition → Execution
 ended r = record {
   happened = r.happened ++ Ends r.scene.machine (rests r.scene.machine) ∷ [];
   last = r.scene.machine;
 }
 
 -- the interrupt that the next step takes, if it takes one
-abbrev pub interrupts_by : Option ℕ → Machine → List Happening
+abbrev pub interrupts_by : Option ℕ → Machine → List PlainEvent
 interrupts_by None s = []
 interrupts_by (Some i) s = Interrupts s i ∷ []
 
@@ -136,18 +136,18 @@ abbrev pub stepped : Scene → Scene
 stepped c = record c { machine = step c.machine }
 
 -- what happens in the next step
-abbrev pub happens : Machine → List Happening
+abbrev pub happens : Machine → List PlainEvent
 happens s = interrupts_by (interrupt s) s ++ Executes (step s) (address s) ∷ []
 
 -- the run goes on by a step
-abbrev pub goes_on : Reached → Ran → Ran
+abbrev pub goes_on : Transition → Execution → Execution
 goes_on r rest = record {
   happened = r.happened ++ (happens r.scene.machine ++ rest.happened);
   last = rest.last;
 }
 
 -- the run from a scene on, in which so many instructions may still be done; a rest is tried before the budget
-unfoldable pub run : ℕ → Scene → Ran
+unfoldable pub run : ℕ → Scene → Execution
 run zero c = ended (settled c)
 run (suc left) c =
     let r = settled c in

@@ -3,7 +3,7 @@
 use Rattle.std.specs.Prelude.{ℕ, zero, suc, ◌+◌, nat_lt, if◌then◌else◌, List, [], ◌∷◌, ◌++◌, map, reverse}
 use Rattle.st_state.specs.Machine.{Machine}
 use Rattle.st_exec.specs.Step.{rests, address, interrupt}
-use Rattle.st_run.specs.Run.{Scene, Happening, Ends, settled, interrupts_by}
+use Rattle.st_run.specs.Run.{Scene, PlainEvent, Ends, settled, interrupts_by}
 use Rattle.st_segment.specs.Ahead.{prepared_before}
 use Rattle.st_run.specs.Events.{Event, Timed, Completes, Shows, Happens, drop_of, snapshot}
 use Rattle.st_run.specs.Moments.{Moment, Standing, start, next_state, ends_segment, standing, taken, next_row, entries_ahead, next_moment}
@@ -35,7 +35,7 @@ abbrev pub drops_if_ends : Moment → List Timed
 drops_if_ends m = if ends_segment m then drops m else []
 
 -- what happens in the plain run
-abbrev pub happening_at : Moment → Happening → Timed
+abbrev pub happening_at : Moment → PlainEvent → Timed
 happening_at m happening = at m.tick m.scene.machine (Happens happening)
 
 -- the run goes on: what is dropped, words that are printed, and the interrupt that is taken

@@ -3,7 +3,7 @@ use Rattle.std.specs.Prelude.{ℕ, ◌≡◌, ◌+◌, ◌≤◌, Bool, true, fa
 use Rattle.st_card.specs.declared.control_cards.Signal.{Signal as SignalCard}
 use Rattle.st_prep.specs.BesideOrders.{AreAlikeBesideOrders}
 use Rattle.st_exec.specs.Step.{interrupt, rests}
-use Rattle.st_run.specs.Run.{Scene, Signal, Happening}
+use Rattle.st_run.specs.Run.{Scene, Signal, PlainEvent}
 use Rattle.st_rows.specs.Ranges.{AreDelays}
 use Rattle.st_ahead.specs.Overlap.{Overlap, oldest_row, levels_of}
 use Rattle.st_ahead.specs.Calls.{ended, banks_left}
@@ -104,7 +104,7 @@ text_told None = []
 text_told (Some text) = Printed text ∷ []
 
 -- what was printed in between
-abbrev pub AreTexts : Option (List ℕ) → List Happening → Type 0
+abbrev pub AreTexts : Option (List ℕ) → List PlainEvent → Type 0
 AreTexts text happened = text_told text ≡ map what_happens happened
 
 -- before the next entry

@@ -2,7 +2,7 @@
 use Rattle.std.specs.Prelude.{ℕ, Bool, List, [], ◌∷◌}
 use Rattle.st_state.specs.Machine.{Machine}
 use Rattle.st_exch.specs.Printer.{printed}
-use Rattle.st_run.specs.Run.{Happening, Prints, Interrupts, Executes, Ends}
+use Rattle.st_run.specs.Run.{PlainEvent, Prints, Interrupts, Executes, Ends}
 use Rattle.st_run.specs.Events.{Event, Level, Timed, Completes, Drops, Shows, Happens}
 
 -- an entry is done, with its address and the ticks at which it was prepared, ready and done; one that ran ahead
@@ -23,7 +23,7 @@ pub record Told : Type 0 where
   pub what : What
 
 -- what is told of a happening of the plain run; that an instruction is done is told with its row
-abbrev pub what_happens : Happening → What
+abbrev pub what_happens : PlainEvent → What
 what_happens (Prints s words) = Printed (printed words)
 what_happens (Interrupts s i) = Interrupted i s
 what_happens (Executes s address) = Done address 0 0 0

@@ -9,7 +9,7 @@ use Rattle.st_run.proofs.Untimed.{timed-plain}
 use Rattle.st_top.specs.Marks.{plain, unmarked, marked_report, marked_run}
 use Rattle.st_top.specs.StepsBack.{timed, last_state, states, back_lines}
 use Rattle.st_top.specs.declared.reporting.TheConstants.{LEVELS}
-use Rattle.st_top.proofs.HappeningLemmas.{unmarked-append, unmarked-plain, happening_lines, report-lines, counted-run}
+use Rattle.st_top.proofs.PlainEventLemmas.{unmarked-append, unmarked-plain, happening_lines, report-lines, counted-run}
 
 -- the lines of the plain run, and of the state so many steps before its end
 abbrev pub run_lines : Asked → Scene → List (List ℕ)

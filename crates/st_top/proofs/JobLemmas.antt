@@ -18,7 +18,7 @@ use Rattle.st_top.specs.Output.{start_of, loaded_start}
 use Rattle.st_run.specs.Together.{signals_of}
 use Rattle.st_top.specs.declared.command.Command.TheVariants.{Run, Load}
 use Rattle.st_top.proofs.DelayLemmas.{run-same}
-use Rattle.st_top.proofs.HappeningLemmas.{unmarked-append, unmarked-between}
+use Rattle.st_top.proofs.PlainEventLemmas.{unmarked-append, unmarked-between}
 
 -- ---- the listing
 

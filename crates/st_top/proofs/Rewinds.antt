@@ -5,7 +5,7 @@ use Rattle.std.proofs.lemmas.Bool.Decides.{nat_tests}
 use Rattle.st_card.specs.Controls.{Asked}
 use Rattle.st_state.specs.Machine.{Machine}
 use Rattle.st_exec.specs.Step.{rests}
-use Rattle.st_run.specs.Run.{Scene, Ran, settled, stepped, ended, run}
+use Rattle.st_run.specs.Run.{Scene, Execution, settled, stepped, ended, run}
 use Rattle.st_exec.proofs.StepLemmas.{step-done}
 use Rattle.st_run.proofs.Runs.{run-rests, run-budget, run-goes_on}
 use Rattle.st_back.specs.declared.kept.Kept.{Kept}
@@ -63,7 +63,7 @@ states_end back budget start left b d moved ends over h =
     record {
       before = h.before;
       all = h.all ∙ (ap (λ (ss : List Machine). h.before ++ ss) ends ∙ ap (λ (k : Scene). h.before ++ k.machine ∷ []) (sym same));
-      last = ap (λ (k : Scene). k.machine) same ∙ (sym (ap (λ (r : Ran). r.last) over) ∙ h.last);
+      last = ap (λ (k : Scene). k.machine) same ∙ (sym (ap (λ (r : Execution). r.last) over) ∙ h.last);
       counted = h.counted ∙ (sym (settled-done b.0) ∙ ap (λ (k : Scene). k.machine.done) (sym same));
       beside = beside_settled back b d (settled b.0).scene h.before moved h.beside;
     }
@@ -100,7 +100,7 @@ states_next back budget start left b d e some going moved step h =
           ∙ (sym (append_assoc h.before (s.machine ∷ []) (states (left - 1) (stepped s)))
           ∙ ap (λ (g : Scene). (h.before ++ s.machine ∷ []) ++ states (left - 1) g) (sym here)));
       last = ap (λ (g : Scene). (run (left - 1) g).last) here
-          ∙ (sym (ap (λ (r : Ran). r.last) (run-goes_on left c some going_on)) ∙ h.last);
+          ∙ (sym (ap (λ (r : Execution). r.last) (run-goes_on left c some going_on)) ∙ h.last);
       counted = more ∙ ap (λ (g : Scene). g.machine.done) (sym here);
       beside = subst (λ (g : Scene). IsBeside back e (h.before ++ g.machine ∷ [])) same beside;
     }

@@ -10,7 +10,7 @@ use Rattle.st_state.specs.declared.devices.Device.{Device}
 use Rattle.st_state.specs.declared.devices.Device.TheVariants.{Reader, Printer}
 use Rattle.st_exch.specs.Printer.{printed}
 use Rattle.st_exec.specs.Step.{rests, interrupt}
-use Rattle.st_run.specs.Run.{Scene, Happening, Prints, Interrupts, Executes, Ends, settled, with_due_signals, with_due_orders, with_reader, with_printer, if_due, with_device, with_order_at_rest, with_wait, interrupts_by, nothing}
+use Rattle.st_run.specs.Run.{Scene, PlainEvent, Prints, Interrupts, Executes, Ends, settled, with_due_signals, with_due_orders, with_reader, with_printer, if_due, with_device, with_order_at_rest, with_wait, interrupts_by, nothing}
 use Rattle.st_report.specs.Line.{prt_line, trc_line, row_line, drop_line, int_line, time_line, end_line, done_line, ticks_line}
 use Rattle.st_run.specs.Events.{Event, Timed, Completes, Drops, Shows, Happens, plain as plain_event, untimed, drop_of, snapshot}
 use Rattle.st_run.specs.Moments.{Moment, Standing, next_state, standing, next_moment, ends_segment}
@@ -61,14 +61,14 @@ unmarked-between xs ys zs =
 
 -- ---- what happens in the plain run, as lines
 
-pub happening_lines : Bool → List (ℕ × ℕ) → Happening → List (List ℕ)
+pub happening_lines : Bool → List (ℕ × ℕ) → PlainEvent → List (List ℕ)
 happening_lines trace dumps (Prints s words) = prt_line (printed words) ∷ []
 happening_lines trace dumps (Interrupts s i) = int_line i s.done ∷ block dumps s
 happening_lines trace dumps (Executes s address) = line_if trace (trc_line s.done address)
 happening_lines trace dumps (Ends s rests) = end_line rests ∷ done_line s.done ∷ block dumps s
 
 -- an event comes when as many entries are done as its state says
-pub HappensAt : ℕ → Happening → Type 0
+pub HappensAt : ℕ → PlainEvent → Type 0
 HappensAt done (Prints s words) = Unit {0}
 HappensAt done (Interrupts s i) = done ≡ s.done
 HappensAt done (Executes s address) = done ≡ s.done
@@ -84,7 +84,7 @@ pub AreCounted : List Timed → Type 0
 AreCounted [] = Unit {0}
 AreCounted (x ∷ xs) = ComesAt x.done x.event × AreCounted xs
 
-happens-lines : (asked : Asked) (done tick : ℕ) (h : Happening) → HappensAt done h
+happens-lines : (asked : Asked) (done tick : ℕ) (h : PlainEvent) → HappensAt done h
     → unmarked (marked_lines asked (record { done = done; tick = tick; what = what_of (Happens h) }))
     ≡ happening_lines asked.trace asked.dumps h
 unfolding unmarked happening_lines HappensAt
@@ -125,14 +125,14 @@ report-lines asked (x ∷ xs) are =
 
 -- ---- what comes between two steps is prints alone
 
-ArePrints : List Happening → Type 0
+ArePrints : List PlainEvent → Type 0
 ArePrints [] = Unit {0}
 ArePrints (Prints s words ∷ hs) = ArePrints hs
 ArePrints (Interrupts s i ∷ hs) = ⊥
 ArePrints (Executes s address ∷ hs) = ⊥
 ArePrints (Ends s rests ∷ hs) = ⊥
 
-prints-append : (xs ys : List Happening) → ArePrints xs → ArePrints ys → ArePrints (xs ++ ys)
+prints-append : (xs ys : List PlainEvent) → ArePrints xs → ArePrints ys → ArePrints (xs ++ ys)
 unfolding ArePrints
 prints-append [] ys p q = q
 prints-append (Prints s words ∷ xs) ys p q = prints-append xs ys p q
@@ -194,7 +194,7 @@ unfolding AreCounted
 counted-map f [] each = tt
 counted-map f (x ∷ xs) each = (each x, counted-map f xs each)
 
-counted-prints : (m : Moment) (hs : List Happening) → ArePrints hs → AreCounted (map (happening_at m) hs)
+counted-prints : (m : Moment) (hs : List PlainEvent) → ArePrints hs → AreCounted (map (happening_at m) hs)
 unfolding AreCounted ArePrints ComesAt HappensAt
 counted-prints m [] are = tt
 counted-prints m (Prints s words ∷ hs) are = (tt, counted-prints m hs are)
