@@ -93,7 +93,12 @@ pub fn push_half_address(line: &mut Line, address: u32)
     ensures bytes { line.new.bytes ≡ line.old.bytes ++ half_address address }
     ensures room { array_string_len line.new ≤ array_string_len line.old + 14 }
 {
-    push_place(line, address / 2, 32 * (address % 2) as u8);
+    push_short_decimal(line, address / 2);
+    if address % 2 == 0 {
+        line.push_str(".0");
+    } else {
+        line.push_str(".32");
+    }
 }
 
 /// Appends 1 for yes, 0 for no.
