@@ -90,8 +90,6 @@ impl<const N: usize> Look<N> {
         completions_are_bounded();
         delays.shape();
         let _few = self.levels.len();
-        let mut x = *self.levels.index();
-        let prepared = self.next.prepare(&mut x, state);
         let filled = self
             .front
             .fill(delays, N, &self.next.entry, &self.next.formed);
@@ -102,9 +100,12 @@ impl<const N: usize> Look<N> {
             &self.next.formed.bus,
             now,
         );
-        self.levels.push(prepared, &self.front, &filled, state);
+        self.next.prepare(self.levels.index(), state);
+        self.levels
+            .push(&self.next.prepared, &self.front, &filled, state);
         self.front.pass(&self.next.entry, &filled);
-        self.next.restart(place_behind(&prepared), &self.front);
+        let place = place_behind(&self.next.prepared);
+        self.next.restart(place, &self.front);
     }
 
     /// The next entry is known further, and becomes a level where this is its P. What is planned behind it is prepared later.

@@ -114,14 +114,14 @@ impl<const N: usize> Levels<N> {
 
     /// Appends an entry that is prepared at this tick, its P, behind `front`; `filled` is its row. Its register operands are taken from the
     /// state, and the index word that it changes is changed. There is room.
-    pub fn push(&mut self, prepared: Prepared, front: &Front, filled: &Filled, state: &State)
+    pub fn push(&mut self, prepared: &Prepared, front: &Front, filled: &Filled, state: &State)
         requires room { length self.old.ring < N }
-        requires prepared { IsPrepared prepared }
+        requires prepared { IsPrepared prepared.now }
         ensures ring { self.new.ring ≡ self.old.ring ++ (record {
-          prepared = prepared;
+          prepared = prepared.now;
           p = filled.now.row.p;
           r = filled.now.row.p;
-          have = register_in prepared state.now 0 ∷ register_in prepared state.now 1 ∷ [];
+          have = register_in prepared.now state.now 0 ∷ register_in prepared.now state.now 1 ∷ [];
         }) ∷ [] }
         ensures plans { self.new.plans ≡ self.old.plans ++ (record {
           front = front.now;
@@ -129,7 +129,7 @@ impl<const N: usize> Levels<N> {
           c = filled.now.row.c;
           fills = filled.now.fills;
         }) ∷ [] }
-        ensures index { self.new.x ≡ words_after self.old.x prepared.index }
+        ensures index { self.new.x ≡ words_after self.old.x prepared.now.index }
         ensures not_done { (now : ℕ) → AreNotDone now self.old → now < filled.now.row.c →
             AreNotDone now self.new }
 
@@ -140,7 +140,7 @@ impl<const N: usize> Levels<N> {
             let k = length self.old.ring in let u = guesses k t s in let i = table_behind k t in
             AreDelays most ds → IsMachine s → IfSome t (λ i. i < 64) →
             AreAhead ds n tick t s f last self.old → RunAhead k t s →
-            front.now ≡ last → tick ≡ filled.now.row.p → prepared ≡ plan_of u i →
+            front.now ≡ last → tick ≡ filled.now.row.p → prepared.now ≡ plan_of u i →
             filled.now.row ≡ row ds n last (entry i u) →
             filled.now.fills ≡ fills ds n last (entry i u) →
             ((entry i u).serial ≡ true → state.now ≡ u) →
@@ -148,10 +148,10 @@ impl<const N: usize> Levels<N> {
     {
         change(&mut self.x, prepared.index);
         self.ring.push(Level {
-            prepared,
+            prepared: *prepared,
             p: filled.row.p,
             r: filled.row.p,
-            have: registers(&prepared, state),
+            have: registers(prepared, state),
         });
         self.plans.push(Plan {
             front: *front,

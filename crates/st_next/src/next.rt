@@ -3,10 +3,9 @@ ghost use Rattle.std.specs.Prelude.{◌≡◌, ℕ, ◌+◌, ◌-◌, ◌<◌, �
 ghost use Rattle.st_bits.specs.Storage.{words_of_storage};
 ghost use Rattle.st_fetch.specs.Planned.{tick_of};
 ghost use Rattle.st_state.specs.Machine.{Machine, word};
-ghost use Rattle.st_prep.specs.EarlyChange.{words_after};
 ghost use Rattle.st_prep.specs.Fetch.{place_of as place_by};
 ghost use Rattle.st_prep.specs.Plan.{seen, plan as plan_of, prepared as prepared_of, needs as needs_of};
-ghost use Rattle.st_prep.specs.Ranges.{IsPlace, IsFetched, IsFetching, IsChange, IsPrepared, IsNeeds};
+ghost use Rattle.st_prep.specs.Ranges.{IsPlace, IsFetched, IsFetching, IsPrepared, IsNeeds};
 ghost use Rattle.st_prep.specs.Reading.{reading, left_after, given as given_of};
 ghost use Rattle.st_rows.specs.Asked.{word_asked, side_asked};
 ghost use Rattle.st_rows.specs.declared.front.Front.{Front as FrontAt};
@@ -24,7 +23,7 @@ use st_bits::register::FIRST_STORAGE_WORD;
 use st_format::{Decoded, Instr};
 use st_port::Port;
 use st_prep::{
-    Fetched, Fetching as Given, IndexChange, Needs, Place, Prepared, Words, fetch_on, prepare_in,
+    Fetched, Fetching as Given, Needs, Place, Prepared, Words, fetch_on, prepare_in,
     prepare_without_side, side_word,
 };
 use st_rows::{Entry, Fetching, Formed, Front, Run, Runs};
@@ -271,42 +270,40 @@ impl Next {
         }
     }
 
-    /// Prepares it for good, at its tick, where it is planned; the index word that it changes is changed in `x`.
+    /// Prepares it for good, at its tick, where it is planned.
     #[inline(always)]
-    pub fn prepare(&self, x: &mut [u64; 16], state: &State) -> Prepared
-        requires planned { self.now.planned ≡ true }
-        requires ready { IsReady x.old state.now self.now }
+    pub fn prepare(&mut self, x: &[u64; 16], state: &State)
+        requires planned { self.old.planned ≡ true }
+        requires ready { IsReady x.now state.now self.old }
         ensures value { (ds : List ℕ) (n now : ℕ) (f : FrontAt) (t : Option ℕ) (u : Machine) →
-            IfSome t (λ i. i < 64) → IsBefore now f.past x.old state.now u →
-            IsNext ds n t u f self.now → now ≡ self.now.formed.p →
-            ((entry_at t u).serial ≡ true → u ≡ state.now) → result ≡ plan_of u t }
-        ensures words { x.new ≡ words_after x.old result.index }
-        ensures ranges { IsPrepared result }
+            IfSome t (λ i. i < 64) → IsBefore now f.past x.now state.now u →
+            IsNext ds n t u f self.old → now ≡ self.old.formed.p →
+            ((entry_at t u).serial ≡ true → u ≡ state.now) → self.new.prepared ≡ plan_of u t }
+        ensures ranges { IsPrepared self.new.prepared }
+        ensures entry { self.new.entry ≡ self.old.entry }
     {
         if self.needs.index_read.is_none() {
-            change_index(self.prepared.index, x);
-            return self.prepared;
+            return;
         }
-        self.prepare_with_side(x, state)
+        self.prepare_with_side(x, state);
     }
 
     /// The same, by what stands in its index-side word now.
     #[inline(never)]
-    fn prepare_with_side(&self, x: &mut [u64; 16], state: &State) -> Prepared
-        requires planned { self.now.planned ≡ true }
-        requires ready { IsReady x.old state.now self.now }
+    fn prepare_with_side(&mut self, x: &[u64; 16], state: &State)
+        requires planned { self.old.planned ≡ true }
+        requires ready { IsReady x.now state.now self.old }
         ensures value { (ds : List ℕ) (n now : ℕ) (f : FrontAt) (t : Option ℕ) (u : Machine) →
-            IfSome t (λ i. i < 64) → IsBefore now f.past x.old state.now u →
-            IsNext ds n t u f self.now → now ≡ self.now.formed.p →
-            ((entry_at t u).serial ≡ true → u ≡ state.now) → result ≡ plan_of u t }
-        ensures words { x.new ≡ words_after x.old result.index }
-        ensures ranges { IsPrepared result }
+            IfSome t (λ i. i < 64) → IsBefore now f.past x.now state.now u →
+            IsNext ds n t u f self.old → now ≡ self.old.formed.p →
+            ((entry_at t u).serial ≡ true → u ≡ state.now) → self.new.prepared ≡ plan_of u t }
+        ensures ranges { IsPrepared self.new.prepared }
+        ensures entry { self.new.entry ≡ self.old.entry }
     {
-        let mut prepared = self.prepared;
         let read = side_word(state, self.place.table, self.needs.index_read);
-        prepared.place = self.place;
-        prepare_in(&mut prepared, &self.fetched, x, read, state);
-        prepared
+        self.prepared.place = self.place;
+        let mut after = *x;
+        prepare_in(&mut self.prepared, &self.fetched, &mut after, read, state);
     }
 
     /// Reads it on by one word, or plans it, unless the target of EX waits for the entry before. The result says whether it went on.
@@ -508,16 +505,6 @@ fn entry_of(own: Run, target: Run, needs: &Needs, prepared: &Prepared, fetched: 
         cost: prepared.cost,
         serial: prepared.serial,
         follows: prepared.place.table.is_none() && fetched.fault.is_none(),
-    }
-}
-
-/// Makes the change of an index word, if there is one.
-fn change_index(index: Option<IndexChange>, x: &mut [u64; 16])
-    requires { IfSome index IsChange }
-    ensures { x.new ≡ words_after x.old index }
-{
-    if let Some(change) = index {
-        x[change.number as usize] = change.word;
     }
 }
 

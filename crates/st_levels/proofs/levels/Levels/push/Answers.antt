@@ -27,7 +27,7 @@ returns-clause-ahead g c = λ ds n tick most t s f last are m some h free front 
     let v = c.args.self.now in
     let u = guesses (length v.ring) t s in
     let i = table_behind (length v.ring) t in
-    let p = c.args.prepared in
+    let p = c.args.prepared.now in
     let filled = c.args.filled.now in
     let state = c.args.state.now in
     let new : LevelsView = record { ring = c.push.new.self; plans = c.push-2.new.self; x = c.change.new.x } in

@@ -1,11 +1,6 @@
 use Rattle.st_next.proofs.Preparing.{none-of, none-plan, ready-none}
 use Rattle.st_next.proofs.next.Next.prepare.Goals as goal
 
-pub change_index-requires : goal.change_index-requires
-change_index-requires c =
-    let none = none-of c.args.self.now.needs.index_read c.is_none.result c.is_none.ensures c.if-is_none.true in
-    (ready-none _ _ c.args.self.now c.requires.planned c.requires.ready none).change
-
 pub returns-then-is_none-clause-value : goal.returns-then-is_none-clause-value
 returns-then-is_none-clause-value c ds n now f t u table before is at alone =
     let none = none-of c.args.self.now.needs.index_read c.is_none.result c.is_none.ensures c.if-is_none.true in
