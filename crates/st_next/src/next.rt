@@ -280,7 +280,7 @@ impl Next {
             IsNext ds n t u f self.old → now ≡ self.old.formed.p →
             ((entry_at t u).serial ≡ true → u ≡ state.now) → self.new.prepared ≡ plan_of u t }
         ensures ranges { IsPrepared self.new.prepared }
-        ensures entry { self.new.entry ≡ self.old.entry }
+        ensures rest { self.new ≡ record self.old { prepared = self.new.prepared } }
     {
         if self.needs.index_read.is_none() {
             return;
@@ -298,7 +298,7 @@ impl Next {
             IsNext ds n t u f self.old → now ≡ self.old.formed.p →
             ((entry_at t u).serial ≡ true → u ≡ state.now) → self.new.prepared ≡ plan_of u t }
         ensures ranges { IsPrepared self.new.prepared }
-        ensures entry { self.new.entry ≡ self.old.entry }
+        ensures rest { self.new ≡ record self.old { prepared = self.new.prepared } }
     {
         let read = side_word(state, self.place.table, self.needs.index_read);
         self.prepared.place = self.place;

@@ -8,3 +8,4 @@ pub mod Tight
 pub mod Turns
 pub mod Within
 pub mod Writers
+mod Shifted

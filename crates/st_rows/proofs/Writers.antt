@@ -1,5 +1,5 @@
 -- The latest writer of a word, looked for from the newest entry on.
-use Rattle.std.specs.Prelude.{◌&&◌, ◌||◌, nat_le, nat_lt}
+use Rattle.std.specs.Prelude.{◌&&◌, nat_le, nat_lt}
 use Rattle.std.proofs.Common.{◌≡◌, ℕ, ◌+◌, ◌<◌, ◌≤◌, true, false, List, length, get_or, drop, refl, add-one, drop-cons, arith}
 use Rattle.std.proofs.lemmas.Bool.Decides.{nat_tests}
 use Rattle.std.proofs.lemmas.List.{drop_all}

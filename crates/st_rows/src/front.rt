@@ -8,7 +8,7 @@ ghost use Rattle.st_rows.specs.Ranges.{IsEntry, IsTight, IsBusWithin, IsFetching
 use crate::bus::Bus;
 use crate::entry::{Entry, Run};
 use crate::fetching::Fetching;
-use crate::past::{Past, latest_done, with_newest};
+use crate::past::{Past, latest_done, put_newest};
 use crate::reading::Reading;
 use st_banks::{Delays, LastAnswers};
 
@@ -247,8 +247,8 @@ impl Front {
         self.p = filled.row.p;
         self.c = filled.row.c;
         self.serial = entry.serial;
-        self.past = with_newest(
-            self.past,
+        put_newest(
+            &mut self.past,
             Past {
                 c: filled.row.c,
                 writes: entry.writes,

@@ -25,11 +25,16 @@ pub fn latest_done(past: &[Past; 8], w: u32) -> u64
     0
 }
 
-/// The last eight entries after one more.
-pub(crate) fn with_newest(past: [Past; 8], newest: Past) -> [Past; 8]
-    ensures { result ≡ newest ∷ take 7 past }
+/// Keeps one entry more, and the seven before it.
+pub(crate) fn put_newest(past: &mut [Past; 8], newest: Past)
+    ensures { past.new ≡ newest ∷ take 7 past.old }
 {
-    [
-        newest, past[0], past[1], past[2], past[3], past[4], past[5], past[6],
-    ]
+    past[7] = past[6];
+    past[6] = past[5];
+    past[5] = past[4];
+    past[4] = past[3];
+    past[3] = past[2];
+    past[2] = past[1];
+    past[1] = past[0];
+    past[0] = newest;
 }

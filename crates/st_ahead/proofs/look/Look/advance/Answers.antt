@@ -1,4 +1,4 @@
-use Rattle.std.proofs.Common.{◌≡◌, ℕ, ◌+◌, true, List, sym, subst, arith}
+use Rattle.std.proofs.Common.{◌+◌, sym, subst, arith}
 use Rattle.st_ahead.specs.Look.{LookView}
 use Rattle.st_ahead.specs.Going.{IsGoing}
 use Rattle.st_ahead.proofs.Further.{going-planned, going-waits}

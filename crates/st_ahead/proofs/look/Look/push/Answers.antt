@@ -11,6 +11,7 @@ use Rattle.st_segment.specs.Entries.{entry}
 use Rattle.st_segment.specs.Guesses.{guesses, table_behind}
 use Rattle.st_levels.specs.Levels.{AreAhead}
 use Rattle.st_next.specs.Known.{IsBefore}
+use Rattle.st_next.specs.declared.next.Next.{Next}
 use Rattle.st_ahead.specs.Look.{LookView, count}
 use Rattle.st_ahead.specs.Going.{IsGoing}
 use Rattle.st_ahead.proofs.Due.{row-p, after-p}
@@ -65,7 +66,7 @@ returns-clause-prepared g c =
     let due : view.next.formed.p ≡ now = ap (λ (w : LookView). w.next.formed.p) c.self.view_is ∙ c.requires.due in
     let becomes = c.planned_entries_become_levels.ensures ds n now t s f view c.requires.some c.requires.few
     (AreDelays-list ds c.shape.ensures) (omega (arith, c.len-few.ensures.value, c.len-few.ensures.within)) c.requires.early is planned due in
-    let entry_is : c.prepare.new.self.entry ≡ view.next.entry = c.prepare.ensures.entry in
+    let entry_is : c.prepare.new.self.entry ≡ view.next.entry = ap (λ (next : Next). next.entry) c.prepare.ensures.rest in
     ap (λ (x : Front). x.p) (passed ds n view.front view.next.entry c.prepare.new.self.entry c.pass.new.self c.fill-filled.result entry_is
     (c.pass.ensures ds n) c.fill-filled.ensures.value c.fill-filled.ensures.bus) ∙ after-p ds n view.front view.next.entry ∙ sym becomes.tick ∙ due
 
@@ -98,7 +99,7 @@ returns-clause-going g c = λ t f given.
     let done : (row ds n view.front x).r < (row ds n view.front x).c = (c.rows_are_in_order.ensures.done ds n view.front x becomes.range).0 in
     let late : now < filled.row.c = omega (arith, ready, done, p_is, ap (λ (r : Row). r.p) row_is, ap (λ (r : Row). r.c) row_is) in
     let front : new.front ≡ after ds n view.front x =
-    passed ds n view.front x c.prepare.new.self.entry c.pass.new.self filled c.prepare.ensures.entry (c.pass.ensures ds n) c.fill-filled.ensures.value c.fill-filled.ensures.bus in
+    passed ds n view.front x c.prepare.new.self.entry c.pass.new.self filled (ap (λ (next : Next). next.entry) c.prepare.ensures.rest) (c.pass.ensures ds n) c.fill-filled.ensures.value c.fill-filled.ensures.bus in
     let tight = subst (λ (h : Front). IsTight 255 h) (sym front) (c.completions_are_bounded.ensures.tight 255 n ds view.front x are becomes.range is.tight) in
     let bound : new.front.c ≤ view.front.c + 16576 = omega (arith, ap (λ (h : Front). h.c) front, c.completions_are_bounded.ensures.bound 255 n ds view.front x are becomes.range is.tight) in
     let pushed = c.push.ensures.ahead ds n now 255 t s f view.front are is.machine is.indicator is.ahead becomes.run refl (sym p_is) plan_is

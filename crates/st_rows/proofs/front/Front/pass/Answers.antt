@@ -1,7 +1,7 @@
-use Rattle.std.proofs.Common.{refl, sym, ap, ◌∙◌}
-use Rattle.st_rows.specs.Rows.{row, after, tick_p, tick_c}
+use Rattle.std.proofs.Common.{refl}
+use Rattle.st_rows.specs.Rows.{row, after}
 use Rattle.st_rows.proofs.front.Front.pass.Goals as goal
 
 pub returns : goal.returns
 unfolding row after
-returns c ds n is bus = rw (c.with_newest-self.ensures, bus, is) refl
+returns c ds n is bus = rw (c.put_newest.ensures, bus, is) refl
