@@ -22,7 +22,7 @@ impl<const N: usize> Look<N> {
     ghost use Rattle.st_ahead.specs.Look.{IsLook};
     ghost use Rattle.st_ahead.specs.Going.{IsGoing, Goes};
 
-    /// The next entry is known as far as the tick `now` allows.
+    // The next entry is known as far as the tick `now` allows.
     #[inline(always)]
     fn advance(&mut self, now: u64, state: &State, delays: &Delays)
         requires some { 1 ≤ N }
@@ -44,7 +44,7 @@ impl<const N: usize> Look<N> {
         self.advance_now(now, state, delays);
     }
 
-    /// The same where its first word is wanted by now.
+    // The same where its first word is wanted by now.
     #[inline(never)]
     fn advance_now(&mut self, now: u64, state: &State, delays: &Delays)
         requires some { 1 ≤ N }
@@ -71,7 +71,7 @@ impl<const N: usize> Look<N> {
         self.next.advance(&outlook, state, delays, &mut self.port);
     }
 
-    /// The next entry becomes a level at the tick `now`, its P.
+    // The next entry becomes a level at the tick `now`, its P.
     fn push(&mut self, now: u64, state: &State, delays: &Delays)
         requires some { 1 ≤ N }
         requires few { N ≤ 8 }
@@ -108,7 +108,7 @@ impl<const N: usize> Look<N> {
         self.next.restart(place, &self.front);
     }
 
-    /// The next entry is known further, and becomes a level where this is its P. What is planned behind it is prepared later.
+    // The next entry is known further, and becomes a level where this is its P. What is planned behind it is prepared later.
     fn settle(&mut self, now: u64, state: &State, delays: &Delays)
         requires some { 1 ≤ N }
         requires few { N ≤ 8 }
@@ -147,8 +147,8 @@ impl<const N: usize> Look<N> {
     }
 }
 
-/// Asks for the operands and the following words of an entry that is prepared at the tick `now`, where no read is left to be made;
-/// `bus` is the one after its index-side word.
+// Asks for the operands and the following words of an entry that is prepared at the tick `now`, where no read is left to be made;
+// `bus` is the one after its index-side word.
 fn ask_data(port: &mut Port, past: &[Past; 8], entry: &Entry, bus: &Bus, now: u64)
     requires entry { IsEntry entry.now }
     requires made { port.old.reads ≡ [] }
@@ -161,7 +161,7 @@ fn ask_data(port: &mut Port, past: &[Past; 8], entry: &Entry, bus: &Bus, now: u6
     port.ask_following(bus, entry, now);
 }
 
-/// The place behind an entry, by the counter that it is guessed to leave.
+// The place behind an entry, by the counter that it is guessed to leave.
 fn place_behind(prepared: &Prepared) -> Place
     ensures { result ≡ record {
       counter = prepared.now.following;

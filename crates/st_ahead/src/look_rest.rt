@@ -13,8 +13,8 @@ use st_segment::entries_are_in_range;
 impl<const N: usize> Look<N> {
     ghost use Rattle.st_ahead.specs.Look.{IsLook};
 
-    /// A tick, `limit` at the latest, up to which nothing changes in what runs ahead: at the tick `now` and at each later one before it no entry is
-    /// done or prepared, no operand comes, no read is made, and nothing more of the next entry is known.
+    // A tick, `limit` at the latest, up to which nothing changes in what runs ahead: at the tick `now` and at each later one before it no entry is
+    // done or prepared, no operand comes, no read is made, and nothing more of the next entry is known.
     pub(crate) fn rests_to(&self, now: u64, limit: u64) -> u64
         ensures limit { result ≤ limit }
         ensures rests { (ds : List ℕ) (tick later : ℕ) (t : Option ℕ) (s : Machine) (f : FrontOf) →

@@ -11,35 +11,35 @@ impl<const N: usize> Look<N> {
     ghost use Rattle.st_ahead.specs.Look.{count};
     ghost use Rattle.st_ahead.specs.Inside.{kept_at};
 
-    /// Makes known that there are at most N levels.
+    // Makes known that there are at most N levels.
     pub(crate) fn shape(&self)
         ensures { count self.now ≤ N }
     {
         let _few = self.levels.len();
     }
 
-    /// The next entry stands at this place.
+    // The next entry stands at this place.
     pub(crate) fn stand(&mut self, place: Place)
         ensures { self.new ≡ record self.old { next = record self.old.next { place = place } } }
     {
         self.next.place = place;
     }
 
-    /// The levels, oldest first.
+    // The levels, oldest first.
     pub(crate) fn ring(&self) -> &SpecRing<N>
         ensures { result.now ≡ self.now.levels.ring }
     {
         self.levels.ring()
     }
 
-    /// The index words that run ahead.
+    // The index words that run ahead.
     pub(crate) fn index(&self) -> &[u64; 16]
         ensures { result.now ≡ self.now.levels.x }
     {
         self.levels.index()
     }
 
-    /// Level k, counted from the oldest, as it is shown at a tick; none behind the last one.
+    // Level k, counted from the oldest, as it is shown at a tick; none behind the last one.
     pub(crate) fn level(&self, k: usize, tick: u64) -> Option<LevelView>
         ensures { result ≡ kept_at tick self.now.levels.ring self.now.levels.plans k }
     {
@@ -58,7 +58,7 @@ impl<const N: usize> Look<N> {
     }
 }
 
-/// The number of the index word that is changed early.
+// The number of the index word that is changed early.
 fn number_of(change: Option<IndexChange>) -> Option<u8>
     ensures { result ≡ option_map (λ c. c.number) change }
 {
@@ -68,7 +68,7 @@ fn number_of(change: Option<IndexChange>) -> Option<u8>
     }
 }
 
-/// That word before, 0 where none is changed.
+// That word before, 0 where none is changed.
 fn kept_of(change: Option<IndexChange>) -> u64
     ensures { result ≡ kept_by change }
 {

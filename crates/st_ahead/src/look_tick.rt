@@ -38,7 +38,7 @@ impl<const N: usize> Look<N> {
         None
     }
 
-    /// The oldest entry is done, of which the operands are there. Behind one that is done alone the place of the next one is known only now.
+    // The oldest entry is done, of which the operands are there. Behind one that is done alone the place of the next one is known only now.
     fn complete(&mut self, state: &mut State) -> Completed
         requires ready { IsOldestReady state.old self.old.levels }
         requires few { state.old.done < 2 ^ 63 }
@@ -55,8 +55,8 @@ impl<const N: usize> Look<N> {
         done
     }
 
-    /// Operands that come at this tick are put into their levels, of which none is done by then. They are the same in the state that the levels
-    /// run ahead of, which may have another counter.
+    // Operands that come at this tick are put into their levels, of which none is done by then. They are the same in the state that the levels
+    // run ahead of, which may have another counter.
     fn fill(&mut self, state: &State, now: u64)
         ensures { (ds : List ℕ) (tick : ℕ) (t : Option ℕ) (s : Machine) (f : FrontOf) → AreDelays 255 ds →
             IsLook ds N tick now t s f self.old → now ≡ tick + 1 → now < (row ds N f (entry t s)).c →

@@ -158,7 +158,7 @@ impl<const N: usize> Machine<N> {
         Settled::Missed { dropped }
     }
 
-    /// Whether nothing else comes behind the last tick than that it goes on.
+    // Whether nothing else comes behind the last tick than that it goes on.
     fn goes_on(&self) -> bool
         ensures yes { result ≡ true → (interrupt_due_of self.entry.now ≡ None)
             × (rests self.entry.now.state ≡ false) × (self.entry.now.behind ≡ None) }
@@ -183,14 +183,14 @@ impl<const N: usize> Machine<N> {
         let _ = &self.now;
     }
 
-    /// Whether an entry was done at this tick.
+    // Whether an entry was done at this tick.
     fn is_fresh(&self) -> bool
         ensures { result ≡ false → self.entry.now.closing ≡ None }
     {
         self.fresh
     }
 
-    /// The interrupt that is taken before the next entry.
+    // The interrupt that is taken before the next entry.
     fn interrupt_due(&self) -> Option<u8>
         ensures value { result ≡ interrupt_due_of self.entry.now }
         ensures bound { IfSome result (λ i. i < 64) }
@@ -201,14 +201,14 @@ impl<const N: usize> Machine<N> {
         st_exec::interrupt(&self.state)
     }
 
-    /// Whether the machine waits, and nothing is pending.
+    // Whether the machine waits, and nothing is pending.
     fn is_resting(&self) -> bool
         ensures { result ≡ rests self.entry.now.state }
     {
         is_at_rest(&self.state)
     }
 
-    /// Whether a branch was missed at this tick.
+    // Whether a branch was missed at this tick.
     fn is_misled(&self) -> bool
         ensures { result ≡ is_some self.entry.now.behind }
     {
@@ -222,7 +222,7 @@ impl<const N: usize> Machine<N> {
         self.is_misled() || self.interrupt_due().is_some()
     }
 
-    /// The segment ends at this tick, at which an entry was done; where it has not ended already. The result is the number of levels dropped.
+    // The segment ends at this tick, at which an entry was done; where it has not ended already. The result is the number of levels dropped.
     fn end(&mut self) -> u8
         requires owed { self.old.owed ≡ true }
         requires done { IsSome self.old.closing }
@@ -242,7 +242,7 @@ impl<const N: usize> Machine<N> {
         dropped
     }
 
-    /// The interrupt by this indicator, which is due, is taken.
+    // The interrupt by this indicator, which is due, is taken.
     fn interrupt(&mut self, indicator: u8) -> Settled
         requires owed { self.old.owed ≡ true }
         requires due { interrupt_due_of self.old ≡ Some indicator }
@@ -271,7 +271,7 @@ impl<const N: usize> Machine<N> {
         }
     }
 
-    /// The tick passes, where the segment has ended at it, no interrupt is due and the machine is not at rest.
+    // The tick passes, where the segment has ended at it, no interrupt is due and the machine is not at rest.
     fn pass(&mut self)
         requires owed { self.old.owed ≡ true }
         requires ended { self.old.ended ≡ true }
@@ -287,7 +287,7 @@ impl<const N: usize> Machine<N> {
         self.now += 1;
     }
 
-    /// What runs ahead goes on, where nothing else comes.
+    // What runs ahead goes on, where nothing else comes.
     fn go_on(&mut self)
         requires owed { self.old.owed ≡ true }
         requires due { interrupt_due_of self.old ≡ None }
@@ -335,7 +335,7 @@ impl<const N: usize> Machine<N> {
         }
     }
 
-    /// The segment ends at this tick, at which no entry was done; where it has not ended already. The result is the number of levels dropped.
+    // The segment ends at this tick, at which no entry was done; where it has not ended already. The result is the number of levels dropped.
     fn give_up(&mut self) -> u8
         requires owed { self.old.owed ≡ true }
         requires none { self.old.closing ≡ None }
@@ -370,7 +370,7 @@ impl<const N: usize> Machine<N> {
         dropped
     }
 
-    /// The order of the reader takes effect without a card.
+    // The order of the reader takes effect without a card.
     fn read_nothing(&mut self)
         requires order { IsSome self.old.state.reader }
         requires turn { MayServe self.old }
@@ -383,7 +383,7 @@ impl<const N: usize> Machine<N> {
         self.state.shape();
     }
 
-    /// The order of the reader takes effect with a card, where the segment has ended.
+    // The order of the reader takes effect with a card, where the segment has ended.
     fn store_card(&mut self, card: [u64; 8])
         requires order { IsSome self.old.state.reader }
         requires turn { MayServe self.old }
@@ -454,7 +454,7 @@ impl<const N: usize> Machine<N> {
         }
     }
 
-    /// The number of the tick that was made last, 0 before the first one.
+    // The number of the tick that was made last, 0 before the first one.
     fn last_tick(&self) -> u64
         ensures { result ≡ last_tick_of self.entry.now }
     {
@@ -464,14 +464,14 @@ impl<const N: usize> Machine<N> {
         if self.now == 0 { 0 } else { self.now - 1 }
     }
 
-    /// The number of instructions done.
+    // The number of instructions done.
     fn done(&self) -> u64
         ensures { result ≡ self.entry.now.state.done }
     {
         done_in(&self.state)
     }
 
-    /// Level k, counted from the oldest, as it is shown; none behind the last one. There is room for eight.
+    // Level k, counted from the oldest, as it is shown; none behind the last one. There is room for eight.
     fn level(&self, k: usize) -> Option<LevelView>
         ensures value { result ≡ get_or (shown self.entry.now).levels k None }
         ensures eight { length (shown self.entry.now).levels ≡ 8 }
@@ -492,14 +492,14 @@ impl<const N: usize> Machine<N> {
     }
 }
 
-/// The number of instructions done.
+// The number of instructions done.
 fn done_in(state: &State) -> u64
     ensures { result ≡ state.now.done }
 {
     state.done
 }
 
-/// The counter.
+// The counter.
 fn counter_of(state: &State) -> u32
     ensures { result ≡ state.now.ic }
 {

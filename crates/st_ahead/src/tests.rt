@@ -9,14 +9,14 @@ use std::alloc::{AllocError, Global};
 use std::process::Abort;
 use std::test::Fail;
 
-/// A multiplication, which takes 12 ticks, an addition to index word 1, and a wait; they start at word 32.
+// A multiplication, which takes 12 ticks, an addition to index word 1, and a wait; they start at word 32.
 const CARDS: [(u32, u64); 3] = [
     (32, 0x000A_00F0_0000_0520),
     (33, 0x0000_4330_0000_0970),
     (40, 7),
 ];
 
-/// A list of `n` words with no bit that is one.
+// A list of `n` words with no bit that is one.
 fn zeros(alloc: Global, n: usize) -> Result<Vec<u64>, AllocError>
     ensures size { IfOk result (λ v. length v.items ≡ n) }
     ensures zeros { IfOk result (λ v. (w : ℕ) → slice_index v.items w ≡ 0) }
@@ -24,7 +24,7 @@ fn zeros(alloc: Global, n: usize) -> Result<Vec<u64>, AllocError>
     vec![in alloc; 0; n]
 }
 
-/// The state before them.
+// The state before them.
 fn opened(rt: &impl Abort, alloc: Global) -> Result<State, Fail> {
     let image = zeros(alloc, WORDS as usize)?;
     let Ok(mut state) = State::new(alloc, &image, 64) else {
@@ -37,7 +37,7 @@ fn opened(rt: &impl Abort, alloc: Global) -> Result<State, Fail> {
     Ok(state)
 }
 
-/// A machine of four levels before its first tick, each read of which takes one tick.
+// A machine of four levels before its first tick, each read of which takes one tick.
 fn begun(rt: &impl Abort, alloc: Global, state: State) -> Result<Machine<4>, Fail>
     ensures settled { IfOk result (λ m. m.owed ≡ false) }
     ensures first { IfOk result (λ m. m.now ≡ 0) }
@@ -50,7 +50,7 @@ fn begun(rt: &impl Abort, alloc: Global, state: State) -> Result<Machine<4>, Fai
     }
 }
 
-/// Makes a tick at which no entry is done.
+// Makes a tick at which no entry is done.
 fn make_tick(rt: &impl Abort, machine: &mut Machine<4>)
     requires settled { machine.old.owed ≡ false }
     requires early { machine.old.now < 1000 }
@@ -64,7 +64,7 @@ fn make_tick(rt: &impl Abort, machine: &mut Machine<4>)
     };
 }
 
-/// Settles it; the machine goes on.
+// Settles it; the machine goes on.
 fn settle(rt: &impl Abort, machine: &mut Machine<4>)
     requires owed { machine.old.owed ≡ true }
     requires done { machine.old.state.done ≡ 0 }
@@ -77,7 +77,7 @@ fn settle(rt: &impl Abort, machine: &mut Machine<4>)
     };
 }
 
-/// Makes so many ticks at which no entry is done, and settles them.
+// Makes so many ticks at which no entry is done, and settles them.
 fn make_ticks(rt: &impl Abort, machine: &mut Machine<4>, count: u64)
     requires settled { machine.old.owed ≡ false }
     requires early { machine.old.now + count ≤ 1000 }
@@ -92,7 +92,7 @@ fn make_ticks(rt: &impl Abort, machine: &mut Machine<4>, count: u64)
     }
 }
 
-/// Passes over ticks up to the tick `limit`.
+// Passes over ticks up to the tick `limit`.
 fn pass_over(machine: &mut Machine<4>, limit: u64) -> u64
     requires settled { machine.old.owed ≡ false }
     requires done { machine.old.state.done ≡ 0 }

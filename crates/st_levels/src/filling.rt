@@ -12,7 +12,7 @@ use st_prep::Prepared;
 use st_ring::SpecRing;
 use st_state::State;
 
-/// When the operand word in place `k` is there, by the ticks of the first two words above the registers.
+// When the operand word in place `k` is there, by the ticks of the first two words above the registers.
 fn fill_tick(p: &Prepared, fills: &[u64; 2], k: u8) -> u64
     requires prepared { IsPrepared p.now }
     requires slot { k < 2 }
@@ -27,7 +27,7 @@ fn fill_tick(p: &Prepared, fills: &[u64; 2], k: u8) -> u64
     }
 }
 
-/// The word that comes into slot `k` of an entry at this tick.
+// The word that comes into slot `k` of an entry at this tick.
 fn coming(p: &Prepared, fills: &[u64; 2], k: u8, state: &State, now: u64) -> Option<u64>
     requires prepared { IsPrepared p.now }
     requires slot { k < 2 }
@@ -44,14 +44,14 @@ fn coming(p: &Prepared, fills: &[u64; 2], k: u8, state: &State, now: u64) -> Opt
     }
 }
 
-/// Whether one of these ticks is now.
+// Whether one of these ticks is now.
 fn is_one_now(fills: &[u64; 2], now: u64) -> bool
     ensures { result ≡ (slice_index fills.now 0 == now || slice_index fills.now 1 == now) }
 {
     fills[0] == now || fills[1] == now
 }
 
-/// Puts a word, if there is one, into a slot of level k.
+// Puts a word, if there is one, into a slot of level k.
 fn put<const N: usize>(ring: &mut SpecRing<N>, k: usize, slot: u8, word: Option<u64>, now: u64)
     requires level { k < length ring.old }
     requires slot { slot < 2 }
@@ -64,7 +64,7 @@ fn put<const N: usize>(ring: &mut SpecRing<N>, k: usize, slot: u8, word: Option<
     }
 }
 
-/// Puts the words that come at this tick into the slots of level k.
+// Puts the words that come at this tick into the slots of level k.
 fn fill_level<const N: usize>(
     ring: &mut SpecRing<N>,
     k: usize,
@@ -90,7 +90,7 @@ fn fill_level<const N: usize>(
     put(ring, k, 1, second, now);
 }
 
-/// Puts the words that come at this tick into the slots of all levels.
+// Puts the words that come at this tick into the slots of all levels.
 pub(crate) fn fill_all<const N: usize>(
     ring: &mut SpecRing<N>,
     plans: &Plans,

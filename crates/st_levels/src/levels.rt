@@ -226,7 +226,7 @@ impl<const N: usize> Levels<N> {
     }
 }
 
-/// Executes the entry of a level, by the operands in its slots.
+// Executes the entry of a level, by the operands in its slots.
 fn execute_level(level: &Level, operands: &mut [u64; 32], state: &mut State)
     requires prepared { IsPrepared level.now.prepared }
     requires operands { HasOperands state.old level.now }
@@ -238,7 +238,7 @@ fn execute_level(level: &Level, operands: &mut [u64; 32], state: &mut State)
     complete(&level.prepared, operands, state);
 }
 
-/// The index words behind an entry that is done: those of the state where it is done alone, and else as they were.
+// The index words behind an entry that is done: those of the state where it is done alone, and else as they were.
 fn renew(x: &mut [u64; 16], alone: bool, state: &State)
     ensures alone { alone ≡ true → x.new ≡ index_words_of state.now }
     ensures stays { alone ≡ false → x.new ≡ x.old }

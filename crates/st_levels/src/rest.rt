@@ -31,7 +31,7 @@ impl<const N: usize> Levels<N> {
     }
 }
 
-/// The earlier one of two ticks, where the second one does not come before `now`.
+// The earlier one of two ticks, where the second one does not come before `now`.
 fn earlier(to: u64, tick: u64, now: u64) -> u64
     ensures first { result ≤ to }
     ensures second { now ≤ tick → result ≤ tick }

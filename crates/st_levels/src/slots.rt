@@ -15,7 +15,7 @@ use st_prep::{IndexChange, Prepared};
 use st_ring::Level;
 use st_state::State;
 
-/// Makes the change of an index word, if there is one.
+// Makes the change of an index word, if there is one.
 pub(crate) fn change(x: &mut [u64; 16], change: Option<IndexChange>)
     requires { IfSome change IsChange }
     ensures { x.new ≡ words_after x.old change }
@@ -25,14 +25,14 @@ pub(crate) fn change(x: &mut [u64; 16], change: Option<IndexChange>)
     }
 }
 
-/// Whether an instruction is T or SWAP.
+// Whether an instruction is T or SWAP.
 pub(crate) fn is_transmission(instr: &Instr) -> bool
     ensures { result ≡ is_transmission_of instr.now }
 {
     matches!(*instr, Instr::Move { .. })
 }
 
-/// The word of slot `k` that is there as soon as an entry is prepared: a register.
+// The word of slot `k` that is there as soon as an entry is prepared: a register.
 fn register(p: &Prepared, k: u8, state: &State) -> Option<u64>
     requires prepared { IsPrepared p.now }
     requires slot { k < 2 }
@@ -49,7 +49,7 @@ fn register(p: &Prepared, k: u8, state: &State) -> Option<u64>
     }
 }
 
-/// The same of both slots.
+// The same of both slots.
 pub(crate) fn registers(p: &Prepared, state: &State) -> [Option<u64>; 2]
     requires { IsPrepared p.now }
     ensures { result ≡ register_in p.now state.now 0 ∷ register_in p.now state.now 1 ∷ [] }
@@ -57,7 +57,7 @@ pub(crate) fn registers(p: &Prepared, state: &State) -> [Option<u64>; 2]
     [register(p, 0, state), register(p, 1, state)]
 }
 
-/// Puts the operands of a level at the front, those in its slots or, of T and SWAP, those in storage.
+// Puts the operands of a level at the front, those in its slots or, of T and SWAP, those in storage.
 pub(crate) fn put_operands(level: &Level, operands: &mut [u64; 32], state: &State)
     requires prepared { IsPrepared level.now.prepared }
     requires operands { HasOperands state.now level.now }
@@ -71,7 +71,7 @@ pub(crate) fn put_operands(level: &Level, operands: &mut [u64; 32], state: &Stat
     operands[1] = level.have[1].unwrap_or(0);
 }
 
-/// The counter by which what runs ahead of an entry goes on, where the guess of it is wrong.
+// The counter by which what runs ahead of an entry goes on, where the guess of it is wrong.
 pub(crate) fn missed(p: &Prepared, state: &State) -> Option<u32>
     requires { IsPrepared p.now }
     ensures { result ≡ (if is_missed_of p.now state.now then Some p.now.following else None) }

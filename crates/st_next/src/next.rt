@@ -109,7 +109,7 @@ impl Next {
         self.planned = false;
     }
 
-    /// The tick from which on its next word is wanted, as far as the words so far tell.
+    // The tick from which on its next word is wanted, as far as the words so far tell.
     pub(crate) fn wanted(&self, front: &Front) -> u64
         ensures { result ≡ wanted_next front.now self.now }
     {
@@ -121,7 +121,7 @@ impl Next {
             .max(self.words.awaited)
     }
 
-    /// The address of one of the words so far, 0 behind them.
+    // The address of one of the words so far, 0 behind them.
     fn word_at(&self, k: u8) -> u32
         requires words { IsEntry (words_alone self.now.own self.now.target) }
         ensures value { k < self.now.own.len + self.now.target.len → result
@@ -138,7 +138,7 @@ impl Next {
         0
     }
 
-    /// The contents of the words so far.
+    // The contents of the words so far.
     fn contents(&self, state: &State) -> [u64; 4]
         requires words { IsEntry (words_alone self.now.own self.now.target) }
         ensures { take (self.now.own.len + self.now.target.len) result
@@ -152,7 +152,7 @@ impl Next {
         ]
     }
 
-    /// How far it is fetched by the words so far.
+    // How far it is fetched by the words so far.
     #[inline(always)]
     fn given(&self, x: &[u64; 16], state: &State) -> Given
         requires place { IsPlace self.now.place }
@@ -171,7 +171,7 @@ impl Next {
         self.given_more(x, state)
     }
 
-    /// The same of any number of words.
+    // The same of any number of words.
     #[inline(never)]
     fn given_more(&self, x: &[u64; 16], state: &State) -> Given
         requires place { IsPlace self.now.place }
@@ -185,7 +185,7 @@ impl Next {
         fetch_on(&self.place, x, &contents[..so_far], state)
     }
 
-    /// Asks for an instruction word that is wanted from `from` on, unless it is held.
+    // Asks for an instruction word that is wanted from `from` on, unless it is held.
     #[inline(always)]
     fn ask(&mut self, w: u32, from: u64, front: &Front, delays: &Delays, port: &mut Port)
         requires room { IsEarly front.now self.old.words }
@@ -205,7 +205,7 @@ impl Next {
         self.words.word(delays, &front.past, w, from);
     }
 
-    /// Asks for a word of its own.
+    // Asks for a word of its own.
     fn ask_own(&mut self, w: u32, front: &Front, delays: &Delays, port: &mut Port)
         requires words { self.old.own.len ≤ 16 }
         requires room { IsEarly front.now self.old.words }
@@ -223,7 +223,7 @@ impl Next {
         self.own = with_word(self.own, w);
     }
 
-    /// Asks for a word of the target of EX, which waits for the entry before.
+    // Asks for a word of the target of EX, which waits for the entry before.
     #[inline(never)]
     fn ask_target(&mut self, w: u32, front: &Front, delays: &Delays, port: &mut Port)
         requires words { self.old.target.len ≤ 16 }
@@ -288,7 +288,7 @@ impl Next {
         self.prepare_with_side(x, state);
     }
 
-    /// The same, by what stands in its index-side word now.
+    // The same, by what stands in its index-side word now.
     #[inline(never)]
     fn prepare_with_side(&mut self, x: &[u64; 16], state: &State)
         requires planned { self.old.planned ≡ true }
@@ -306,7 +306,7 @@ impl Next {
         prepare_in(&mut self.prepared, &self.fetched, &mut after, read, state);
     }
 
-    /// Reads it on by one word, or plans it, unless the target of EX waits for the entry before. The result says whether it went on.
+    // Reads it on by one word, or plans it, unless the target of EX waits for the entry before. The result says whether it went on.
     fn go_on(&mut self, outlook: &Outlook, state: &State, delays: &Delays, port: &mut Port) -> bool
         requires known { IsKnown delays.now outlook.now.levels outlook.now.tick
             outlook.now.front.now outlook.now.x.now state.now self.old }
@@ -349,7 +349,7 @@ impl Next {
         }
     }
 
-    /// Plans the entry, of which this is fetched.
+    // Plans the entry, of which this is fetched.
     fn plan(
         &mut self,
         fetched: Fetched,
@@ -389,8 +389,8 @@ impl Next {
     }
 }
 
-/// Prepares an entry as far as it goes without its index-side word. What follows knows the form of a frequent instruction, so that it is told
-/// apart once.
+// Prepares an entry as far as it goes without its index-side word. What follows knows the form of a frequent instruction, so that it is told
+// apart once.
 #[inline(always)]
 fn prepare_as(p: &mut Prepared, fetched: &Fetched, x: &[u64; 16], state: &State) -> Needs
     requires place { IsPlace p.old.place }
@@ -448,7 +448,7 @@ fn prepare_as(p: &mut Prepared, fetched: &Fetched, x: &[u64; 16], state: &State)
     }
 }
 
-/// The same of any entry.
+// The same of any entry.
 #[inline(never)]
 fn prepare_any(p: &mut Prepared, fetched: &Fetched, x: &[u64; 16], state: &State) -> Needs
     requires place { IsPlace p.old.place }
@@ -463,7 +463,7 @@ fn prepare_any(p: &mut Prepared, fetched: &Fetched, x: &[u64; 16], state: &State
     prepare_without_side(p, fetched, x, state)
 }
 
-/// The same of an own instruction whose words may be fetched, and which has no target.
+// The same of an own instruction whose words may be fetched, and which has no target.
 #[inline(always)]
 fn prepare_own(p: &mut Prepared, own: Decoded, x: &[u64; 16], state: &State) -> Needs
     requires place { IsPlace p.old.place }
@@ -483,7 +483,7 @@ fn prepare_own(p: &mut Prepared, own: Decoded, x: &[u64; 16], state: &State) -> 
     prepare_without_side(p, &fetched, x, state)
 }
 
-/// An entry with these instruction words as the timetable sees it.
+// An entry with these instruction words as the timetable sees it.
 fn entry_of(own: Run, target: Run, needs: &Needs, prepared: &Prepared, fetched: &Fetched) -> Entry
     ensures { result ≡ record {
       own = own;
@@ -508,7 +508,7 @@ fn entry_of(own: Run, target: Run, needs: &Needs, prepared: &Prepared, fetched: 
     }
 }
 
-/// A run with one word more.
+// A run with one word more.
 fn with_word(run: Run, w: u32) -> Run
     requires { run.len ≤ 16 }
     ensures { result ≡ with_word_of run w }
@@ -520,7 +520,7 @@ fn with_word(run: Run, w: u32) -> Run
     }
 }
 
-/// A run of words without the registers at its front.
+// A run of words without the registers at its front.
 #[tactic(auto, unfolding(st_segment::specs::Entries::above_registers))]
 fn above_registers(first: u32, len: u8) -> Run
     ensures { result ≡ above_registers_of first len }
@@ -535,7 +535,7 @@ fn above_registers(first: u32, len: u8) -> Run
     }
 }
 
-/// The operand words that make reads.
+// The operand words that make reads.
 #[tactic(auto, unfolding(st_segment::specs::Entries::words_to_read))]
 fn words_to_read(words: Words) -> Runs
     ensures { result ≡ words_to_read_of words }
@@ -546,7 +546,7 @@ fn words_to_read(words: Words) -> Runs
     }
 }
 
-/// The words that are written.
+// The words that are written.
 fn words_to_write(words: Words) -> Runs
     ensures { result ≡ words_to_write_of words }
 {
@@ -562,7 +562,7 @@ fn words_to_write(words: Words) -> Runs
     }
 }
 
-/// The index-side word, where it makes a read.
+// The index-side word, where it makes a read.
 #[tactic(auto, unfolding(st_segment::specs::Entries::side_to_read))]
 fn side_to_read(side: Option<u32>) -> Option<u32>
     ensures { result ≡ side_to_read_of side }

@@ -13,10 +13,10 @@ use st_fetch::{HeldWords, Want, Wants};
 use st_rows::{Bus, Entry, Past, Run, Runs, latest_done};
 use std::marker::Model;
 
-/// The number of words of storage.
+// The number of words of storage.
 const WORDS: u32 = 98_304;
 
-/// The purpose of a want of an instruction word.
+// The purpose of a want of an instruction word.
 const FETCH: u8 = 1;
 
 /// The bus after the reads that were made, and at most 40 reads that are asked for and still to be made, first in first out.
@@ -180,7 +180,7 @@ impl Port {
             .min(limit)
     }
 
-    /// Asks for a word that is no instruction word, unless an earlier entry writes it that is done later.
+    // Asks for a word that is no instruction word, unless an earlier entry writes it that is done later.
     fn ask_data(&mut self, past: &[Past; 8], w: u32, tick: u64)
         requires { length self.old.reads < 40 }
         ensures reads { self.new.reads ≡ self.old.reads ++ data_asked past.now w tick }
@@ -192,7 +192,7 @@ impl Port {
         }
     }
 
-    /// Asks for the operand words of a run.
+    // Asks for the operand words of a run.
     #[tactic(auto, unfolding(st_rows::specs::Asked::operands_asked))]
     fn ask_run(&mut self, past: &[Past; 8], run: Run, p: u64)
         requires words { IsReadable run }
@@ -211,7 +211,7 @@ impl Port {
         }
     }
 
-    /// Asks for the word `w`, if it is one of storage and not held. The result is held behind it, for the words alone.
+    // Asks for the word `w`, if it is one of storage and not held. The result is held behind it, for the words alone.
     fn ask_inside(&mut self, held: HeldWords, w: u32, p: u64) -> HeldWords
         requires { length self.old.reads < 40 }
         ensures reads { self.new.reads ≡ self.old.reads
@@ -233,7 +233,7 @@ impl Port {
     }
 }
 
-/// The purpose of a want, given whether it is one of an instruction word.
+// The purpose of a want, given whether it is one of an instruction word.
 fn purpose_of(fetch: bool) -> u8
     ensures { (result == 1) ≡ fetch }
 {

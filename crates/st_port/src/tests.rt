@@ -9,7 +9,7 @@ use st_rows::{Entry, Past, Run, Runs};
 use std::alloc::{AllocError, Global};
 use std::test::Fail;
 
-/// Reads that all take three ticks.
+// Reads that all take three ticks.
 fn delays(alloc: Global) -> Result<Delays, Fail> {
     match Delays::new(alloc, &[3]) {
         Ok(delays) => Ok(delays),
@@ -17,7 +17,7 @@ fn delays(alloc: Global) -> Result<Delays, Fail> {
     }
 }
 
-/// Four ticks pass, from the tick `now` on.
+// Four ticks pass, from the tick `now` on.
 fn pass(port: &mut Port, delays: &Delays, now: u64)
     requires early { now ≤ 1000 }
     requires turn { AreFrom now port.old.reads port.old.bus }
@@ -29,8 +29,8 @@ fn pass(port: &mut Port, delays: &Delays, now: u64)
     port.serve(delays, now + 3);
 }
 
-/// A load in word 32 reads word 100 at tick 5, and words 33 and 34 behind it: one read is made a tick, and each is answered three
-/// ticks later.
+// A load in word 32 reads word 100 at tick 5, and words 33 and 34 behind it: one read is made a tick, and each is answered three
+// ticks later.
 #[test]
 fn one_read_is_made_a_tick(rt: HostRuntime) -> Result<(), Fail> {
     let delays = delays(rt.alloc())?;
@@ -51,8 +51,8 @@ fn one_read_is_made_a_tick(rt: HostRuntime) -> Result<(), Fail> {
     Ok(())
 }
 
-/// An entry in word 33 that reads words 100 and 101, of which an earlier one writes word 101 that is done at tick 16, and asks for
-/// words 34 and 35, of which 34 is held.
+// An entry in word 33 that reads words 100 and 101, of which an earlier one writes word 101 that is done at tick 16, and asks for
+// words 34 and 35, of which 34 is held.
 #[test]
 fn forwarded_and_held_words_are_not_asked_for(rt: HostRuntime) -> Result<(), Fail> {
     let mut past = [Past::default(); 8];

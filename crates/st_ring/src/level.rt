@@ -17,7 +17,7 @@ pub struct Level {
     pub have: [Option<u64>; 2],
 }
 
-/// The level with an operand word that came at a tick.
+// The level with an operand word that came at a tick.
 pub(crate) fn filled(mut level: Level, slot: u8, word: u64, tick: u64) -> Level
     requires { slot < 2 }
     ensures { result ≡ filled_of level slot word tick }

@@ -12,7 +12,7 @@ use crate::past::{Past, latest_done, put_newest};
 use crate::reading::Reading;
 use st_banks::{Delays, LastAnswers};
 
-/// The number of words of storage.
+// The number of words of storage.
 const WORDS: u32 = 98_304;
 
 /// The ticks of an entry.
@@ -108,7 +108,7 @@ impl Front {
         words
     }
 
-    /// The tick at which the address of the next entry is formed.
+    // The tick at which the address of the next entry is formed.
     #[tactic(auto, unfolding(crate::specs::Rows::addressed))]
     fn address(&self, entry: &Entry, words: Fetching) -> u64
         requires tight { IsTight 255 self.now }
@@ -257,8 +257,8 @@ impl Front {
     }
 }
 
-/// Reads the index-side word, if there is one, of an entry whose address is formed at `a`, unless an earlier entry writes it that
-/// is done later. The result is the tick at which it is there, 0 where there is none.
+// Reads the index-side word, if there is one, of an entry whose address is formed at `a`, unless an earlier entry writes it that
+// is done later. The result is the tick at which it is there, 0 where there is none.
 #[tactic(auto, unfolding(crate::specs::Rows::bus_sided, crate::specs::Rows::side_there))]
 fn side(bus: &mut Bus, delays: &Delays, past: &[Past; 8], word: Option<u32>, a: u64) -> u64
     requires room { IsBusWithin (2 ^ 64 - 512) bus.old }
@@ -276,7 +276,7 @@ fn side(bus: &mut Bus, delays: &Delays, past: &[Past; 8], word: Option<u32>, a: 
     bus.read(delays, w, a)
 }
 
-/// The tick at which an entry is prepared.
+// The tick at which an entry is prepared.
 #[tactic(auto, unfolding(crate::specs::Rows::prepared))]
 fn prepared_at(levels: usize, past: &[Past; 8], a: u64, y: u64) -> u64
     requires some { 1 ≤ levels }
@@ -289,8 +289,8 @@ fn prepared_at(levels: usize, past: &[Past; 8], a: u64, y: u64) -> u64
     a.max(y).max(past[levels - 1].c) + 1
 }
 
-/// The operand words are read of an entry that is prepared at `p`. The result says when the first two of its first run are there, 0 where
-/// that has no such word.
+// The operand words are read of an entry that is prepared at `p`. The result says when the first two of its first run are there, 0 where
+// that has no such word.
 #[tactic(auto, unfolding(crate::specs::Rows::operands_read))]
 fn read_operands(
     operands: &mut Reading,
@@ -313,7 +313,7 @@ fn read_operands(
     fills
 }
 
-/// The words of a run of operands are read. The result says when the first two are there, 0 where there is no such word.
+// The words of a run of operands are read. The result says when the first two are there, 0 where there is no such word.
 #[tactic(auto, unfolding(crate::specs::Rows::fills_of))]
 fn read_run(operands: &mut Reading, delays: &Delays, past: &[Past; 8], run: Run, p: u64) -> [u64; 2]
     requires words { IsReadable run }
@@ -342,7 +342,7 @@ fn read_run(operands: &mut Reading, delays: &Delays, past: &[Past; 8], run: Run,
     [first, second]
 }
 
-/// The bus after the following words of an entry that is prepared at `p`.
+// The bus after the following words of an entry that is prepared at `p`.
 #[tactic(auto, unfolding(crate::specs::Rows::bus_followed))]
 fn follow(bus: &mut Bus, delays: &Delays, entry: &Entry, p: u64)
     requires entry { IsEntry entry.now }
@@ -358,7 +358,7 @@ fn follow(bus: &mut Bus, delays: &Delays, entry: &Entry, p: u64)
     }
 }
 
-/// Asks for the word `w`, if it is a word of storage.
+// Asks for the word `w`, if it is a word of storage.
 fn request_inside(bus: &mut Bus, delays: &Delays, w: u32, p: u64)
     requires room { IsBusWithin (2 ^ 64 - 512) bus.old }
     requires early { p ≤ 2 ^ 64 - 512 }

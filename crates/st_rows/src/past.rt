@@ -25,7 +25,7 @@ pub fn latest_done(past: &[Past; 8], w: u32) -> u64
     0
 }
 
-/// Keeps one entry more, and the seven before it.
+// Keeps one entry more, and the seven before it.
 pub(crate) fn put_newest(past: &mut [Past; 8], newest: Past)
     ensures { past.new ≡ newest ∷ take 7 past.old }
 {

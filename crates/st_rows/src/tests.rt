@@ -8,7 +8,7 @@ use st_banks::{Delays, LastAnswers};
 use std::alloc::{AllocError, Global};
 use std::test::Fail;
 
-/// Reads that all take so many ticks.
+// Reads that all take so many ticks.
 fn all_take(alloc: Global, ticks: u8) -> Result<Delays, Fail> {
     match Delays::new(alloc, &[ticks]) {
         Ok(delays) => Ok(delays),
@@ -16,7 +16,7 @@ fn all_take(alloc: Global, ticks: u8) -> Result<Delays, Fail> {
     }
 }
 
-/// An entry that stands in the word `w` and reads `len` words from the word `first` on.
+// An entry that stands in the word `w` and reads `len` words from the word `first` on.
 fn reading(w: u32, first: u32, len: u8, cost: u8) -> Entry
     requires above { 32 ≤ w }
     requires inside { w < words_of_storage }
@@ -42,7 +42,7 @@ fn reading(w: u32, first: u32, len: u8, cost: u8) -> Entry
     }
 }
 
-/// One that reads no operand.
+// One that reads no operand.
 fn plain(w: u32) -> Entry
     requires above { 32 ≤ w }
     requires inside { w < words_of_storage }
@@ -51,7 +51,7 @@ fn plain(w: u32) -> Entry
     reading(w, 32, 0, 1)
 }
 
-/// The same, but it is done alone, and asks for following words if `follows` says so.
+// The same, but it is done alone, and asks for following words if `follows` says so.
 fn alone(entry: Entry, follows: bool) -> Entry
     requires { IsEntry entry }
     ensures { IsEntry result }
@@ -68,7 +68,7 @@ fn alone(entry: Entry, follows: bool) -> Entry
     }
 }
 
-/// The last three numbers of the row.
+// The last three numbers of the row.
 fn next(front: &mut Front, delays: &Delays, entry: Entry) -> (u64, u64, u64)
     requires entry { IsEntry entry }
     requires tight { IsTight 255 front.old }
@@ -80,7 +80,7 @@ fn next(front: &mut Front, delays: &Delays, entry: Entry) -> (u64, u64, u64)
     (row.p, row.r, row.c)
 }
 
-/// A load, a sum and a wait, each read of which takes three ticks.
+// A load, a sum and a wait, each read of which takes three ticks.
 #[test]
 fn a_load_a_sum_and_a_wait(rt: HostRuntime) -> Result<(), Fail> {
     let delays = all_take(rt.alloc(), 3)?;
@@ -100,7 +100,7 @@ fn a_load_a_sum_and_a_wait(rt: HostRuntime) -> Result<(), Fail> {
     Ok(())
 }
 
-/// A transmission of three words from one of the two upper banks.
+// A transmission of three words from one of the two upper banks.
 #[test]
 fn a_transmission_waits_for_its_banks(rt: HostRuntime) -> Result<(), Fail> {
     let delays = all_take(rt.alloc(), 3)?;
@@ -114,7 +114,7 @@ fn a_transmission_waits_for_its_banks(rt: HostRuntime) -> Result<(), Fail> {
     Ok(())
 }
 
-/// A product, and behind it what runs ahead of its completion.
+// A product, and behind it what runs ahead of its completion.
 #[test]
 fn four_entries_run_ahead_of_a_product(rt: HostRuntime) -> Result<(), Fail> {
     let delays = all_take(rt.alloc(), 1)?;
@@ -139,8 +139,8 @@ fn four_entries_run_ahead_of_a_product(rt: HostRuntime) -> Result<(), Fail> {
     Ok(())
 }
 
-/// Entries that are done alone, then a product with three entries ahead of its completion, then an interrupt: the segment
-/// behind it begins with a table instruction.
+// Entries that are done alone, then a product with three entries ahead of its completion, then an interrupt: the segment
+// behind it begins with a table instruction.
 #[test]
 fn entries_that_are_done_alone_wait(rt: HostRuntime) -> Result<(), Fail> {
     let delays = all_take(rt.alloc(), 1)?;

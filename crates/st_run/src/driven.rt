@@ -12,7 +12,7 @@ use st_card::Signal;
 use st_exch::Hopper;
 use std::marker::Model;
 
-/// An overlapped machine with the signals and the reader's cards that are still to come.
+// An overlapped machine with the signals and the reader's cards that are still to come.
 #[derive(Drop)]
 pub(crate) struct Driven<'a, const N: usize> {
     pub machine: Machine<N>,
@@ -32,7 +32,7 @@ impl<'a, const N: usize> Model for Driven<'a, N> {
     ghost invariant = { λ d. AllPass is_signal d.signals.now };
 }
 
-/// Turns on the signals at the front that are due, and gives those that are still to come.
+// Turns on the signals at the front that are due, and gives those that are still to come.
 fn due_signals<'a, const N: usize>(machine: &mut Machine<N>, signals: &'a [Signal]) -> &'a [Signal]
     requires known { AllPass is_signal signals.now }
     requires turn { MaySignal machine.old }
@@ -52,7 +52,7 @@ fn due_signals<'a, const N: usize>(machine: &mut Machine<N>, signals: &'a [Signa
     rest
 }
 
-/// The signals that are due come.
+// The signals that are due come.
 pub(crate) fn take_due_signals<const N: usize>(driven: &mut Driven<N>)
     requires { MaySignal driven.old.machine }
     ensures { driven.new ≡ with_scene driven.old
@@ -61,7 +61,7 @@ pub(crate) fn take_due_signals<const N: usize>(driven: &mut Driven<N>)
     driven.signals = due_signals(&mut driven.machine, driven.signals);
 }
 
-/// What is shown of the machine.
+// What is shown of the machine.
 pub(crate) fn view_of<const N: usize>(driven: &Driven<N>) -> View
     ensures { result ≡ shown driven.now.machine }
 {

@@ -27,27 +27,27 @@ use st_ring::SpecRing;
 use st_state::{Device, State};
 use std::mem;
 
-/// What was decided between two entries.
+// What was decided between two entries.
 #[derive(Clone, Copy, Debug)]
 pub(crate) struct Decided {
-    /// Whether the segment ends.
+    // Whether the segment ends.
     pub ends: bool,
-    /// The text that was printed.
+    // The text that was printed.
     pub text: Option<ArrayString<64>>,
-    /// The interrupt that is taken.
+    // The interrupt that is taken.
     pub taken: Option<u8>,
-    /// How the run goes on.
+    // How the run goes on.
     pub turn: Turn,
 }
 
-/// The entries that run ahead, oldest first: the half-word address of each, and the tick at which it was prepared.
+// The entries that run ahead, oldest first: the half-word address of each, and the tick at which it was prepared.
 pub(crate) fn levels_ahead<const N: usize>(driven: &Driven<N>) -> ArrayVec<(u32, u64), 8>
     ensures { result.items ≡ map (λ a. (address_of a, a.row.p)) (levels_of driven.now.machine) }
 {
     levels_in(driven.machine.ring())
 }
 
-/// The half-word address of each level, oldest first, and the tick at which it was prepared. There are eight at most.
+// The half-word address of each level, oldest first, and the tick at which it was prepared. There are eight at most.
 fn levels_in<const N: usize>(ring: &SpecRing<N>) -> ArrayVec<(u32, u64), 8>
     requires { length ring.now ≤ 8 }
     ensures { result.items ≡ map (λ v. (v.prepared.place.address, v.p)) ring.now }
@@ -62,7 +62,7 @@ fn levels_in<const N: usize>(ring: &SpecRing<N>) -> ArrayVec<(u32, u64), 8>
 
 // ---- orders
 
-/// Serves a device that has an order.
+// Serves a device that has an order.
 fn serve_device<const N: usize>(driven: &mut Driven<N>, device: Device) -> Served
     requires order { IsSome (order_of device driven.old.machine.state) }
     requires turn { MayServe driven.old.machine }
@@ -76,7 +76,7 @@ fn serve_device<const N: usize>(driven: &mut Driven<N>, device: Device) -> Serve
     served
 }
 
-/// Whether a card came.
+// Whether a card came.
 fn card_came(served: Served) -> bool
     ensures { result ≡ is_card served }
 {
@@ -86,7 +86,7 @@ fn card_came(served: Served) -> bool
     }
 }
 
-/// The text that was printed, if one was.
+// The text that was printed, if one was.
 fn text_of(served: Served) -> Option<ArrayString<64>>
     ensures { option_map (λ x. x.bytes) result ≡ printed_text served }
 {
@@ -96,7 +96,7 @@ fn text_of(served: Served) -> Option<ArrayString<64>>
     }
 }
 
-/// The reader's order takes effect, if it has one. The result says whether a card came.
+// The reader's order takes effect, if it has one. The result says whether a card came.
 fn serve_reader<const N: usize>(driven: &mut Driven<N>) -> bool
     requires { MayServe driven.old.machine }
     ensures came { (over : Bool) → Came (run.with_reader driven.old.machine.state.reader (scene_of driven.old))
@@ -109,7 +109,7 @@ fn serve_reader<const N: usize>(driven: &mut Driven<N>) -> bool
     card_came(serve_device(driven, Device::Reader))
 }
 
-/// The printer's order takes effect, if it has one. The result is the text that is printed.
+// The printer's order takes effect, if it has one. The result is the text that is printed.
 fn serve_printer<const N: usize>(driven: &mut Driven<N>) -> Option<ArrayString<64>>
     requires { MayServe driven.old.machine }
     ensures { (over : Bool) → Came (run.with_printer driven.old.machine.state.printer (scene_of driven.old))
@@ -121,7 +121,7 @@ fn serve_printer<const N: usize>(driven: &mut Driven<N>) -> Option<ArrayString<6
     text_of(serve_device(driven, Device::Printer))
 }
 
-/// The reader's order takes effect, if it is due. The result says whether a card came.
+// The reader's order takes effect, if it is due. The result says whether a card came.
 fn serve_due_reader<const N: usize>(driven: &mut Driven<N>) -> bool
     requires { MayServe driven.old.machine }
     ensures came { Came (run.with_reader (run.if_due driven.old.machine.state.done driven.old.machine.state.reader)
@@ -134,7 +134,7 @@ fn serve_due_reader<const N: usize>(driven: &mut Driven<N>) -> bool
     false
 }
 
-/// The printer's order takes effect, if it is due. The result is the text that is printed.
+// The printer's order takes effect, if it is due. The result is the text that is printed.
 fn serve_due_printer<const N: usize>(driven: &mut Driven<N>) -> Option<ArrayString<64>>
     requires { MayServe driven.old.machine }
     ensures { (over : Bool) → Came (run.with_printer
@@ -147,8 +147,8 @@ fn serve_due_printer<const N: usize>(driven: &mut Driven<N>) -> Option<ArrayStri
     None
 }
 
-/// The orders that are due take effect, the reader's first. The result says whether a card came, and has the text
-/// that is printed.
+// The orders that are due take effect, the reader's first. The result says whether a card came, and has the text
+// that is printed.
 fn serve_due<const N: usize>(driven: &mut Driven<N>) -> (bool, Option<ArrayString<64>>)
     requires { MayServe driven.old.machine }
     ensures came { Came (run.with_due_orders (scene_of driven.old)) (option_map (λ x. x.bytes) result.1)
@@ -162,7 +162,7 @@ fn serve_due<const N: usize>(driven: &mut Driven<N>) -> (bool, Option<ArrayStrin
 
 // ---- a wait
 
-/// The machine rests, and its segment ends; the decision is still owed.
+// The machine rests, and its segment ends; the decision is still owed.
 fn rest<const N: usize>(driven: &mut Driven<N>)
     requires serves { MayServe driven.old.machine }
     requires rests { rests driven.old.machine.state ≡ true }
@@ -171,8 +171,8 @@ fn rest<const N: usize>(driven: &mut Driven<N>)
     driven.machine.settle();
 }
 
-/// The order that is due earliest takes effect, if the machine rests. The segment has ended. The result is the text that is
-/// printed.
+// The order that is due earliest takes effect, if the machine rests. The segment has ended. The result is the text that is
+// printed.
 fn serve_at_rest<const N: usize>(driven: &mut Driven<N>) -> Option<ArrayString<64>>
     requires { MayServe driven.old.machine }
     ensures { Came (run.with_order_at_rest (scene_of driven.old)) (option_map (λ x. x.bytes) result)
@@ -191,7 +191,7 @@ fn serve_at_rest<const N: usize>(driven: &mut Driven<N>) -> Option<ArrayString<6
     }
 }
 
-/// Turns on signals, one at a time, as long as the machine rests, and gives those that are still to come.
+// Turns on signals, one at a time, as long as the machine rests, and gives those that are still to come.
 fn signals_at_rest<'a, const N: usize>(
     machine: &mut Machine<N>,
     signals: &'a [Signal],
@@ -214,7 +214,7 @@ fn signals_at_rest<'a, const N: usize>(
     rest
 }
 
-/// Signals come as long as the machine rests.
+// Signals come as long as the machine rests.
 fn take_signals_at_rest<const N: usize>(driven: &mut Driven<N>)
     requires { MaySignal driven.old.machine }
     ensures { driven.new ≡ with_scene driven.old
@@ -223,7 +223,7 @@ fn take_signals_at_rest<const N: usize>(driven: &mut Driven<N>)
     driven.signals = signals_at_rest(&mut driven.machine, driven.signals);
 }
 
-/// Of two texts the first one.
+// Of two texts the first one.
 fn first_text(
     first: Option<ArrayString<64>>,
     later: Option<ArrayString<64>>,
@@ -237,7 +237,7 @@ fn first_text(
     }
 }
 
-/// What ends a wait comes: orders, then signals. The segment has ended. The result is the text that is printed.
+// What ends a wait comes: orders, then signals. The segment has ended. The result is the text that is printed.
 fn end_wait<const N: usize>(driven: &mut Driven<N>) -> Option<ArrayString<64>>
     requires { MayServe driven.old.machine }
     ensures { Came (run.with_wait (scene_of driven.old)) (option_map (λ x. x.bytes) result)
@@ -251,8 +251,8 @@ fn end_wait<const N: usize>(driven: &mut Driven<N>) -> Option<ArrayString<64>>
 
 // ---- all of it
 
-/// What comes between two entries. The result says whether a card came or the machine waited, and has the text that is
-/// printed.
+// What comes between two entries. The result says whether a card came or the machine waited, and has the text that is
+// printed.
 fn come<const N: usize>(driven: &mut Driven<N>) -> (bool, Option<ArrayString<64>>)
     requires { MayServe driven.old.machine }
     ensures came { Came (run.settled (scene_of driven.old)) (option_map (λ x. x.bytes) result.1)
@@ -269,8 +269,8 @@ fn come<const N: usize>(driven: &mut Driven<N>) -> (bool, Option<ArrayString<64>
     (true, first_text(text, later))
 }
 
-/// It is decided whether the segment ends and which interrupt is taken, by what the machine answers, and by whether the
-/// segment has ended.
+// It is decided whether the segment ends and which interrupt is taken, by what the machine answers, and by whether the
+// segment has ended.
 fn choice(answer: Settled, over: bool) -> (bool, Option<u8>)
     ensures { result ≡ choice_of answer over }
 {
@@ -281,7 +281,7 @@ fn choice(answer: Settled, over: bool) -> (bool, Option<u8>)
     }
 }
 
-/// It is decided how the run goes on, in which so many entries may still be done, where the segment has ended or not.
+// It is decided how the run goes on, in which so many entries may still be done, where the segment has ended or not.
 fn decide<const N: usize>(
     driven: &mut Driven<N>,
     left: u64,
@@ -312,7 +312,7 @@ fn decide<const N: usize>(
     }
 }
 
-/// What comes between two entries comes, of which so many may still be done; and it is decided how the run goes on.
+// What comes between two entries comes, of which so many may still be done; and it is decided how the run goes on.
 pub(crate) fn leave<const N: usize>(driven: &mut Driven<N>, left: u64) -> Decided
     requires { IsBehind driven.old }
     ensures decided { IsDecided left (moment_of driven.old) result driven.new }
@@ -325,7 +325,7 @@ pub(crate) fn leave<const N: usize>(driven: &mut Driven<N>, left: u64) -> Decide
 
 // ---- nothing of it
 
-/// Whether the first of the signals comes where so many instructions are done.
+// Whether the first of the signals comes where so many instructions are done.
 fn signal_is_due(state: &State, signals: &[Signal]) -> bool
     ensures { result ≡ signal_due state.now.done (signals_of signals.now) }
 {
@@ -335,7 +335,7 @@ fn signal_is_due(state: &State, signals: &[Signal]) -> bool
     }
 }
 
-/// Whether no order is due, the machine does not wait, and the next decision ends no segment.
+// Whether no order is due, the machine does not wait, and the next decision ends no segment.
 fn is_quiet<const N: usize>(machine: &Machine<N>) -> bool
     ensures { result ≡ true → IsQuiet machine.entry.now }
 {
@@ -351,8 +351,8 @@ fn is_quiet<const N: usize>(machine: &Machine<N>) -> bool
     !is_at_rest(machine.state())
 }
 
-/// The run goes on at once where nothing comes between two entries and the segment does not end. The result says whether it did; else
-/// nothing changes. So many entries may still be done.
+// The run goes on at once where nothing comes between two entries and the segment does not end. The result says whether it did; else
+// nothing changes. So many entries may still be done.
 pub(crate) fn pass_on<const N: usize>(driven: &mut Driven<N>, left: u64) -> bool
     requires { IsBehind driven.old }
     ensures decided { result ≡ true → IsDecided left (moment_of driven.old) nothing_decided driven.new }

@@ -17,9 +17,9 @@ use crate::waiting::Waiting;
 use arrayvec::ArrayVec;
 use st_state::State;
 
-/// A run between two things that it tells: the machine with what is still to come to it, the snapshots that are still to
-/// come, how many instructions may be done behind the next one, the tick at which the last one was done, the tick that
-/// comes next, what waits to be told, and the turn.
+// A run between two things that it tells: the machine with what is still to come to it, the snapshots that are still to
+// come, how many instructions may be done behind the next one, the tick at which the last one was done, the tick that
+// comes next, what waits to be told, and the turn.
 #[derive(Drop)]
 pub(crate) struct Progress<'a, const N: usize> {
     pub driven: Driven<'a, N>,
@@ -31,7 +31,7 @@ pub(crate) struct Progress<'a, const N: usize> {
     pub turn: Turn,
 }
 
-/// The next thing that is told; `None` exactly where all is told.
+// The next thing that is told; `None` exactly where all is told.
 pub(crate) fn tell_next<const N: usize>(run: &mut Progress<N>) -> Option<Told>
     requires { IsRun run.old.turn run.old.left run.old.tick run.old.now run.old.snaps.now run.old.waiting run.old.driven }
     ensures kept { IsRun run.new.turn run.new.left run.new.tick run.new.now run.new.snaps.now run.new.waiting run.new.driven }
@@ -51,7 +51,7 @@ pub(crate) fn tell_next<const N: usize>(run: &mut Progress<N>) -> Option<Told>
     }
 }
 
-/// Before the next entry: a snapshot, or that entry is done.
+// Before the next entry: a snapshot, or that entry is done.
 fn go<const N: usize>(run: &mut Progress<N>) -> Told
     requires run { IsRun turns.Before run.old.left run.old.tick run.old.now run.old.snaps.now run.old.waiting run.old.driven }
     requires turn { run.old.turn ≡ turns.Before }
@@ -74,7 +74,7 @@ fn go<const N: usize>(run: &mut Progress<N>) -> Told
     }
 }
 
-/// The snapshot whose tick was made last.
+// The snapshot whose tick was made last.
 fn show<const N: usize>(run: &mut Progress<N>) -> Told
     requires shown { IsShown run.old.left run.old.tick run.old.snaps.now run.old.driven }
     requires turn { run.old.turn ≡ turns.Before }
@@ -93,7 +93,7 @@ fn show<const N: usize>(run: &mut Progress<N>) -> Told
     at_once(&run.driven, run.tick, What::Shown(at))
 }
 
-/// What comes behind an entry that has just been done at a tick waits to be told; mostly that is nothing.
+// What comes behind an entry that has just been done at a tick waits to be told; mostly that is nothing.
 fn leave_entry<const N: usize>(run: &mut Progress<N>, tick: u64)
     requires left { IsLeft run.old.left run.old.snaps.now tick run.old.driven }
     requires turn { run.old.turn ≡ turns.Before }
@@ -112,7 +112,7 @@ fn leave_entry<const N: usize>(run: &mut Progress<N>, tick: u64)
     run.left = one_less(run.left);
 }
 
-/// The same, whatever comes.
+// The same, whatever comes.
 #[inline(never)]
 fn leave_fully<const N: usize>(run: &mut Progress<N>, tick: u64)
     requires left { IsLeft run.old.left run.old.snaps.now tick run.old.driven }
@@ -135,7 +135,7 @@ fn leave_fully<const N: usize>(run: &mut Progress<N>, tick: u64)
     run.left = one_less(run.left);
 }
 
-/// At the end: a snapshot up to the last tick, or the end itself.
+// At the end: a snapshot up to the last tick, or the end itself.
 fn finish<const N: usize>(run: &mut Progress<N>, rests: bool) -> Told
     requires turn { run.old.turn ≡ turns.AtEnd rests }
     requires levels { levels_of run.old.driven.machine ≡ [] }
@@ -154,7 +154,7 @@ fn finish<const N: usize>(run: &mut Progress<N>, rests: bool) -> Told
     at_once(&run.driven, run.tick, What::Shown(at))
 }
 
-/// Something that is told at the tick at which the last entry was done.
+// Something that is told at the tick at which the last entry was done.
 fn at_once<const N: usize>(driven: &Driven<N>, tick: u64, what: What) -> Told
     ensures { result ≡ record { done = driven.now.machine.state.done; tick = tick; what = what } }
 {
@@ -165,14 +165,14 @@ fn at_once<const N: usize>(driven: &Driven<N>, tick: u64, what: What) -> Told
     }
 }
 
-/// The number of instructions done.
+// The number of instructions done.
 fn done_in(state: &State) -> u64
     ensures { result ≡ state.now.done }
 {
     state.done
 }
 
-/// The tick of the next snapshot.
+// The tick of the next snapshot.
 fn first_of(snaps: &[u64]) -> Option<u64>
     ensures { result ≡ first_tick snaps.now }
 {
@@ -182,7 +182,7 @@ fn first_of(snaps: &[u64]) -> Option<u64>
     }
 }
 
-/// The tick of the next snapshot, and those behind it.
+// The tick of the next snapshot, and those behind it.
 fn split_first(snaps: &[u64]) -> Option<(u64, &[u64])>
     ensures { MatchOption result (snaps.now ≡ []) (λ r. snaps.now ≡ r.0 ∷ r.1.now) }
 {
@@ -192,7 +192,7 @@ fn split_first(snaps: &[u64]) -> Option<(u64, &[u64])>
     }
 }
 
-/// The same where it comes up to this tick.
+// The same where it comes up to this tick.
 fn split_due(snaps: &[u64], tick: u64) -> Option<(u64, &[u64])>
     ensures { MatchOption result (IfSome (first_tick snaps.now) (λ x. tick < x))
         (λ r. (snaps.now ≡ r.0 ∷ r.1.now) × (r.0 ≤ tick)) }
@@ -205,7 +205,7 @@ fn split_due(snaps: &[u64], tick: u64) -> Option<(u64, &[u64])>
     }
 }
 
-/// Keeps the entries that are dropped where the segment ends.
+// Keeps the entries that are dropped where the segment ends.
 fn clear_unless(ends: bool, drops: &mut ArrayVec<(u32, u64), 8>)
     ensures { drops.new.items ≡ (if ends then drops.old.items else []) }
 {
@@ -214,7 +214,7 @@ fn clear_unless(ends: bool, drops: &mut ArrayVec<(u32, u64), 8>)
     }
 }
 
-/// One less, 0 where there is none.
+// One less, 0 where there is none.
 fn one_less(left: u64) -> u64
     ensures { result ≡ left - 1 }
 {

@@ -71,7 +71,7 @@ impl<'a> Seen<'a> {
     }
 }
 
-/// The word at `w` of a state with these index words.
+// The word at `w` of a state with these index words.
 fn word_with(state: &State, index: &[u64; 16], w: u32) -> u64
     requires { w < WORDS }
     ensures { result ≡ word_of (with_index_words index.now state.now) w }
@@ -86,7 +86,7 @@ fn word_with(state: &State, index: &[u64; 16], w: u32) -> u64
     state.word(w)
 }
 
-/// The counter of a state.
+// The counter of a state.
 fn counter_in(state: &State) -> u32
     ensures value { result ≡ state.now.ic }
     ensures bound { result < 2 ^ 19 }
@@ -94,7 +94,7 @@ fn counter_in(state: &State) -> u32
     state.ic
 }
 
-/// Whether interrupts are enabled in a state.
+// Whether interrupts are enabled in a state.
 fn is_enabled(state: &State) -> bool
     ensures { result ≡ state.now.enabled }
 {

@@ -22,7 +22,7 @@ pub enum Served {
     Printed { text: ArrayString<64> },
 }
 
-/// The order of the reader takes effect with its next card, or without one.
+// The order of the reader takes effect with its next card, or without one.
 fn read_card<const N: usize>(machine: &mut Machine<N>, hopper: &mut Hopper) -> Served
     requires order { IsSome machine.old.state.reader }
     requires turn { MayServe machine.old }
@@ -39,7 +39,7 @@ fn read_card<const N: usize>(machine: &mut Machine<N>, hopper: &mut Hopper) -> S
     }
 }
 
-/// The order of the printer takes effect.
+// The order of the printer takes effect.
 fn print_line<const N: usize>(machine: &mut Machine<N>) -> Served
     requires order { IsSome machine.old.state.printer }
     requires turn { MayServe machine.old }

@@ -20,49 +20,49 @@ mod rows;
 mod served;
 mod table_sum;
 
-/// A job that starts at word 32.
+// A job that starts at word 32.
 #[derive(Clone, Copy)]
 struct Job {
-    /// Words of storage, each with its content.
+    // Words of storage, each with its content.
     words: &'static [(u32, u64)],
     delays: &'static [u8],
-    /// The number of instructions after which indicator 13 comes on.
+    // The number of instructions after which indicator 13 comes on.
     signal: Option<u64>,
-    /// What is told, where there is a snapshot at each tick from 0 to 64.
+    // What is told, where there is a snapshot at each tick from 0 to 64.
     lines: &'static [Line],
-    /// What the snapshots show of the entries ahead, oldest first.
+    // What the snapshots show of the entries ahead, oldest first.
     stays: &'static [Stay],
-    /// What they show of the index words, by ticks.
+    // What they show of the index words, by ticks.
     index: &'static [Index],
 }
 
-/// What is told, with the number of instructions that are done by then, and the tick at which the last of them was.
+// What is told, with the number of instructions that are done by then, and the tick at which the last of them was.
 type Line = (u64, u64, Item);
 
 #[derive(Clone, Copy, Debug, PartialEq, Eq)]
 enum Item {
-    /// An entry is done: its half-word address, and the ticks P, R and C.
+    // An entry is done: its half-word address, and the ticks P, R and C.
     Row(u32, u64, u64, u64),
-    /// An entry is dropped: its half-word address, and the tick P.
+    // An entry is dropped: its half-word address, and the tick P.
     Drop(u32, u64),
-    /// A text is printed.
+    // A text is printed.
     Text,
-    /// An interrupt by this indicator is taken.
+    // An interrupt by this indicator is taken.
     Interrupt(u8),
-    /// Snapshots at each tick from the first of these on, and before the second.
+    // Snapshots at each tick from the first of these on, and before the second.
     Shows(u64, u64),
-    /// The run ends, at rest or not.
+    // The run ends, at rest or not.
     End(bool),
 }
 
-/// An entry ahead, as snapshots show it: its half-word address; the index word that it changed, and what that was
-/// before; the first tick at which it is shown, the tick from which on its operands are there, and the last tick.
+// An entry ahead, as snapshots show it: its half-word address; the index word that it changed, and what that was
+// before; the first tick at which it is shown, the tick from which on its operands are there, and the last tick.
 type Stay = (u32, Option<u8>, u64, u64, u64, u64);
 
-/// The index words 1 and 2 that snapshots show from a tick on. The others are zero.
+// The index words 1 and 2 that snapshots show from a tick on. The others are zero.
 type Index = (u64, u64, u64);
 
-/// A list of `n` words with no bit that is one.
+// A list of `n` words with no bit that is one.
 fn zeros(alloc: Global, n: usize) -> Result<Vec<u64>, AllocError>
     ensures size { IfOk result (λ v. length v.items ≡ n) }
     ensures zeros { IfOk result (λ v. (w : ℕ) → slice_index v.items w ≡ 0) }
@@ -70,7 +70,7 @@ fn zeros(alloc: Global, n: usize) -> Result<Vec<u64>, AllocError>
     vec![in alloc; 0; n]
 }
 
-/// The state that a job opens with.
+// The state that a job opens with.
 fn opened(rt: &impl Abort, alloc: Global, words: &[(u32, u64)]) -> Result<State, Fail> {
     let image = zeros(alloc, WORDS as usize)?;
     let Ok(mut state) = State::new(alloc, &image, 64) else {
@@ -83,7 +83,7 @@ fn opened(rt: &impl Abort, alloc: Global, words: &[(u32, u64)]) -> Result<State,
     Ok(state)
 }
 
-/// Delays of reads, one after another.
+// Delays of reads, one after another.
 fn delays_of(rt: &impl Abort, alloc: Global, list: &[u8]) -> Result<Delays, Fail> {
     assert!(rt; list.len() > 0 && list.len() <= 4);
     match Delays::new(alloc, list) {
@@ -92,7 +92,7 @@ fn delays_of(rt: &impl Abort, alloc: Global, list: &[u8]) -> Result<Delays, Fail
     }
 }
 
-/// The signal of indicator 13 after so many instructions.
+// The signal of indicator 13 after so many instructions.
 fn signal_after(rt: &impl Abort, count: u64) -> Signal
     ensures { is_signal result ≡ true }
 {
@@ -103,7 +103,7 @@ fn signal_after(rt: &impl Abort, count: u64) -> Signal
     }
 }
 
-/// The ticks 0 to 64.
+// The ticks 0 to 64.
 fn ticks() -> [u64; 65]
     ensures { IsStrictlyIncreasing result }
 {
@@ -114,7 +114,7 @@ fn ticks() -> [u64; 65]
     ticks
 }
 
-/// A run of a state in which nothing has happened, on four levels.
+// A run of a state in which nothing has happened, on four levels.
 fn begun<'a>(
     rt: &impl Abort,
     state: State,
@@ -130,7 +130,7 @@ fn begun<'a>(
     Run::new(state, delays, signals, Hopper::empty(), snaps, 1000)
 }
 
-/// What is told next.
+// What is told next.
 fn told_next(run: &mut Run<4>) -> Option<Line> {
     let told = run.next()?;
     let item = match told.what {
@@ -144,12 +144,12 @@ fn told_next(run: &mut Run<4>) -> Option<Line> {
     Some((told.done, told.tick, item))
 }
 
-/// The levels that are shown.
+// The levels that are shown.
 fn levels_of(run: &Run<4>) -> [Option<LevelView>; 8] {
     run.view().levels
 }
 
-/// Whether these are the levels that a job shows at a tick.
+// Whether these are the levels that a job shows at a tick.
 fn are_levels(levels: &[Option<LevelView>], tick: u64, stays: &[Stay]) -> bool {
     let mut left = levels;
     for (address, index, kept, first, ready, last) in stays {
@@ -168,7 +168,7 @@ fn are_levels(levels: &[Option<LevelView>], tick: u64, stays: &[Stay]) -> bool {
     matches!(left, [None, ..])
 }
 
-/// The index words 1 and 2 at a tick.
+// The index words 1 and 2 at a tick.
 fn index_at(tick: u64, index: &[Index]) -> (u64, u64) {
     let mut words = (0, 0);
     for (first, one, two) in index {
@@ -179,7 +179,7 @@ fn index_at(tick: u64, index: &[Index]) -> (u64, u64) {
     words
 }
 
-/// The index words that are shown.
+// The index words that are shown.
 fn index_words(run: &Run<4>) -> [u64; 16] {
     let seen = run.seen();
     let mut words = [0; 16];
@@ -189,7 +189,7 @@ fn index_words(run: &Run<4>) -> [u64; 16] {
     words
 }
 
-/// Compares a run with all that is told and shown of a job, where the signal comes if it has one.
+// Compares a run with all that is told and shown of a job, where the signal comes if it has one.
 fn compare(rt: &impl Abort, run: &mut Run<4>, job: &Job) {
     for (done, tick, item) in job.lines {
         match *item {
@@ -204,7 +204,7 @@ fn compare(rt: &impl Abort, run: &mut Run<4>, job: &Job) {
     assert_eq!(rt; told_next(run), None);
 }
 
-/// Compares a snapshot.
+// Compares a snapshot.
 fn compare_shown(rt: &impl Abort, run: &mut Run<4>, line: Line, at: u64, job: &Job) {
     assert_eq!(rt; told_next(run), Some(line));
     assert!(rt; are_levels(&levels_of(run), at, job.stays), "the levels");
@@ -215,7 +215,7 @@ fn compare_shown(rt: &impl Abort, run: &mut Run<4>, line: Line, at: u64, job: &J
     );
 }
 
-/// Runs a job with a snapshot at each tick.
+// Runs a job with a snapshot at each tick.
 fn follow(rt: &impl Abort, alloc: Global, job: &Job) -> Result<(), Fail> {
     let state = opened(rt, alloc, job.words)?;
     let delays = delays_of(rt, alloc, job.delays)?;

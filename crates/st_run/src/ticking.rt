@@ -9,14 +9,14 @@ ghost use Rattle.st_run.specs.Ticking.{AreMade, AreTicked, IsReady};
 use crate::driven::Driven;
 use st_ahead::{Event, Machine, Row};
 
-/// No tick is made from this one on.
+// No tick is made from this one on.
 const END: u64 = 1 << 63;
 
-/// After so many ticks at which no entry is done it is worth a look whether nothing happens for some time.
+// After so many ticks at which no entry is done it is worth a look whether nothing happens for some time.
 const DENSE: u64 = 2;
 
-/// Makes the ticks from `now` on until an entry is done, whose row is the result; or until that of the next snapshot is
-/// made, if it comes before.
+// Makes the ticks from `now` on until an entry is done, whose row is the result; or until that of the next snapshot is
+// made, if it comes before.
 pub(crate) fn run_until<const N: usize>(
     driven: &mut Driven<N>,
     now: u64,
@@ -32,7 +32,7 @@ pub(crate) fn run_until<const N: usize>(
     make_ticks(&mut driven.machine, now, snap)
 }
 
-/// Makes the same ticks of a machine.
+// Makes the same ticks of a machine.
 fn make_ticks<const N: usize>(machine: &mut Machine<N>, now: u64, snap: Option<u64>) -> Option<Row>
     requires ready { IsReady machine.old }
     requires now { now ≡ machine.old.now }
@@ -57,8 +57,8 @@ fn make_ticks<const N: usize>(machine: &mut Machine<N>, now: u64, snap: Option<u
     }
 }
 
-/// Passes over ticks at which nothing happens, up to that of the snapshot at the latest, where the last entry was done `before` ticks ago. The result is
-/// how many there are.
+// Passes over ticks at which nothing happens, up to that of the snapshot at the latest, where the last entry was done `before` ticks ago. The result is
+// how many there are.
 fn pass_idle<const N: usize>(machine: &mut Machine<N>, before: u64, snap: Option<u64>) -> u64
     requires settled { machine.old.owed ≡ false }
     ensures few { result ≤ 2 ^ 63 - machine.old.now }
@@ -72,7 +72,7 @@ fn pass_idle<const N: usize>(machine: &mut Machine<N>, before: u64, snap: Option
     machine.pass_idle_ticks(limit_of(snap))
 }
 
-/// The tick behind that of a snapshot, if there is one; it is the last one that may come.
+// The tick behind that of a snapshot, if there is one; it is the last one that may come.
 fn limit_of(snap: Option<u64>) -> u64
     ensures few { result ≤ 2 ^ 63 }
     ensures snap { IfSome snap (λ x. result ≤ x + 1) }
@@ -83,7 +83,7 @@ fn limit_of(snap: Option<u64>) -> u64
     }
 }
 
-/// Whether the last tick before `at` is that of a snapshot.
+// Whether the last tick before `at` is that of a snapshot.
 fn is_last(at: u64, snap: Option<u64>) -> bool
     ensures { result ≡ option_map_or (λ x. x + 1 == at) snap false }
 {

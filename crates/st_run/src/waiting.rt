@@ -9,8 +9,8 @@ use crate::told::What;
 use arrayvec::{ArrayString, ArrayVec};
 use std::marker::Model;
 
-/// What waits to be told: the entries that are dropped, each with its half-word address and the tick at which it was
-/// prepared, oldest first; the text that is printed; the interrupt that is taken.
+// What waits to be told: the entries that are dropped, each with its half-word address and the tick at which it was
+// prepared, oldest first; the text that is printed; the interrupt that is taken.
 #[derive(Drop)]
 pub(crate) struct Waiting {
     pub drops: ArrayVec<(u32, u64), 8>,

@@ -1,7 +1,7 @@
 //! Small jobs, at each tick.
 use super::*;
 
-/// A load, an addition and a wait, where each read takes three ticks.
+// A load, an addition and a wait, where each read takes three ticks.
 const LOADING: Job = Job {
     words: &[
         (32, 0x0019_00F0_0000_0410),
@@ -28,7 +28,7 @@ const LOADING: Job = Job {
     index: &[(0, 0, 0)],
 };
 
-/// An index word is changed three times ahead of a multiplication, behind which an interrupt comes.
+// An index word is changed three times ahead of a multiplication, behind which an interrupt comes.
 const COUNTING: Job = Job {
     words: &[
         (32, 0x0032_0500_0000_8450),
@@ -96,7 +96,7 @@ const COUNTING: Job = Job {
     ],
 };
 
-/// Blank words run ahead of a multiplication, behind which an interrupt comes; its table instruction branches.
+// Blank words run ahead of a multiplication, behind which an interrupt comes; its table instruction branches.
 const BRANCHING: Job = Job {
     words: &[
         (32, 0x0032_0500_0000_8450),
@@ -144,7 +144,7 @@ const BRANCHING: Job = Job {
     index: &[(0, 0, 0), (3, 0, 0x0032_0000_0000_0000)],
 };
 
-/// Three words are moved, where each read takes three ticks.
+// Three words are moved, where each read takes three ticks.
 const MOVING: Job = Job {
     words: &[(32, 0x4000_00F0_0019_0183), (33, 0x0000_0970_0000_0000)],
     delays: &[3],
@@ -161,7 +161,7 @@ const MOVING: Job = Job {
     index: &[(0, 0, 0)],
 };
 
-/// A branch behind a multiplication, whose guess is wrong.
+// A branch behind a multiplication, whose guess is wrong.
 const MISSED: Job = Job {
     words: &[
         (32, 0x0019_00F0_0000_0520),
@@ -198,7 +198,7 @@ const MISSED: Job = Job {
     ],
 };
 
-/// The same, whose guess is right.
+// The same, whose guess is right.
 const GUESSED: Job = Job {
     words: &[
         (32, 0x0019_00F0_0000_0520),

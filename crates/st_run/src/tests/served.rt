@@ -1,7 +1,7 @@
 //! The printer and the reader between two entries.
 use super::*;
 
-/// Two orders, a branch to itself until the reader has no card, and a wait.
+// Two orders, a branch to itself until the reader has no card, and a wait.
 const ORDERS: [(u32, u64); 5] = [
     (32, 0x000C_80F0_0000_21D0),
     (33, 0x000F_00F0_0000_41C0),
@@ -10,7 +10,7 @@ const ORDERS: [(u32, u64); 5] = [
     (50, 0x4849_0000_0000_0000),
 ];
 
-/// A text is printed behind the second entry; the reader finds no card behind the fourth one.
+// A text is printed behind the second entry; the reader finds no card behind the fourth one.
 const TOLD: [Line; 7] = [
     (1, 4, Item::Row(64, 3, 3, 4)),
     (2, 7, Item::Row(66, 6, 6, 7)),

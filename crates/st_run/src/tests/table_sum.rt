@@ -3,7 +3,7 @@ use super::*;
 use st_exec::{interrupt, one};
 use st_prep::plan;
 
-/// A job that adds three numbers in a loop, which an interrupt comes into.
+// A job that adds three numbers in a loop, which an interrupt comes into.
 const SUM: Job = Job {
     words: &[
         (32, 0x0032_0500_0000_8450),
@@ -84,7 +84,7 @@ const SUM: Job = Job {
     ],
 };
 
-/// What is told of it besides ticks, drops and snapshots.
+// What is told of it besides ticks, drops and snapshots.
 const PLAIN: [(u64, Item); 17] = [
     (1, Item::Row(64, 0, 0, 0)),
     (2, Item::Row(65, 0, 0, 0)),
@@ -105,7 +105,7 @@ const PLAIN: [(u64, Item); 17] = [
     (15, Item::End(true)),
 ];
 
-/// What is told next besides drops, without ticks.
+// What is told next besides drops, without ticks.
 fn plain_next(run: &mut Run<4>) -> Option<(u64, Item)> {
     for _ in 0..5 {
         match told_next(run)? {
@@ -117,7 +117,7 @@ fn plain_next(run: &mut Run<4>) -> Option<(u64, Item)> {
     None
 }
 
-/// Compares a run with what is told of the job besides ticks, drops and snapshots.
+// Compares a run with what is told of the job besides ticks, drops and snapshots.
 fn compare_plain(rt: &impl Abort, run: &mut Run<4>) {
     for line in &PLAIN {
         assert_eq!(rt; plain_next(run), Some(*line));
@@ -137,7 +137,7 @@ fn delays_change_only_ticks_and_drops(rt: HostRuntime) -> Result<(), Fail> {
     Ok(())
 }
 
-/// The step of a state, and the signal that comes behind it.
+// The step of a state, and the signal that comes behind it.
 fn go(rt: &impl Abort, state: &mut State) {
     assert!(rt; state.done < 15);
     one(state);
@@ -146,7 +146,7 @@ fn go(rt: &impl Abort, state: &mut State) {
     }
 }
 
-/// The state behind so many steps.
+// The state behind so many steps.
 fn stepped(rt: &impl Abort, alloc: Global, done: u64) -> Result<State, Fail> {
     let mut state = opened(rt, alloc, SUM.words)?;
     for _ in 0..done {
@@ -155,7 +155,7 @@ fn stepped(rt: &impl Abort, alloc: Global, done: u64) -> Result<State, Fail> {
     Ok(state)
 }
 
-/// Changes the index word that the next entry changes early.
+// Changes the index word that the next entry changes early.
 fn begin(state: &mut State) {
     let entry = plan(state, interrupt(state));
     if let Some(change) = entry.index {
@@ -163,14 +163,14 @@ fn begin(state: &mut State) {
     }
 }
 
-/// The guessed step of a state, which is a step but for the counter.
+// The guessed step of a state, which is a step but for the counter.
 fn guess(rt: &impl Abort, state: &mut State, counter: u32) {
     assert!(rt; state.done < 15 && counter < 512);
     one(state);
     state.ic = counter;
 }
 
-/// Makes the guessed steps of these levels, of the last of them the early change alone.
+// Makes the guessed steps of these levels, of the last of them the early change alone.
 fn go_ahead(rt: &impl Abort, state: &mut State, levels: &[Option<LevelView>]) {
     if let [Some(_), after @ ..] = levels {
         for level in after {
@@ -182,7 +182,7 @@ fn go_ahead(rt: &impl Abort, state: &mut State, levels: &[Option<LevelView>]) {
     }
 }
 
-/// Whether a run shows the index words of one state, and all else that the job uses of another.
+// Whether a run shows the index words of one state, and all else that the job uses of another.
 fn is_split(run: &Run<4>, ahead: &State, state: &State) -> bool {
     let seen = run.seen();
     for w in 0..256 {
