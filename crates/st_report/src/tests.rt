@@ -1,5 +1,6 @@
 //! Each call once, against the text of reports that were worked out by hand.
 use super::*;
+use arrayvec::ArrayString;
 use std::test::Fail;
 
 const INDEX_WORD: u64 = 0x0000_4000_0000_0000;
