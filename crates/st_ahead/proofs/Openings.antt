@@ -10,7 +10,7 @@ use Rattle.st_rows.specs.Asked.{fetches_asked, words_asked}
 use Rattle.st_rows.specs.Ranges.{IsTight, IsNear, ArePastWithin}
 use Rattle.st_rows.specs.Rows.{opening, fetched, fetch_words}
 use Rattle.st_fetch.specs.declared.fetched.Fetched.{Fetched}
-use Rattle.st_fetch.specs.Planned.{nothing}
+use Rattle.st_fetch.specs.Planned.{unasked}
 use Rattle.st_rows.specs.Entries.{no_words}
 use Rattle.st_ring.specs.declared.level.Level.{Level}
 use Rattle.st_levels.specs.declared.plans.Plan.{Plan}
@@ -36,7 +36,7 @@ none = record { first = 0; len = 0 }
 opening-near : (start : ℕ) (banks : LastAnswers) → All (λ b. b ≤ start + 255) banks.ticks → IsNear 255 (opening banks start).bus
 opening-near start banks early = record {
   banks = early;
-  held = All-replicate (λ (h : Fetched). h.tick ≤ start + 255) 4 nothing (omega arith);
+  held = All-replicate (λ (h : Fetched). h.tick ≤ start + 255) 4 unasked (omega arith);
 }
 
 opening-past : (start : ℕ) (banks : LastAnswers) → ArePastWithin start (opening banks start).past

@@ -13,7 +13,7 @@ use Rattle.std.proofs.lemmas.List.Elements.{All-nil, All-cons, All-head, All-tai
 use Rattle.st_text.specs.Number.{is_filled}
 use Rattle.st_card.specs.Cards.{text_in, card_at, cards_from, cards_of}
 use Rattle.st_text.specs.Pieces.{parted}
-use Rattle.st_card.specs.Controls.{Asked, nothing, added, is_in_range}
+use Rattle.st_card.specs.Controls.{Asked, nothing_asked, added, is_in_range}
 use Rattle.st_card.specs.Limits.{IsWithinLimits, AreDelays, is_signal, is_part, is_tick}
 use Rattle.st_card.specs.declared.cards.Card.{Card}
 use Rattle.st_card.specs.declared.cards.CardKind.{CardKind}
@@ -216,7 +216,7 @@ form-kept job s card is =
     ok-unless IsDeck (first_fault_of card.kind card.fault) (form_kind card.kind s card.number card.fault (text_in job card))
     (form_kind-kept s card.number card.fault (text_in job card) card.kind is)
 
-unread-limits : IsWithinLimits nothing
+unread-limits : IsWithinLimits nothing_asked
 unread-limits = record {
   budget = lit≤ tt;
   delays = record { each = All-nil (λ n. is_in_range 1 255 n ≡ true); few = lit≤ tt };

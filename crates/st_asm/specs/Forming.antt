@@ -1,7 +1,7 @@
 -- The form pass: each card by itself, what the control cards ask for, and where the end is.
 use Rattle.std.specs.Prelude.{ℕ, ◌+◌, Bool, true, false, List, [], ◌∷◌, ◌++◌, length, Option, Some, None, Result, Ok, Err, if◌then◌else◌}
 use Rattle.st_card.specs.Cards.{text_in}
-use Rattle.st_card.specs.Controls.{Asked, nothing, added}
+use Rattle.st_card.specs.Controls.{Asked, nothing_asked, added}
 use Rattle.st_card.specs.declared.cards.Card.{Card}
 use Rattle.st_card.specs.declared.cards.CardKind.{CardKind}
 use Rattle.st_card.specs.declared.cards.CardKind.TheVariants.{Comment, Control, Statement as StatementCard}
@@ -28,7 +28,7 @@ found_in d = record { ended = d.ended; asked = d.controls; lines = d.lines.items
 
 -- before the first card
 abbrev pub unread : Found
-unread = record { ended = false; asked = nothing; lines = [] }
+unread = record { ended = false; asked = nothing_asked; lines = [] }
 
 -- the faults of a statement card that count also behind the end: all that it has by itself but a bad column 1
 abbrev pub before_end : Option Fault → Option Fault

@@ -1,6 +1,6 @@
 //! The ticks at which the banks answer their last reads, apart from the delays.
 ghost use Rattle.std.specs.Prelude.{◌≡◌, ◌<◌, replicate};
-ghost use Rattle.st_banks.specs.Bank.{bank_of as bank_of_word};
+ghost use Rattle.st_banks.specs.Bank.{bank_of as bank_by};
 
 /// The number of banks.
 pub const BANKS: usize = 6;
@@ -60,7 +60,7 @@ impl LastAnswers {
 // The bank of the word `w`.
 #[tactic(auto, unfolding(crate::specs::Bank::bank_of))]
 fn bank_of(w: u32) -> usize
-    ensures value { result ≡ bank_of_word w }
+    ensures value { result ≡ bank_by w }
     ensures bound { result < BANKS }
 {
     if w < LOW_WORDS {

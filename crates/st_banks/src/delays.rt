@@ -1,6 +1,6 @@
 //! Delay lists, which are gone round.
 ghost use Rattle.std.specs.Prelude.{◌≡◌, ◌+◌, ◌<◌, ◌≤◌, ◌^◌, length, All, IfSome, IfNone};
-ghost use Rattle.st_banks.specs.Delay.{delay, first_zero as place_of_zero};
+ghost use Rattle.st_banks.specs.Delay.{delay, first_zero as first_zero_of};
 
 use std::alloc::Global;
 use std::marker::Model;
@@ -79,7 +79,7 @@ impl Delays {
 
 // The place of the first entry that is zero.
 fn first_zero(list: &[u8]) -> Option<usize>
-    ensures value { result ≡ place_of_zero list.now }
+    ensures value { result ≡ first_zero_of list.now }
     ensures bound { IfSome result (λ place. place < length list.now) }
     ensures none { IfNone result (All (λ delay. 1 ≤ delay) list.now) }
 {

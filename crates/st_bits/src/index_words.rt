@@ -1,12 +1,12 @@
 //! The parts of an index word: value, count and refill address.
 ghost use Rattle.std.specs.Prelude.{◌≡◌, ◌<◌, ◌≤◌, ◌^◌, unsigned_abs};
-ghost use Rattle.st_bits.specs.IndexWord.{value_of as value, count_of as count, refill_of as refill, with_value as value_put, with_count as count_put, with_refill as refill_put};
+ghost use Rattle.st_bits.specs.IndexWord.{value_of as value_by, count_of as count_by, refill_of as refill_by, with_value as with_value_of, with_count as with_count_of, with_refill as with_refill_of};
 
 use crate::parts::{part, with_part};
 
 /// The signed value of an index word.
 pub fn value_of(x: u64) -> i32
-    ensures { result ≡ value x }
+    ensures { result ≡ value_by x }
 {
     let magnitude = part(x, 0, 24) as i32;
     if part(x, 24, 1) == 0 {
@@ -18,14 +18,14 @@ pub fn value_of(x: u64) -> i32
 
 /// The count of an index word, below 2^18.
 pub fn count_of(x: u64) -> u32
-    ensures { result ≡ count x }
+    ensures { result ≡ count_by x }
 {
     part(x, 28, 18) as u32
 }
 
 /// The refill address of an index word, a word address below 2^18.
 pub fn refill_of(x: u64) -> u32
-    ensures { result ≡ refill x }
+    ensures { result ≡ refill_by x }
 {
     part(x, 46, 18) as u32
 }
@@ -33,7 +33,7 @@ pub fn refill_of(x: u64) -> u32
 /// The index word with `r` as its value: the magnitude modulo 2^24, and the sign minus where r is below 0.
 pub fn with_value(x: u64, r: i32) -> u64
     requires { unsigned_abs r ≤ 2 ^ 28 }
-    ensures { result ≡ value_put x r }
+    ensures { result ≡ with_value_of x r }
 {
     let magnitude = u64::from(r.unsigned_abs()) % (1 << 24);
     with_part(with_part(x, 0, 24, magnitude), 24, 1, u64::from(r < 0))
@@ -42,7 +42,7 @@ pub fn with_value(x: u64, r: i32) -> u64
 /// The index word with the count `c`, below 2^18.
 pub fn with_count(x: u64, c: u32) -> u64
     requires { c < 2 ^ 18 }
-    ensures { result ≡ count_put x c }
+    ensures { result ≡ with_count_of x c }
 {
     with_part(x, 28, 18, u64::from(c))
 }
@@ -50,7 +50,7 @@ pub fn with_count(x: u64, c: u32) -> u64
 /// The index word with the refill address `a`, a word address below 2^18.
 pub fn with_refill(x: u64, a: u32) -> u64
     requires { a < 2 ^ 18 }
-    ensures { result ≡ refill_put x a }
+    ensures { result ≡ with_refill_of x a }
 {
     with_part(x, 46, 18, u64::from(a))
 }

@@ -27,8 +27,8 @@ pub record Asked : Type 0 where
   pub back : ℕ
 
 -- what no control card asks for
-abbrev pub nothing : Asked
-nothing = record {
+abbrev pub nothing_asked : Asked
+nothing_asked = record {
   budget = 0;
   delays = [];
   signals = [];

@@ -1,6 +1,6 @@
 //! Decimal addition, to the accumulator and to memory.
 ghost use Rattle.std.specs.Prelude.{◌≡◌, ◌≤◌, ◌<◌, ◌*◌, ◌^◌, nat_le};
-ghost use Rattle.st_field.specs.Numbers.{sum_of as sum_of_numbers, magnitude_sum as magnitude_sum_of};
+ghost use Rattle.st_field.specs.Numbers.{sum_of as sum_by, magnitude_sum as magnitude_sum_of};
 ghost use Rattle.st_field.specs.Fields.{HasRoom};
 ghost use Rattle.st_dec.specs.DigitLists.{joined, decimal as decimal_of};
 ghost use Rattle.st_dec.specs.DecimalOperand.{IsDecimalShape};
@@ -21,8 +21,8 @@ use st_field::{Acc, Done, Signed, in_accumulator, in_field, power_of_ten, to_dig
 fn sum_of(a: Signed, b: Signed) -> Signed
     requires first { a.mag < 2 ^ 127 }
     requires second { b.mag < 2 ^ 127 }
-    ensures magnitude { result.mag ≡ (sum_of_numbers a b).mag }
-    ensures sign { result.negative ≡ (sum_of_numbers a b).negative }
+    ensures magnitude { result.mag ≡ (sum_by a b).mag }
+    ensures sign { result.negative ≡ (sum_by a b).negative }
 {
     sum(a, b).number
 }

@@ -9,7 +9,7 @@ use Rattle.st_card.specs.declared.keywords.Keyword.TheVariants.{Budget, Delays, 
 use Rattle.st_text.specs.Number.{is_filled, reading, good}
 use Rattle.st_text.specs.Pieces.{parted, lacks, words}
 use Rattle.st_card.specs.Cards.{columns}
-use Rattle.st_card.specs.Controls.{Asked, nothing, card_number, before, card_numbers, with_budget, with_delays, with_signal, with_dump, with_snap, with_back, with_trace, with_time, with_chart, with_card, with_words, added}
+use Rattle.st_card.specs.Controls.{Asked, nothing_asked, card_number, before, card_numbers, with_budget, with_delays, with_signal, with_dump, with_snap, with_back, with_trace, with_time, with_chart, with_card, with_words, added}
 use Rattle.st_card.specs.Limits.{IsWithinLimits, AreDelays, AreSignals, AreDumps, AreSnaps}
 use Rattle.st_card.specs.declared.control_cards.Signal.{Signal}
 use Rattle.st_card.proofs.OrderLemmas.{budget-asked, delay-asked, signal-asked, dump-asked, snap-asked, back-asked, delay-short, signal-short, dump-short, snap-short}
@@ -241,12 +241,12 @@ module _ (n : ℕ) (ds : List ℕ) where
 
 -- the budget
 add_budget : (n : ℕ) → 1 ≤ n → n ≤ 10000000 →
-    CardsLead nothing ((codes "/BUDGET " ++ decimal n) ∷ []) (asked_for n [] [] [] false false false [] 0)
+    CardsLead nothing_asked ((codes "/BUDGET " ++ decimal n) ∷ []) (asked_for n [] [] [] false false false [] 0)
 add_budget n some few =
-    (asked_for n [] [] [] false false false [] 0, budget-card nothing n (omega (arith, few)) ∙ budget-asked nothing n refl some few, refl)
+    (asked_for n [] [] [] false false false [] 0, budget-card nothing_asked n (omega (arith, few)) ∙ budget-asked nothing_asked n refl some few, refl)
 
 -- the control cards ask for what is asked for
-pub controls-read : (a : Asked) → IsWithinLimits a → 1 ≤ a.budget → a.list ≡ false → CardsLead nothing (order_cards a ++ show_cards a) a
+pub controls-read : (a : Asked) → IsWithinLimits a → 1 ≤ a.budget → a.list ≡ false → CardsLead nothing_asked (order_cards a ++ show_cards a) a
 controls-read a limits some unlisted =
     let n = a.budget in
     let ds = a.delays in
@@ -279,13 +279,13 @@ controls-read a limits some unlisted =
     let chart = add_chart n ds ss us a.trace a.time a.chart in
     let snaps = add_snaps n ds ss us a.trace a.time a.chart a.snaps limits.snaps in
     let back = add_back n ds ss us a.trace a.time a.chart a.snaps a.back limits.back (a.back == 0) refl in
-    let two = leads_on nothing a1 a2 c1 c2 budget delays in
-    let three = leads_on nothing a2 a3 (c1 ++ c2) c3 two signals in
-    let orders = leads_on nothing a3 a4 (c1 ++ c2 ++ c3) c4 three dumps in
+    let two = leads_on nothing_asked a1 a2 c1 c2 budget delays in
+    let three = leads_on nothing_asked a2 a3 (c1 ++ c2) c3 two signals in
+    let orders = leads_on nothing_asked a3 a4 (c1 ++ c2 ++ c3) c4 three dumps in
     let six = leads_on a4 a5 a6 c5 c6 trace time in
     let seven = leads_on a4 a6 a7 (c5 ++ c6) c7 six chart in
     let eight = leads_on a4 a7 a8 (c5 ++ c6 ++ c7) c8 seven snaps in
     let shows = leads_on a4 a8 a9 (c5 ++ c6 ++ c7 ++ c8) c9 eight back in
-    let all = leads_on nothing a4 a9 (order_cards a) (show_cards a) orders shows in
+    let all = leads_on nothing_asked a4 a9 (order_cards a) (show_cards a) orders shows in
     let same : a9 ≡ a = ap (λ (b : Bool). record a { list = b }) (sym unlisted) in
-    subst (λ (x : Asked). CardsLead nothing (order_cards a ++ show_cards a) x) same all
+    subst (λ (x : Asked). CardsLead nothing_asked (order_cards a ++ show_cards a) x) same all

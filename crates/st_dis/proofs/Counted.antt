@@ -1,7 +1,7 @@
 -- How many cards words have.
 use Rattle.std.proofs.Common.{◌≡◌, ◌≤◌, ◌+◌, ◌-◌, ◌==◌, ◌++◌, ℕ, true, false, List, [], ◌∷◌, length, map, take, drop, get_or, if◌then◌else◌, refl, ap, sym, ◌∙◌, length-append, arith}
 use Rattle.std.proofs.lemmas.List.{take_all}
-use Rattle.st_dis.specs.Deck.{statement_card, location_text, location_cards, placed, word_cards}
+use Rattle.st_dis.specs.Deck.{statement_card, location_text, location_cards, cards_of_word, word_cards}
 use Rattle.st_dis.specs.Spelling.{statements_of}
 
 -- where a word stands does not matter
@@ -12,8 +12,8 @@ location_cards-length v w before =
     elim (before == 0) as (λ b. length (if b then one ∷ [] else []) ≡ length (if b then other ∷ [] else []))
     [ true ↦ refl | false ↦ refl ]
 
-placed-length : (v w before x : ℕ) → length (placed v before x) ≡ length (placed w before x)
-unfolding placed
+placed-length : (v w before x : ℕ) → length (cards_of_word v before x) ≡ length (cards_of_word w before x)
+unfolding cards_of_word
 placed-length v w before x =
     let texts = map statement_card (statements_of x) in
     let filled : length (location_cards v before ++ texts) ≡ length (location_cards w before ++ texts) =
@@ -27,18 +27,18 @@ word_cards-length v w before [] = refl
 word_cards-length v w before (x ∷ xs) =
     let here = placed-length v w before x in
     let rest = word_cards-length (v + 1) (w + 1) x xs in
-    let one = length-append (placed v before x) (word_cards (v + 1) x xs) in
-    let other = length-append (placed w before x) (word_cards (w + 1) x xs) in
+    let one = length-append (cards_of_word v before x) (word_cards (v + 1) x xs) in
+    let other = length-append (cards_of_word w before x) (word_cards (w + 1) x xs) in
     omega (arith, here, rest, one, other)
 
 -- a word more
-pub counted-more : (count n total before : ℕ) (rest : List ℕ) → 1 ≤ length rest → n ≡ length (placed 0 before (get_or rest 0 0)) →
+pub counted-more : (count n total before : ℕ) (rest : List ℕ) → 1 ≤ length rest → n ≡ length (cards_of_word 0 before (get_or rest 0 0)) →
     count + length (word_cards 0 before rest) ≡ total →
     count + n + length (word_cards 0 (get_or rest 0 0) (take (length rest - 1) (drop 1 rest))) ≡ total
 counted-more count n total before [] some here all = let no : ⊥ = omega arith in absurd no
 counted-more count n total before (x ∷ xs) some here all =
     let whole : take (length (x ∷ xs) - 1) xs ≡ xs = take_all (length (x ∷ xs) - 1) xs (omega arith) in
     let moved = word_cards-length 0 1 x xs in
-    let parts = length-append (placed 0 before x) (word_cards 1 x xs) in
+    let parts = length-append (cards_of_word 0 before x) (word_cards 1 x xs) in
     let sizes : count + n + length (word_cards 0 x xs) ≡ total = omega (arith, here, all, moved, parts) in
     ap (λ ys. count + n + length (word_cards 0 x ys)) whole ∙ sizes

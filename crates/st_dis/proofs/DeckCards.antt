@@ -23,7 +23,7 @@ use Rattle.st_asm.specs.Alone.{laid_alone, laid_if_read, laid_by}
 use Rattle.st_asm.specs.declared.alone.LaidBits.{LaidBits}
 use Rattle.st_object.specs.Object.{Program, IsProgram, AreWords}
 use Rattle.st_dis.specs.Spelling.{number_text, statements_of}
-use Rattle.st_dis.specs.Deck.{statement_card, location_text, location_cards, placed, word_cards, end_text, marked, order_cards, back_cards, show_cards, deck_cards, deck_of, deck_text, card_count}
+use Rattle.st_dis.specs.Deck.{statement_card, location_text, location_cards, cards_of_word, word_cards, end_text, marked, order_cards, back_cards, show_cards, deck_cards, deck_of, deck_text, card_count}
 use Rattle.st_dis.proofs.Spelled.{statements-cases, whole_bits, half_bits}
 use Rattle.st_dis.proofs.WordRead.{says-lays}
 use Rattle.st_dis.proofs.Printable.{IsWritten, deck_written}
@@ -36,8 +36,8 @@ use Rattle.st_dis.proofs.Said.{word_statements, statements_from, deck_statements
 -- ---- the cards
 
 -- the texts of a word, and its cards
-placed-texts : (w before word : ℕ) → placed w before word ≡ map statement_card (word_statements w before word)
-unfolding placed
+placed-texts : (w before word : ℕ) → cards_of_word w before word ≡ map statement_card (word_statements w before word)
+unfolding cards_of_word
 placed-texts w before word =
     let texts = statements_of word in
     let card = statement_card (location_text w) in

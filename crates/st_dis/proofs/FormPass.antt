@@ -5,7 +5,7 @@ use Rattle.std.proofs.lemmas.List.{take_all, length-map, map-append}
 use Rattle.std.proofs.lemmas.List.Elements.{All-nil, All-cons, All-head, All-tail}
 use Rattle.std.proofs.lemmas.Bool.{and_parts}
 use Rattle.st_card.specs.Cards.{is_blank, kind_of, cards_of, text_in}
-use Rattle.st_card.specs.Controls.{Asked, nothing, added}
+use Rattle.st_card.specs.Controls.{Asked, nothing_asked, added}
 use Rattle.st_card.specs.declared.cards.Card.{Card}
 use Rattle.st_card.specs.declared.cards.CardKind.{CardKind}
 use Rattle.st_card.specs.declared.cards.CardKind.TheVariants.{Comment, Control, Statement as StatementCard}
@@ -245,7 +245,7 @@ pub record IsJob (texts : List (List ℕ)) (final : List ℕ) (controls : List (
   pub final_read : statement_of [] final ≡ Ok last
   pub ends : is_end last ≡ true
   pub marks : All IsControl controls
-  pub leads : CardsLead nothing controls asked
+  pub leads : CardsLead nothing_asked controls asked
 
 -- its cards
 abbrev pub job_cards : List (List ℕ) → List ℕ → List (List ℕ) → List (List ℕ)
@@ -277,12 +277,12 @@ job-leads texts final controls before last asked is short =
     let j : ℕ = length all + 1 in
     let lines : List Line = spoken_lines 1 before ++ saying k None last ∷ [] in
     let spoken : spoken_lines 1 all ≡ lines = spoken-more 1 k before last (omega arith) in
-    let until = found_as false nothing (spoken_lines 1 before) in
-    let ended = found_as true nothing lines in
+    let until = found_as false nothing_asked (spoken_lines 1 before) in
+    let ended = found_as true nothing_asked lines in
     let to = found_as true asked (lines ++ silent_lines j (length controls)) in
-    let one = statements-lead nothing [] 1 texts before texts_short is.read is.going in
-    let two = end-lead nothing (spoken_lines 1 before) k final last final_short is.final_read is.ends in
-    let three = controls-lead nothing asked lines j controls is.marks is.leads in
+    let one = statements-lead nothing_asked [] 1 texts before texts_short is.read is.going in
+    let two = end-lead nothing_asked (spoken_lines 1 before) k final last final_short is.final_read is.ends in
+    let three = controls-lead nothing_asked asked lines j controls is.marks is.leads in
     let spoken_cards = leads-on unread until ended 1 k cards end (omega (arith, count, cards_count)) one two in
     let whole = leads-on unread ended to 1 j (cards ++ end) controls (omega (arith, count, cards_count, all_count, size)) spoken_cards three in
     let found : to ≡ found_in_job all (length controls) asked =

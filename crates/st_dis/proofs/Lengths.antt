@@ -12,7 +12,7 @@ use Rattle.st_card.specs.Limits.{IsWithinLimits, is_signal, is_part, is_tick}
 use Rattle.st_card.specs.declared.control_cards.Signal.{Signal}
 use Rattle.st_object.specs.Object.{Program, IsProgram, AreWords}
 use Rattle.st_dis.specs.Spelling.{number_text, statements_of}
-use Rattle.st_dis.specs.Deck.{statement_card, location_text, location_cards, placed, word_cards, end_text, marked, order_cards, back_cards, show_cards, deck_cards, deck_of, deck_text, card_count}
+use Rattle.st_dis.specs.Deck.{statement_card, location_text, location_cards, cards_of_word, word_cards, end_text, marked, order_cards, back_cards, show_cards, deck_cards, deck_of, deck_text, card_count}
 use Rattle.st_dis.proofs.Spelled.{statements-cases, says-short, whole_bits, half_bits}
 
 -- a statement has at most 63 characters, and a card at most 72
@@ -87,8 +87,8 @@ location_cards-short w before small =
       | false ↦ All-nil IsCard
     ]
 
-placed-short : (w before x : ℕ) → w < 2 ^ 64 → x < 2 ^ 64 → All IsCard (placed w before x)
-unfolding placed
+placed-short : (w before x : ℕ) → w < 2 ^ 64 → x < 2 ^ 64 → All IsCard (cards_of_word w before x)
+unfolding cards_of_word
 placed-short w before x small word =
     let filled : All IsCard (location_cards w before ++ map statement_card (statements_of x)) =
     All-append IsCard (location_cards w before) (map statement_card (statements_of x)) (location_cards-short w before small)
@@ -101,7 +101,7 @@ placed-short w before x small word =
 word_cards-short : (w before : ℕ) (xs : List ℕ) → w + length xs < 2 ^ 64 → AreWords xs → All IsCard (word_cards w before xs)
 word_cards-short w before [] few words = All-nil IsCard
 word_cards-short w before (x ∷ xs) few words =
-    All-append IsCard (placed w before x) (word_cards (w + 1) x xs)
+    All-append IsCard (cards_of_word w before x) (word_cards (w + 1) x xs)
     (placed-short w before x (omega arith) (All-head (λ y. y < 2 ^ 64) x xs words))
     (word_cards-short (w + 1) x xs (omega arith) (All-tail (λ y. y < 2 ^ 64) x xs words))
 

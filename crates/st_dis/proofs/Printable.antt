@@ -29,7 +29,7 @@ use Rattle.st_asm.specs.declared.alone.LaidBits.{LaidBits}
 use Rattle.st_dis.specs.Names.{half_name, branch_name, field_name, negation, kind_name, truth_digits, move_name, changes, change_name, turning, order_name, mode_name, forms, form_name}
 use Rattle.st_dis.specs.Texts.{index_field, index_part, half_field, bit_field, second_field, number_field, offset_field, has_index, listed_fields, half_text, branch_text, description, operand, text_of}
 use Rattle.st_dis.specs.Spelling.{says, spelling_of, word_spelling, half_spelling, number_text, statements_by, statements_of}
-use Rattle.st_dis.specs.Deck.{statement_card, location_text, location_cards, placed, word_cards, end_text, marked, order_cards, back_cards, show_cards, deck_cards, deck_of, deck_text}
+use Rattle.st_dis.specs.Deck.{statement_card, location_text, location_cards, cards_of_word, word_cards, end_text, marked, order_cards, back_cards, show_cards, deck_cards, deck_of, deck_text}
 
 -- a text of blanks and visible characters
 abbrev pub IsPlain : List ℕ → Type 0
@@ -386,8 +386,8 @@ location_plain w before =
     let card = statement_card (location_text w) in
     where_asked (before == 0) (card ∷ []) (only card (card_plain (location_text w) (joined (codes "SLC,") (decimal w) (codes ".0") refl (number w) refl)))
 
-placed_plain : (w before word : ℕ) → All IsWritten (placed w before word)
-unfolding placed
+placed_plain : (w before word : ℕ) → All IsWritten (cards_of_word w before word)
+unfolding cards_of_word
 placed_plain w before word =
     where_not (word == 0) (location_cards w before ++ map statement_card (statements_of word))
     (All-append IsWritten (location_cards w before) (map statement_card (statements_of word)) (location_plain w before) (cards_plain (statements_of word) (statements_plain word)))
@@ -395,7 +395,7 @@ placed_plain w before word =
 word_cards_plain : (w before : ℕ) (xs : List ℕ) → All IsWritten (word_cards w before xs)
 word_cards_plain w before [] = All-nil IsWritten
 word_cards_plain w before (x ∷ xs) =
-    All-append IsWritten (placed w before x) (word_cards (w + 1) x xs) (placed_plain w before x) (word_cards_plain (w + 1) x xs)
+    All-append IsWritten (cards_of_word w before x) (word_cards (w + 1) x xs) (placed_plain w before x) (word_cards_plain (w + 1) x xs)
 
 module _ {X : Type 0} where
   -- cards that are made of things one by one

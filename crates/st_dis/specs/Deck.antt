@@ -24,14 +24,14 @@ abbrev pub location_cards : ℕ → ℕ → List (List ℕ)
 location_cards w before = if before == 0 then statement_card (location_text w) ∷ [] else []
 
 -- the cards of word w, with the word before it: none where it is zero
-unfoldable pub placed : ℕ → ℕ → ℕ → List (List ℕ)
-placed w before word =
+unfoldable pub cards_of_word : ℕ → ℕ → ℕ → List (List ℕ)
+cards_of_word w before word =
     if word == 0 then [] else location_cards w before ++ map statement_card (statements_of word)
 
 -- the cards of the words from word w on, with the word before
 abbrev pub word_cards : ℕ → ℕ → List ℕ → List (List ℕ)
 word_cards w before [] = []
-word_cards w before (x ∷ xs) = placed w before x ++ word_cards (w + 1) x xs
+word_cards w before (x ∷ xs) = cards_of_word w before x ++ word_cards (w + 1) x xs
 
 -- the end of the program, with its start
 abbrev pub end_text : ℕ → List ℕ

@@ -29,7 +29,7 @@ fn count_filled(symbols: &Symbols, before: u64, word: u64) -> u32
 }
 
 // How many cards a word has, with the word before it.
-#[tactic(auto, unfolding(crate::specs::Deck::placed))]
+#[tactic(auto, unfolding(crate::specs::Deck::cards_of_word))]
 fn count_placed(symbols: &Symbols, before: u64, word: u64) -> u32
     requires { symbols.now ≡ [] }
     ensures count { result ≡ length (spec.placed 0 before word) }

@@ -4,7 +4,7 @@ ghost use Rattle.std.specs.Prelude.{◌≡◌, ◌≤◌, ◌<◌, ◌*◌, ◌^
 ghost use Rattle.st_text.specs.Bytes.{line_end, is_printable};
 ghost use Rattle.st_card.specs.Cards.{text_in, cards_of};
 ghost use Rattle.st_text.specs.Pieces.{parted};
-ghost use Rattle.st_card.specs.Controls.{Asked, nothing};
+ghost use Rattle.st_card.specs.Controls.{Asked, nothing_asked};
 ghost use Rattle.st_card.specs.Limits.{IsWithinLimits};
 ghost use Rattle.st_strap.specs.Reading.{number_expr};
 ghost use Rattle.st_strap.specs.Saying.{statement_of};
@@ -41,7 +41,7 @@ pub fn places_come_back()
 /// The control cards of a deck are good, and added one after the other they ask for what the program asks for.
 pub fn controls_come_back()
     ensures { (asked : Asked) → IsWithinLimits asked → 1 ≤ asked.budget → asked.list ≡ false →
-        CardsLead nothing (order_cards asked ++ show_cards asked) asked }
+        CardsLead nothing_asked (order_cards asked ++ show_cards asked) asked }
 {}
 
 /// The cards of a deck have nothing but blanks and visible characters of ASCII, and they are the pieces of its text

@@ -75,7 +75,7 @@ fn push_location(deck: &mut Vec<u8>, w: u32, before: u64) -> Result<(), AllocErr
 }
 
 // Appends the cards of a word, with the word before it.
-#[tactic(auto, unfolding(crate::specs::Deck::placed))]
+#[tactic(auto, unfolding(crate::specs::Deck::cards_of_word))]
 fn push_placed(
     deck: &mut Vec<u8>,
     symbols: &Symbols,

@@ -32,8 +32,8 @@ abbrev pub kept : Part → ℕ → Entry → List Entry → List Entry
 kept part n entry entries = if is_in part n then entries ++ entry ∷ [] else entries
 
 -- the dropped entries stand behind the others, the oldest first
-abbrev pub settled : Timetable → Timetable
-settled t = record t { entries = t.entries ++ reverse t.dropped; dropped = [] }
+abbrev pub with_dropped : Timetable → Timetable
+with_dropped t = record t { entries = t.entries ++ reverse t.dropped; dropped = [] }
 
 -- an entry behind all that were told
 abbrev pub joined : Part → ℕ → Entry → Timetable → Timetable
@@ -67,7 +67,7 @@ after_lines part t (line ∷ lines) = after_lines part (after_line part t line) 
 
 -- the timetable that a report tells
 unfoldable pub timetable : Part → List ℕ → Timetable
-timetable part report = settled (after_lines part untold (parted 10 report))
+timetable part report = with_dropped (after_lines part untold (parted 10 report))
 
 -- what the code keeps of it
 abbrev pub kept_by : Told → Timetable

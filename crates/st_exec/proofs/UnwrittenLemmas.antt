@@ -12,7 +12,7 @@ use Rattle.st_state.specs.declared.devices.Order.{Order}
 use Rattle.st_state.proofs.Placed.{fixed-word}
 use Rattle.st_prep.specs.declared.entries.Prepared.{Prepared}
 use Rattle.st_prep.specs.EarlyChange.{words_after}
-use Rattle.st_prep.specs.Entry.{no_words, one_run, words_written, writes, acts_alone}
+use Rattle.st_prep.specs.Entry.{no_words, one_run, words_moved_to, writes, acts_alone}
 use Rattle.st_prep.specs.Fetch.{index_words}
 use Rattle.st_prep.specs.Plan.{opened}
 use Rattle.st_prep.specs.Ranges.{HasFields, AreInside, IsPrepared}
@@ -113,7 +113,7 @@ above-branch Bd i = tt
 above-branch Bew i = tt
 above-branch _ i = tt
 
-above-move : (swap : Bool) (from to n i : ℕ) → IsNotAmong i (words_written swap from to n)
+above-move : (swap : Bool) (from to n i : ℕ) → IsNotAmong i (words_moved_to swap from to n)
     → SparesAbove (move_deed swap from to n) i
 above-move false from to n i k = k.first
 above-move true from to n i k = (k.first, k.second)

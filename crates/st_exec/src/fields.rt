@@ -7,7 +7,7 @@ ghost use Rattle.st_format.specs.declared.operations.FullOp.{FullOp};
 ghost use Rattle.st_prep.specs.Entry.{no_words, field_words, operand_words};
 ghost use Rattle.st_prep.specs.Ranges.{AreInside};
 ghost use Rattle.st_exec.specs.Operand.{AreRead, taken_words, operand as operand_of, accumulator as accumulator_of};
-ghost use Rattle.st_exec.specs.Outcome.{taken as taken_of, result_by as result_of, operated, connects};
+ghost use Rattle.st_exec.specs.Outcome.{taken as taken_of, result_by as result_by_of, operated, connects};
 ghost use Rattle.st_exec.specs.Deed.{IsField};
 
 use crate::operands::operand_field;
@@ -77,7 +77,7 @@ fn result_by(
     requires shape { IsShape shape.now }
     requires decimal { is_decimal ≡ true → IsDecimalShape shape.now }
     requires fits { bits < 2 ^ shape.now.length }
-    ensures value { result ≡ result_of is_decimal op acc.now bits shape.now ft ind }
+    ensures value { result ≡ result_by_of is_decimal op acc.now bits shape.now ft ind }
     ensures field { IfSome result.field (λ v. v < 2 ^ shape.now.length) }
 {
     if is_decimal {

@@ -3,7 +3,7 @@ use Rattle.std.specs.Prelude.{◌==◌, if◌then◌else◌, min, is_some, zip}
 use Rattle.std.proofs.Common.{◌≡◌, ℕ, zero, suc, ◌+◌, ◌<◌, ◌≤◌, List, [], ◌∷◌, length, get_or, take, map, Option, None, Some, refl, ap, add-one, inl, inr, arith}
 use Rattle.std.proofs.lemmas.Bool.{cases_Bool}
 use Rattle.st_fetch.specs.HeldWords.{is_held, found, requested, changed_at, with_answer, with_content, answered, patched}
-use Rattle.st_fetch.specs.Planned.{nothing, told, asked_for, content_answered, content_patched, with_its_content, oldest_first}
+use Rattle.st_fetch.specs.Planned.{unasked, told, asked_for, content_answered, content_patched, with_its_content, oldest_first}
 use Rattle.st_fetch.specs.declared.fetched.Fetched.{Fetched}
 use Rattle.st_fetch.specs.declared.held.Held.{Held}
 
@@ -62,7 +62,7 @@ slot-patched w word f None = elim (cases_Bool (f.w == w)) [ inl t ↦ rw t refl 
 -- where each slot is changed so, the list is
 module _ (F : Held → Held) (ws vs : List Fetched) (cs ds : List (Option ℕ)) where
   changed-each :
-      ((i : ℕ) → i < 4 → with_its_content (get_or vs i nothing, get_or ds i None) ≡ F (with_its_content (get_or ws i nothing, get_or cs i None)))
+      ((i : ℕ) → i < 4 → with_its_content (get_or vs i unasked, get_or ds i None) ≡ F (with_its_content (get_or ws i unasked, get_or cs i None)))
       → (n : ℕ) → n ≤ 4 → oldest_first n vs ds ≡ map F (oldest_first n ws cs)
   unfolding oldest_first
   changed-each each zero few = refl
@@ -70,8 +70,8 @@ module _ (F : Held → Held) (ws vs : List Fetched) (cs ds : List (Option ℕ)) 
 
 -- the slots after the answer of w, and after a store into it
 each_answered : (w word tick : ℕ) (a b c d : Fetched) (e f g h : Option ℕ) (i : ℕ) → i < 4
-    → with_its_content (get_or (map (told w tick) (a ∷ b ∷ c ∷ d ∷ [])) i nothing, get_or (map (content_answered w word) (zip (map (told w tick) (a ∷ b ∷ c ∷ d ∷ [])) (e ∷ f ∷ g ∷ h ∷ []))) i None)
-    ≡ changed_at w (with_answer word tick) (with_its_content (get_or (a ∷ b ∷ c ∷ d ∷ []) i nothing, get_or (e ∷ f ∷ g ∷ h ∷ []) i None))
+    → with_its_content (get_or (map (told w tick) (a ∷ b ∷ c ∷ d ∷ [])) i unasked, get_or (map (content_answered w word) (zip (map (told w tick) (a ∷ b ∷ c ∷ d ∷ [])) (e ∷ f ∷ g ∷ h ∷ []))) i None)
+    ≡ changed_at w (with_answer word tick) (with_its_content (get_or (a ∷ b ∷ c ∷ d ∷ []) i unasked, get_or (e ∷ f ∷ g ∷ h ∷ []) i None))
 each_answered w word tick a b c d e f g h zero low = slot-answered w word tick a e
 each_answered w word tick a b c d e f g h (suc zero) low = slot-answered w word tick b f
 each_answered w word tick a b c d e f g h (suc (suc zero)) low = slot-answered w word tick c g
@@ -79,8 +79,8 @@ each_answered w word tick a b c d e f g h (suc (suc (suc zero))) low = slot-answ
 each_answered w word tick a b c d e f g h (suc (suc (suc (suc i)))) low = let no : ⊥ = omega arith in absurd no
 
 each_patched : (w word : ℕ) (a b c d : Fetched) (e f g h : Option ℕ) (i : ℕ) → i < 4
-    → with_its_content (get_or (a ∷ b ∷ c ∷ d ∷ []) i nothing, get_or (map (content_patched w word) (zip (a ∷ b ∷ c ∷ d ∷ []) (e ∷ f ∷ g ∷ h ∷ []))) i None)
-    ≡ changed_at w (with_content word) (with_its_content (get_or (a ∷ b ∷ c ∷ d ∷ []) i nothing, get_or (e ∷ f ∷ g ∷ h ∷ []) i None))
+    → with_its_content (get_or (a ∷ b ∷ c ∷ d ∷ []) i unasked, get_or (map (content_patched w word) (zip (a ∷ b ∷ c ∷ d ∷ []) (e ∷ f ∷ g ∷ h ∷ []))) i None)
+    ≡ changed_at w (with_content word) (with_its_content (get_or (a ∷ b ∷ c ∷ d ∷ []) i unasked, get_or (e ∷ f ∷ g ∷ h ∷ []) i None))
 each_patched w word a b c d e f g h zero low = slot-patched w word a e
 each_patched w word a b c d e f g h (suc zero) low = slot-patched w word b f
 each_patched w word a b c d e f g h (suc (suc zero)) low = slot-patched w word c g
@@ -115,7 +115,7 @@ oldest_first-patched w word n ws cs few four fours =
 
 -- the search goes from the newest to the oldest, and the last find counts
 pub found-next : (w i : ℕ) (ws : List Fetched) (cs : List (Option ℕ)) (here next : Option Held)
-    → next ≡ (if (get_or ws i nothing).w == w then Some (with_its_content (get_or ws i nothing, get_or cs i None)) else here)
+    → next ≡ (if (get_or ws i unasked).w == w then Some (with_its_content (get_or ws i unasked, get_or cs i None)) else here)
     → here ≡ found (oldest_first i ws cs) w
     → next ≡ found (oldest_first (i + 1) ws cs) w
 unfolding oldest_first

@@ -5,8 +5,8 @@ use Rattle.st_fetch.specs.declared.fetched.Fetched.{Fetched}
 use Rattle.st_fetch.specs.declared.held.Held.{Held}
 
 -- what fills the list up where fewer than four words were asked for
-abbrev pub nothing : Fetched
-nothing = record { w = 0; tick = 0 }
+abbrev pub unasked : Fetched
+unasked = record { w = 0; tick = 0 }
 
 -- the tick at which the word w is answered, if it is held
 abbrev pub tick_of : List Fetched → ℕ → Option ℕ
@@ -36,4 +36,4 @@ with_its_content (f, content) = record { w = f.w; answer = option_map (λ word. 
 unfoldable pub oldest_first : ℕ → List Fetched → List (Option ℕ) → List Held
 oldest_first zero words contents = []
 oldest_first (suc n) words contents =
-    with_its_content (get_or words n nothing, get_or contents n None) ∷ oldest_first n words contents
+    with_its_content (get_or words n unasked, get_or contents n None) ∷ oldest_first n words contents

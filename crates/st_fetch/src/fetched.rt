@@ -1,6 +1,6 @@
 //! Held words as a plan knows them: words and the ticks of their answers.
 ghost use Rattle.std.specs.Prelude.{◌≡◌, ℕ, replicate, length};
-ghost use Rattle.st_fetch.specs.Planned.{nothing, tick_of as tick_of_word, asked_for, told};
+ghost use Rattle.st_fetch.specs.Planned.{unasked, tick_of as tick_by, asked_for, told};
 
 /// An instruction word that was asked for.
 #[derive(Clone, Copy, Debug, Default, PartialEq, Eq)]
@@ -37,7 +37,7 @@ impl HeldWords {
 
     /// No word is held.
     pub fn new() -> HeldWords
-        ensures { result.words ≡ replicate 4 nothing }
+        ensures { result.words ≡ replicate 4 unasked }
     {
         HeldWords {
             words: [Fetched { w: 0, tick: 0 }; 4],
@@ -46,7 +46,7 @@ impl HeldWords {
 
     /// The tick at which the word `w`, which is not 0, is answered; None exactly where it is not held.
     pub fn tick_of(self, w: u32) -> Option<u64>
-        ensures { result ≡ tick_of_word self.words w }
+        ensures { result ≡ tick_by self.words w }
     {
         let found = self.words.iter().find(|fetched| fetched.w == w)?;
         Some(found.tick)

@@ -11,7 +11,7 @@ use Rattle.st_format.specs.declared.operations.FullOp.{FullOp}
 use Rattle.st_format.specs.declared.operations.FullOp.TheVariants.{Variable, Connective, Transmission, BitTest, IndicatorTest, Order, CounterStore}
 use Rattle.st_format.specs.declared.instruction.Instr.{Instr}
 use Rattle.st_format.specs.declared.instruction.Instr.TheVariants.{Half, Branch, Floating, Vfl, Connect, Move, BitBranch, IndBranch, StoreCounter, Transfer, Invalid}
-use Rattle.st_format.specs.Halves.{later, is_one, is_full, i_of, address_of, j_of, operation_of, bit_address_of, second_address_of, p_of, length_of, byte_of, offset_of, k_of, count_of, half_bits, first_bits, field_bits, second_bits}
+use Rattle.st_format.specs.Halves.{later, is_one, is_full, i_of, address_of, j_of, operation_of, bit_address_of, second_address_of, p_of, length_of, byte_of, offset_of, k_of, words_moved, half_bits, first_bits, field_bits, second_bits}
 use Rattle.st_format.specs.Operations.{full_ops, numbered_op, half_op, branch_op, kind, full_op, half_number, branch_number, kind_number, vfl_number, full_number, writes_field}
 use Rattle.st_format.specs.Validity.{is_invalid_half, breaks_rules, is_invalid, is_refused, misfits, misuses_p, miscounts}
 use Rattle.st_format.specs.Formats.{branch_word, index_word, half_word, word_of, full_word, instruction_of, first_half, second_half, bit_of, FitsHalf, FitsFull, FitsField, IsRefusal, IsShape}
@@ -261,7 +261,7 @@ move-back swap a i w n fits hw some many =
     let hk : n % 16 < 16 = omega arith in
     let same : later s 51 9 ≡ code = operation-second_bits w code (n % 16) (omega arith) hk in
     let ew : second_address_of s ≡ w = second-second_bits w code (n % 16) hw (omega arith) hk in
-    let en : count_of s ≡ n = count-second_bits w code n some many in
+    let en : words_moved s ≡ n = count-second_bits w code n some many in
     let ea : bit_address_of f ≡ a = address-first_bits a i fits.address_fits fits.i_fits in
     let ei : i_of f ≡ i = i-first_bits a i fits.i_fits in
     full-chosen (Transmission swap) f s (is_full-first_bits a i fits.i_fits)

@@ -7,7 +7,7 @@ use Rattle.st_bits.specs.declared.operations.HalfOp.{HalfOp}
 use Rattle.st_format.specs.declared.operations.FullOp.{FullOp}
 use Rattle.st_format.specs.declared.operations.FullOp.TheVariants.{Variable, Connective, Transmission, BitTest, IndicatorTest, Order, CounterStore}
 use Rattle.st_format.specs.declared.instruction.Instr.{Instr}
-use Rattle.st_format.specs.Halves.{part, later, is_full, i_of, address_of, j_of, operation_of, bit_address_of, second_address_of, p_of, length_of, byte_of, offset_of, k_of, count_of, or_greatest}
+use Rattle.st_format.specs.Halves.{part, later, is_full, i_of, address_of, j_of, operation_of, bit_address_of, second_address_of, p_of, length_of, byte_of, offset_of, k_of, words_moved, or_greatest}
 use Rattle.st_format.specs.Operations.{half_op, branch_op, full_op, half_number}
 use Rattle.st_format.specs.Validity.{is_invalid_half, breaks_rules, is_invalid, is_refused, miscounts}
 use Rattle.st_format.specs.Formats.{branch_word, index_word, half_word, word_of, full_word, instruction_of, FitsHalf, FitsFull, FitsField, IsRefusal, IsShape, is_no_instruction}
@@ -54,12 +54,12 @@ second-bound : (s : ℕ) → second_address_of s < 2 ^ 19
 unfolding second_address_of
 second-bound s = omega arith
 
-some-count : (s : ℕ) → 1 ≤ count_of s
-unfolding count_of k_of
+some-count : (s : ℕ) → 1 ≤ words_moved s
+unfolding words_moved k_of
 some-count s = some-greatest 16 (later s 60 4) (omega arith)
 
-count-bound : (s : ℕ) → count_of s ≤ 16
-unfolding count_of k_of
+count-bound : (s : ℕ) → words_moved s ≤ 16
+unfolding words_moved k_of
 count-bound s = greatest-bound 16 (later s 60 4) (omega arith)
 
 -- ---- a full word

@@ -2,7 +2,7 @@
 use Rattle.std.proofs.Common.{◌≡◌, ℕ, zero, suc, if◌then◌else◌, ◌+◌, ◌*◌, ◌/◌, ◌%◌, ◌^◌, ◌<◌, ◌≤◌, ◌==◌, Bool, true, false, refl, sym, ◌∙◌, ap, arith}
 use Rattle.std.proofs.Math.Nat.{mod_self, mod-eq_of_lt}
 use Rattle.std.proofs.lemmas.Bool.{eqb-true, eqb-false, ne_eqb}
-use Rattle.st_format.specs.Halves.{part, later, is_full, i_of, address_of, j_of, operation_of, bit_address_of, second_address_of, p_of, length_of, byte_of, offset_of, k_of, count_of, or_greatest, half_bits, first_bits, field_bits, second_bits}
+use Rattle.st_format.specs.Halves.{part, later, is_full, i_of, address_of, j_of, operation_of, bit_address_of, second_address_of, p_of, length_of, byte_of, offset_of, k_of, words_moved, or_greatest, half_bits, first_bits, field_bits, second_bits}
 
 -- a field that is not zero stands for itself
 greatest-some : (g n : ℕ) → 1 ≤ n → or_greatest g n ≡ n
@@ -135,8 +135,8 @@ pub k-second_bits : (a o k : ℕ) → k < 16 → k_of (second_bits a o k) ≡ k
 unfolding k_of second_bits
 k-second_bits a o k hk = omega arith
 
-pub count-second_bits : (a o n : ℕ) → 1 ≤ n → n ≤ 16 → count_of (second_bits a o (n % 16)) ≡ n
-unfolding count_of
+pub count-second_bits : (a o n : ℕ) → 1 ≤ n → n ≤ 16 → words_moved (second_bits a o (n % 16)) ≡ n
+unfolding words_moved
 count-second_bits a o n some fits =
     ap (or_greatest 16) (k-second_bits a o (n % 16) (omega arith)) ∙ greatest-mod 16 n (omega arith) some fits
 
@@ -144,8 +144,8 @@ pub second_bits-fields : (s : ℕ) → s < 2 ^ 32 → second_bits (second_addres
 unfolding second_bits second_address_of k_of
 second_bits-fields s lt = omega arith
 
-pub count_of-mod : (s : ℕ) → count_of s % 16 ≡ k_of s
-unfolding count_of k_of
+pub count_of-mod : (s : ℕ) → words_moved s % 16 ≡ k_of s
+unfolding words_moved k_of
 count_of-mod s = mod-greatest 16 (later s 60 4) (omega arith) (omega arith)
 
 -- ---- the parts of the operation of a full word

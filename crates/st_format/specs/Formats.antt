@@ -10,7 +10,7 @@ use Rattle.st_format.specs.declared.instruction.Format.{Format}
 use Rattle.st_format.specs.declared.instruction.Format.TheVariants.{Index, Branch as BranchGroup, Floating as FloatingGroup, Whole, NoHalf, NoWhole}
 use Rattle.st_bits.specs.declared.operations.HalfOp.{HalfOp}
 use Rattle.st_bits.specs.declared.operations.BranchOp.{BranchOp}
-use Rattle.st_format.specs.Halves.{later, is_one, is_full, i_of, address_of, j_of, operation_of, bit_address_of, second_address_of, p_of, length_of, byte_of, offset_of, count_of, half_bits, first_bits, field_bits, second_bits}
+use Rattle.st_format.specs.Halves.{later, is_one, is_full, i_of, address_of, j_of, operation_of, bit_address_of, second_address_of, p_of, length_of, byte_of, offset_of, words_moved, half_bits, first_bits, field_bits, second_bits}
 use Rattle.st_format.specs.Operations.{half_op, branch_op, full_op, half_number, branch_number, full_number, writes_field}
 use Rattle.st_format.specs.Validity.{breaks_rules, is_invalid, misfits, misuses_p}
 
@@ -40,7 +40,7 @@ word_of (Connective kind) first second =
     Connect kind (later second 52 4) (p_of second) (length_of second) (byte_of second)
     (offset_of second) (bit_address_of first) (i_of first)
 word_of (Transmission swap) first second =
-    Move swap (bit_address_of first) (i_of first) (second_address_of second) (count_of second)
+    Move swap (bit_address_of first) (i_of first) (second_address_of second) (words_moved second)
 word_of BitTest first second =
     BitBranch (is_one second 52) (later second 53 2) (bit_address_of first) (i_of first)
     (second_address_of second)

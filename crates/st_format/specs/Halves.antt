@@ -59,8 +59,8 @@ offset_of second = later second 44 7
 unfoldable pub k_of : ℕ → ℕ
 k_of second = later second 60 4
 
-unfoldable pub count_of : ℕ → ℕ
-count_of second = or_greatest 16 (k_of second)
+unfoldable pub words_moved : ℕ → ℕ
+words_moved second = or_greatest 16 (k_of second)
 
 -- a half-word instruction's bits
 unfoldable pub half_bits : ℕ → ℕ → ℕ → ℕ → ℕ

@@ -1,7 +1,7 @@
 //! From an instruction to its bits.
 ghost use Rattle.std.specs.Prelude.{◌≡◌, ◌+◌, ◌*◌, ◌<◌, ◌^◌, ℕ, unwrap_or, is_some};
-ghost use Rattle.st_format.specs.Halves.{is_full, half_bits as half_of, first_bits as first_of, field_bits as field_of, second_bits as second_of};
-ghost use Rattle.st_format.specs.Operations.{full_number as number_of};
+ghost use Rattle.st_format.specs.Halves.{is_full, half_bits as half_bits_of, first_bits as first_bits_of, field_bits as field_bits_of, second_bits as second_bits_of};
+ghost use Rattle.st_format.specs.Operations.{full_number as full_number_of};
 ghost use Rattle.st_format.specs.Formats.{instruction_of, first_half, second_half, IsShape, bit_of};
 
 use crate::instruction::Instr;
@@ -132,7 +132,7 @@ fn half_bits(address: u32, j: u8, operation: u32, i: u8) -> u32
     requires j_fits { j < 16 }
     requires operation_fits { operation < 32 }
     requires i_fits { i < 16 }
-    ensures { result ≡ half_of address j operation i }
+    ensures { result ≡ half_bits_of address j operation i }
 {
     (address << 13) + (u32::from(j) << 9) + (operation << 4) + u32::from(i)
 }
@@ -142,7 +142,7 @@ fn half_bits(address: u32, j: u8, operation: u32, i: u8) -> u32
 fn first_bits(address: u32, i: u8) -> u32
     requires address_fits { address < 2 ^ 24 }
     requires i_fits { i < 16 }
-    ensures { result ≡ first_of address i }
+    ensures { result ≡ first_bits_of address i }
 {
     (address << 8) + (15 << 4) + u32::from(i)
 }
@@ -153,7 +153,7 @@ fn field_bits(p: u8, length: u8, byte: u8, offset: u8, operation: u32) -> u32
     requires p_fits { p < 8 }
     requires offset_fits { offset < 128 }
     requires operation_fits { operation < 512 }
-    ensures { result ≡ field_of p length byte offset operation }
+    ensures { result ≡ field_bits_of p length byte offset operation }
 {
     (u32::from(p) << 29)
         + (u32::from(length % 64) << 23)
@@ -168,7 +168,7 @@ fn second_bits(second: u32, operation: u32, k: u8) -> u32
     requires second_fits { second < 2 ^ 19 }
     requires operation_fits { operation < 512 }
     requires k_fits { k < 16 }
-    ensures { result ≡ second_of second operation k }
+    ensures { result ≡ second_bits_of second operation k }
 {
     (second << 13) + (operation << 4) + u32::from(k)
 }
@@ -183,7 +183,7 @@ fn marks(first: bool, second: bool, third: bool) -> u32
 
 // The number of an operation of the full-word format in bits 51-59.
 fn full_number(op: FullOp) -> u32
-    ensures value { result ≡ number_of op }
+    ensures value { result ≡ full_number_of op }
 {
     match op {
         FullOp::Variable(op) => vfl_number(op),

@@ -1,6 +1,6 @@
 //! The fields of an instruction, named by their bits. Bits 32-63 are those of the second half-word.
 ghost use Rattle.std.specs.Prelude.{◌≡◌, ◌+◌, ◌-◌, ◌<◌, ◌≤◌, ◌^◌};
-ghost use Rattle.st_format.specs.Halves.{part as part_of, later as later_of, is_full as has_ones, i_of, address_of, j_of, operation_of, bit_address_of, second_address_of, p_of, length_of, byte_of, offset_of, k_of, count_of, or_greatest as greatest_for_zero};
+ghost use Rattle.st_format.specs.Halves.{part as part_of, later as later_of, is_full as is_full_of, i_of, address_of, j_of, operation_of, bit_address_of, second_address_of, p_of, length_of, byte_of, offset_of, k_of, words_moved, or_greatest as or_greatest_of};
 
 /// The number of `count` bits of a half-word from bit `first` on.
 #[inline(always)]
@@ -29,7 +29,7 @@ pub fn later(second: u32, first: u32, count: u32) -> u32
 #[inline(always)]
 #[tactic(auto, unfolding(crate::specs::Halves::is_full))]
 pub fn is_full(first: u32) -> bool
-    ensures { result ≡ has_ones first }
+    ensures { result ≡ is_full_of first }
 {
     part(first, 24, 4) == 15
 }
@@ -148,9 +148,9 @@ pub fn last_field(second: u32) -> u8
 
 /// The number of words that are moved, 1 to 16.
 #[inline(always)]
-#[tactic(auto, unfolding(crate::specs::Halves::count_of))]
+#[tactic(auto, unfolding(crate::specs::Halves::words_moved))]
 pub fn word_count(second: u32) -> u8
-    ensures value { result ≡ count_of second }
+    ensures value { result ≡ words_moved second }
     ensures some { 1 ≤ result }
     ensures bound { result ≤ 16 }
 {
@@ -160,7 +160,7 @@ pub fn word_count(second: u32) -> u8
 // A field in which zero stands for the greatest number.
 #[inline(always)]
 fn or_greatest(greatest: u8, number: u8) -> u8
-    ensures value { result ≡ greatest_for_zero greatest number }
+    ensures value { result ≡ or_greatest_of greatest number }
     ensures some { 1 ≤ greatest → 1 ≤ result }
     ensures bound { number ≤ greatest → result ≤ greatest }
 {

@@ -157,11 +157,11 @@ impl Default for Decoded {
 
 impl Instr {
     ghost use Rattle.std.specs.Prelude.{◌≡◌};
-    ghost use Rattle.st_format.specs.Formats.{is_valid as is_of_machine};
+    ghost use Rattle.st_format.specs.Formats.{is_valid as is_valid_of};
 
     /// Whether the machine has this instruction: false for bits that spell none, and for the floating group.
     pub fn is_valid(&self) -> bool
-        ensures { result ≡ is_of_machine self.now }
+        ensures { result ≡ is_valid_of self.now }
     {
         !matches!(self, Instr::Floating { .. } | Instr::Invalid { .. })
     }

@@ -1,6 +1,6 @@
 //! The operations by their numbers.
 ghost use Rattle.std.specs.Prelude.{◌≡◌, ◌<◌};
-ghost use Rattle.st_format.specs.Operations.{half_op as half_op_of, branch_op as branch_op_of, full_op as full_op_of, kind as kind_of, half_number as number_of_half, branch_number as number_of_branch, vfl_number as number_of_vfl, kind_number as number_of_kind, numbered_op as numbered_op_of, writes_field as writes};
+ghost use Rattle.st_format.specs.Operations.{half_op as half_op_of, branch_op as branch_op_of, full_op as full_op_of, kind as kind_of, half_number as half_number_of, branch_number as branch_number_of, vfl_number as vfl_number_of, kind_number as kind_number_of, numbered_op as numbered_op_of, writes_field as writes_field_of};
 
 use crate::fields::{later, part};
 use st_bits::{BranchOp, ConnKind, HalfOp, VflOp};
@@ -153,7 +153,7 @@ fn kind(number: u32) -> Option<ConnKind>
 
 /// The number of a half-word operation, below 32.
 pub fn half_number(op: HalfOp) -> u32
-    ensures value { result ≡ number_of_half op }
+    ensures value { result ≡ half_number_of op }
     ensures bound { result < 32 }
 {
     op as u32
@@ -161,7 +161,7 @@ pub fn half_number(op: HalfOp) -> u32
 
 /// The number of a branch, below 6.
 pub fn branch_number(op: BranchOp) -> u32
-    ensures value { result ≡ number_of_branch op }
+    ensures value { result ≡ branch_number_of op }
     ensures bound { result < 6 }
 {
     op as u32
@@ -169,7 +169,7 @@ pub fn branch_number(op: BranchOp) -> u32
 
 /// The number of an operation on a field, below 22.
 pub fn vfl_number(op: VflOp) -> u32
-    ensures value { result ≡ number_of_vfl op }
+    ensures value { result ≡ vfl_number_of op }
     ensures bound { result < 22 }
 {
     op as u32
@@ -177,7 +177,7 @@ pub fn vfl_number(op: VflOp) -> u32
 
 /// The number of a kind of connective, below 3.
 pub fn kind_number(kind: ConnKind) -> u32
-    ensures value { result ≡ number_of_kind kind }
+    ensures value { result ≡ kind_number_of kind }
     ensures bound { result < 3 }
 {
     kind as u32
@@ -186,7 +186,7 @@ pub fn kind_number(kind: ConnKind) -> u32
 /// Whether an operation writes its field.
 #[inline(always)]
 pub fn writes_field(op: FullOp) -> bool
-    ensures { result ≡ writes op }
+    ensures { result ≡ writes_field_of op }
 {
     matches!(
         op,

@@ -1,6 +1,6 @@
 //! Which bits spell no instruction.
 ghost use Rattle.std.specs.Prelude.{◌≡◌, ◌<◌};
-ghost use Rattle.st_format.specs.Validity.{breaks_rules as breaks, unused_in_kind as kind_rest, unused_k as k_rest, unused_marks as marks_rest, misfits, has_misfit as misfit, misuses_p, has_misused_p as misused_p, miscounts, has_miscount as miscount};
+ghost use Rattle.st_format.specs.Validity.{breaks_rules as breaks_rules_of, unused_in_kind as unused_in_kind_of, unused_k as unused_k_of, unused_marks as unused_marks_of, misfits, has_misfit as has_misfit_of, misuses_p, has_misused_p as has_misused_p_of, miscounts, has_miscount as has_miscount_of};
 
 use crate::fields::{
     byte_size, field_length, index_field, last_field, later, progressive_form, second_address,
@@ -11,7 +11,7 @@ use crate::operations::{FullOp, writes_field};
 #[inline(always)]
 #[tactic(auto, unfolding(crate::specs::Validity::breaks_rules))]
 pub fn breaks_rules(op: FullOp, first: u32, second: u32) -> bool
-    ensures { result ≡ breaks op first second }
+    ensures { result ≡ breaks_rules_of op first second }
 {
     unused_in_kind(op, second) != 0
         || unused_k(op, second) != 0
@@ -23,7 +23,7 @@ pub fn breaks_rules(op: FullOp, first: u32, second: u32) -> bool
 
 #[inline(always)]
 fn unused_in_kind(op: FullOp, second: u32) -> u32
-    ensures { result ≡ kind_rest op second }
+    ensures { result ≡ unused_in_kind_of op second }
 {
     match op {
         FullOp::Connective(_) => later(second, 58, 2),
@@ -33,7 +33,7 @@ fn unused_in_kind(op: FullOp, second: u32) -> u32
 
 #[inline(always)]
 fn unused_k(op: FullOp, second: u32) -> u8
-    ensures { result ≡ k_rest op second }
+    ensures { result ≡ unused_k_of op second }
 {
     match op {
         FullOp::Transmission { .. } => 0,
@@ -43,7 +43,7 @@ fn unused_k(op: FullOp, second: u32) -> u8
 
 #[inline(always)]
 fn unused_marks(op: FullOp, second: u32) -> u32
-    ensures { result ≡ marks_rest op second }
+    ensures { result ≡ unused_marks_of op second }
 {
     match op {
         FullOp::Transmission { .. } | FullOp::CounterStore | FullOp::Order { .. } => {
@@ -56,7 +56,7 @@ fn unused_marks(op: FullOp, second: u32) -> u32
 
 #[inline(always)]
 fn has_misfit(op: FullOp, second: u32) -> bool
-    ensures { result ≡ misfit op second }
+    ensures { result ≡ has_misfit_of op second }
 {
     match op {
         FullOp::Variable(_) => misfits_field(
@@ -80,7 +80,7 @@ pub fn misfits_field(decimal: bool, unsigned: bool, length: u8, byte: u8) -> boo
 
 #[inline(always)]
 fn has_misused_p(op: FullOp, first: u32, second: u32) -> bool
-    ensures { result ≡ misused_p op first second }
+    ensures { result ≡ has_misused_p_of op first second }
 {
     match op {
         FullOp::Variable(_) | FullOp::Connective(_) => misuses_form(
@@ -102,7 +102,7 @@ fn misuses_form(writes: bool, p: u8, length: u8, i: u8) -> bool
 
 #[inline(always)]
 fn has_miscount(op: FullOp, second: u32) -> bool
-    ensures { result ≡ miscount op second }
+    ensures { result ≡ has_miscount_of op second }
 {
     match op {
         FullOp::Order { .. } => is_miscount(second_address(second)),

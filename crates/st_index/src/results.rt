@@ -1,6 +1,6 @@
 //! The indicators of comparisons and of changed index words.
 ghost use Rattle.std.specs.Prelude.{◌≡◌};
-ghost use Rattle.st_index.specs.IndexChange.{comparison, index_result as result_of};
+ghost use Rattle.st_index.specs.IndexChange.{comparison, index_result as index_result_of};
 
 use st_bits::indicators::{
     INDEX_COUNT_ZERO, INDEX_EQUAL, INDEX_FLAG, INDEX_HIGH, INDEX_LOW, INDEX_VALUE_GREATER,
@@ -28,7 +28,7 @@ pub fn compare(a: i32, b: i32) -> Ind
 /// What an index word turns on and off: XCZ where its count is zero, else XCZ off; exactly one of XVLZ, XVZ and XVGZ
 /// by its value; XF, which only goes on, where its first flag is one.
 pub fn index_result(y: u64) -> Ind
-    ensures { result ≡ result_of y }
+    ensures { result ≡ index_result_of y }
 {
     let count = if count_of(y) == 0 {
         indicator(INDEX_COUNT_ZERO)

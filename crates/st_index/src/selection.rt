@@ -2,14 +2,14 @@
 ghost use Rattle.std.specs.Prelude.{◌≡◌, ◌<◌, ◌≤◌, ◌^◌, ◌-◌, ◌*◌, unsigned_abs};
 ghost use Rattle.std.specs.Int.{bit_at};
 ghost use Rattle.st_bits.specs.Bits.{bits};
-ghost use Rattle.st_index.specs.IndexChange.{selected_sum, selected_value as value_if};
+ghost use Rattle.st_index.specs.IndexChange.{selected_sum, selected_value as selected_value_of};
 
 use st_bits::value_of;
 
 // The value of an index word where bit `j` of the list, 0 leftmost, is one, else 0.
 fn selected_value(list: u16, j: usize, word: u64) -> i32
     requires { j < 16 }
-    ensures value { result ≡ value_if (bit_at list (15 - j)) word }
+    ensures value { result ≡ selected_value_of (bit_at list (15 - j)) word }
     ensures bound { unsigned_abs result < 2 ^ 24 }
 {
     if (list >> (15 - j)) % 2 == 1 {

@@ -12,7 +12,7 @@ ghost use Rattle.st_rows.specs.declared.front.Front.{Front as FrontOf};
 ghost use Rattle.st_segment.specs.Entries.{entry};
 ghost use Rattle.st_segment.specs.Guesses.{guesses, table_behind};
 ghost use Rattle.st_segment.specs.Alone.{RunAhead};
-ghost use Rattle.st_levels.specs.Levels.{LevelsView, AreSound, AreAhead, AreNotDone, HasOperands, IsOldestReady, IsCompleted, is_due as is_due_at};
+ghost use Rattle.st_levels.specs.Levels.{LevelsView, AreSound, AreAhead, AreNotDone, HasOperands, IsOldestReady, IsCompleted, is_due as is_due_of};
 ghost use Rattle.st_levels.specs.Slots.{register_in};
 
 use crate::filling::fill_all;
@@ -163,7 +163,7 @@ impl<const N: usize> Levels<N> {
 
     /// Whether the oldest level is done at this tick.
     pub fn is_due(&self, now: u64) -> bool
-        ensures { result ≡ is_due_at self.now.plans now }
+        ensures { result ≡ is_due_of self.now.plans now }
     {
         self.len() > 0 && self.plans.get(0).c == now
     }

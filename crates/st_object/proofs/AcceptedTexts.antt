@@ -5,7 +5,7 @@ use Rattle.std.proofs.lemmas.Bool.Decides.{nat_tests}
 use Rattle.st_text.specs.Pieces.{onto_first, parted}
 use Rattle.st_text.proofs.PieceLemmas.{first_piece}
 use Rattle.st_card.specs.Limits.{IsWithinLimits}
-use Rattle.st_card.specs.Controls.{nothing}
+use Rattle.st_card.specs.Controls.{nothing_asked}
 use Rattle.st_object.specs.Lines.{spelled, text_of}
 use Rattle.st_object.specs.Draft.{Draft, blank, IsDraft, is_empty, lines_of, is_whole, with_item}
 use Rattle.st_object.specs.Meaning.{item_in}
@@ -107,7 +107,7 @@ read_on (line ∷ next ∷ more) d n p draft same =
     }
 
 -- nothing is within the limits
-nothing_within : IsWithinLimits nothing
+nothing_within : IsWithinLimits nothing_asked
 nothing_within = record {
   budget = omega arith;
   delays = record { each = λ k d within. absurd (omega (arith, within)); few = omega arith };

@@ -6,7 +6,7 @@ use Rattle.std.specs.Option.{option_map}
 use Rattle.std.proofs.lemmas.Bool.Decides.{nat_tests}
 use Rattle.std.proofs.lemmas.List.{length-replicate, replicate_more, get_or_at}
 use Rattle.st_bits.specs.Storage.{words_of_storage, words_of_storage_is}
-use Rattle.st_card.specs.Controls.{Asked, nothing, with_keyword}
+use Rattle.st_card.specs.Controls.{Asked, nothing_asked, with_keyword}
 use Rattle.st_card.specs.Limits.{AreDelays, AreSignals, AreDumps, AreSnaps}
 use Rattle.st_card.specs.declared.control_cards.Signal.{Signal as GivenSignal}
 use Rattle.st_card.specs.declared.keywords.Keyword.{Keyword}
@@ -87,7 +87,7 @@ record Adds (h : ℕ) (ws whole : List ℕ) (items : List Item) : Type 0 where
   last : List ℕ
   zeros : ℕ
   filled : last ++ replicate zeros 0 ≡ whole
-  steps : Leads (open_draft h ws nothing) items (open_draft h last nothing)
+  steps : Leads (open_draft h ws nothing_asked) items (open_draft h last nothing_asked)
 
 zero_is : (x : ℕ) → (x == 0) ≡ true → x ≡ 0
 zero_is x test = grind (arith, nat_tests)
@@ -129,7 +129,7 @@ add_words h k ws front (x ∷ rest) filled registers room each =
             last = later.last;
             zeros = later.zeros;
             filled = later.filled ∙ regrouped;
-            steps = subst (λ (n : ℕ). Leads (open_draft h ws nothing) (word_lines n rest) (open_draft h later.last nothing)) size later.steps;
+            steps = subst (λ (n : ℕ). Leads (open_draft h ws nothing_asked) (word_lines n rest) (open_draft h later.last nothing_asked)) size later.steps;
           }
       | false ↦ λ test.
           let gap : length front - length ws ≡ k = omega (arith, ap (λ (s : List ℕ). length s) filled, length-append ws (replicate k 0), length-replicate {A = ℕ} k 0) in
@@ -153,10 +153,10 @@ add_words h k ws front (x ∷ rest) filled registers room each =
             zeros = later.zeros;
             filled = later.filled ∙ regrouped;
             steps = (
-              open_draft h new nothing,
-              ap (λ (v : Bool). if v then Some (open_draft h new nothing) else None) fits,
+              open_draft h new nothing_asked,
+              ap (λ (v : Bool). if v then Some (open_draft h new nothing_asked) else None) fits,
               (short, bits),
-              subst (λ (n : ℕ). Leads (open_draft h new nothing) (word_lines n rest) (open_draft h later.last nothing)) size later.steps,
+              subst (λ (n : ℕ). Leads (open_draft h new nothing_asked) (word_lines n rest) (open_draft h later.last nothing_asked)) size later.steps,
             );
           }
     ] in

@@ -4,7 +4,7 @@ use Rattle.std.specs.List.{All, flat_map}
 use Rattle.std.specs.Option.{option_map}
 use Rattle.st_bits.specs.declared.register.TheConstants.{FIRST_STORAGE_WORD}
 use Rattle.st_bits.specs.Storage.{words_of_storage}
-use Rattle.st_card.specs.Controls.{Asked, nothing, with_keyword}
+use Rattle.st_card.specs.Controls.{Asked, nothing_asked, with_keyword}
 use Rattle.st_card.specs.Limits.{IsWithinLimits}
 use Rattle.st_card.specs.declared.keywords.Keyword.{Keyword}
 use Rattle.st_card.specs.declared.keywords.Keyword.TheVariants as keywords
@@ -26,7 +26,7 @@ pub record Draft : Type 0 where
 
 -- before the first line
 abbrev pub blank : Draft
-blank = record { begun = false; start = None; words = []; asked = nothing; ended = false }
+blank = record { begun = false; start = None; words = []; asked = nothing_asked; ended = false }
 
 -- whether a list is empty
 abbrev pub is_empty : {X : Type 0} → List X → Bool

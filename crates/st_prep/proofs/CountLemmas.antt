@@ -6,12 +6,12 @@ use Rattle.st_format.specs.declared.instruction.Instr.TheVariants.{Half, Branch,
 use Rattle.st_state.specs.Machine.{Machine, IsMachine, word}
 use Rattle.st_prep.specs.declared.entries.Words.{Words}
 use Rattle.st_prep.specs.EarlyChange.{effective, side}
-use Rattle.st_prep.specs.Entry.{no_words, field_words, operand_words, words_read, reads_field, reads}
-use Rattle.st_prep.specs.Checks.{executed}
+use Rattle.st_prep.specs.Entry.{no_words, field_words, operand_words, words_moved_from, reads_field, reads}
+use Rattle.st_prep.specs.Checks.{effective_instr}
 use Rattle.st_prep.specs.Fetch.{index_words, place_of}
 use Rattle.st_prep.specs.Plan.{Sight, aimed, aim, fault_of, needs_by, needs, suppressed, entry, prepared_by, prepared, sight, side_word, plan}
 use Rattle.st_prep.specs.Ranges.{HasFields}
-use Rattle.st_prep.specs.Reading.{words_read as instruction_words, reading, count_of}
+use Rattle.st_prep.specs.Reading.{words_read as instruction_words, reading, index_side_words}
 use Rattle.st_prep.proofs.Choices.{of_choice}
 use Rattle.st_prep.proofs.PlanLemmas.{sight-fits}
 use Rattle.st_prep.proofs.PreparedLemmas.{IsSight, executed-shape}
@@ -21,7 +21,7 @@ use Rattle.st_prep.proofs.ReadingLemmas.{reading-few}
 abbrev pub IsFew : ℕ → Words → Type 0
 IsFew n w = w.len + w.len2 ≤ n
 
-count-one : (o : Option ℕ) → count_of o ≤ 1
+count-one : (o : Option ℕ) → index_side_words o ≤ 1
 count-one None = omega arith
 count-one (Some w) = omega arith
 
@@ -33,13 +33,13 @@ few-field e n =
 few-operand : (p e n : ℕ) → IsFew 2 (operand_words p e n)
 few-operand p e n = of_choice (IsFew 2) (p == 1) no_words (field_words e n) (omega arith) (few-field e n)
 
-few-move : (swap : Bool) (from to n : ℕ) → n ≤ 16 → IsFew 32 (words_read swap from to n)
+few-move : (swap : Bool) (from to n : ℕ) → n ≤ 16 → IsFew 32 (words_moved_from swap from to n)
 few-move false from to n few = omega arith
 few-move true from to n few = omega arith
 
 -- operands with the index-side word
 few-read : (x : List ℕ) (instr : Instr) (e : ℕ) → HasFields instr
-    → (reads instr e).len + (reads instr e).len2 + count_of (side x instr e) ≤ 32
+    → (reads instr e).len + (reads instr e).len2 + index_side_words (side x instr e) ≤ 32
 unfolding reads side
 few-read x (Half op a j i) e s = omega (arith, count-one (side x (Half op a j i) e))
 few-read x (Vfl op d u n p l b o a i) e s =
@@ -50,7 +50,7 @@ few-read x (Connect k t p l b o a i) e s =
     let few : IsFew 2 (operand_words p e l) = few-operand p e l in
     omega (arith, count-one (side x (Connect k t p l b o a i) e))
 few-read x (Move swap a i second n) e s =
-    let few : IsFew 32 (words_read swap (e / 64) (second / 2) n) = few-move swap (e / 64) (second / 2) n s.3 in
+    let few : IsFew 32 (words_moved_from swap (e / 64) (second / 2) n) = few-move swap (e / 64) (second / 2) n s.3 in
     omega arith
 few-read x (Branch op a i) e s = omega arith
 few-read x (Floating n a i) e s = omega arith
@@ -62,22 +62,22 @@ few-read x (Invalid first second full) e s = omega arith
 
 few-by_fault : (f : Option ℕ) (s : Sight) (r : Option ℕ) → IsSight s
     → (prepared_by f s.place (aim s) s.x r).reads.len + (prepared_by f s.place (aim s) s.x r).reads.len2
-    + count_of (needs_by f (aim s)).index_read
+    + index_side_words (needs_by f (aim s)).index_read
     ≤ 32
 unfolding entry suppressed aim aimed
 few-by_fault None s r k =
-    few-read s.x (executed s.fetched) (effective s.x (executed s.fetched)) (executed-shape s.fetched k.fetched)
+    few-read s.x (effective_instr s.fetched) (effective s.x (effective_instr s.fetched)) (executed-shape s.fetched k.fetched)
 few-by_fault (Some i) s r k = omega arith
 
 few-prepared : (s : Sight) (r : Option ℕ) → IsSight s
-    → (prepared s r).reads.len + (prepared s r).reads.len2 + count_of (needs s).index_read ≤ 32
+    → (prepared s r).reads.len + (prepared s r).reads.len2 + index_side_words (needs s).index_read ≤ 32
 unfolding prepared needs aim
 few-prepared s r k = few-by_fault (fault_of s) s r k
 
 -- an entry of a state reads 36 words at most
 pub few-plan : (s : Machine) (t : Option ℕ) → IsMachine s → IfSome t (λ i. i < 64)
     → length (instruction_words (reading (index_words s) (word s 3) s.enabled (place_of s t)) (word s))
-    + count_of (needs (sight s (place_of s t))).index_read + ((plan s t).reads.len + (plan s t).reads.len2) ≤ 36
+    + index_side_words (needs (sight s (place_of s t))).index_read + ((plan s t).reads.len + (plan s t).reads.len2) ≤ 36
 unfolding plan
 few-plan s t m some =
     let p = place_of s t in

@@ -9,7 +9,7 @@ use Rattle.st_prep.specs.declared.entries.Fetching.{Fetching}
 use Rattle.st_prep.specs.declared.entries.Fetching.TheVariants.{Next, Found as FoundAll}
 use Rattle.st_prep.specs.declared.fetching.Found.{Found}
 use Rattle.st_prep.specs.declared.fetching.Part.TheVariants.{Has}
-use Rattle.st_prep.specs.Reading.{Reading, Finds, Reads, left_after, given, given_by, half_of, nothing, Use, with_second, with_first, read_after, with_target}
+use Rattle.st_prep.specs.Reading.{Reading, Finds, Reads, left_after, given, given_by, half_of, no_instr, Use, with_second, with_first, read_after, with_target}
 
 abbrev pub of : Reading → List ℕ → Fetching
 of r contents = given (left_after r contents)
@@ -32,9 +32,9 @@ reads_none t w r [] none = refl
 reads_none t w r (c ∷ cs) none = absurd (omega arith)
 
 pub at-forbidden : (f : Option ℕ) (i : ℕ) (t : Bool) (b : ℕ) (en : Bool) (h : ℕ) (k : Use) (cs : List ℕ) → f ≡ Some i
-    → of (read_after f t b en h k) cs ≡ given_by t (Has (record { decoded = nothing; fault = Some i }) 0) cs k
+    → of (read_after f t b en h k) cs ≡ given_by t (Has (record { decoded = no_instr; fault = Some i }) 0) cs k
 at-forbidden None i t b en h k cs e = cc
-at-forbidden (Some j) i t b en h k cs e = ap (λ f. of (k (record { decoded = nothing; fault = f })) cs) e
+at-forbidden (Some j) i t b en h k cs e = ap (λ f. of (k (record { decoded = no_instr; fault = f })) cs) e
 
 pub at-wants : (f : Option ℕ) (t : Bool) (b : ℕ) (en : Bool) (h : ℕ) (k : Use) (cs : List ℕ) → f ≡ None → length cs ≡ 0
     → of (read_after f t b en h k) cs ≡ Next (h / 2) t

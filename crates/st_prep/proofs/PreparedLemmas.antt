@@ -15,7 +15,7 @@ use Rattle.st_prep.specs.declared.entries.Prepared.{Prepared}
 use Rattle.st_prep.specs.EarlyChange.{effective}
 use Rattle.st_prep.specs.Entry.{reads, writes, next, acts_alone, has_register, is_register}
 use Rattle.st_prep.specs.Reading.{is_execute}
-use Rattle.st_prep.specs.Checks.{executed, forbidden_side, forbidden_words, forbidden_area, operation_fault, operation_invalid, fault}
+use Rattle.st_prep.specs.Checks.{effective_instr, forbidden_side, forbidden_words, forbidden_area, operation_fault, operation_invalid, fault}
 use Rattle.st_prep.specs.Plan.{Sight, is_alone, aimed, aim, is_serial, fault_of, needs_by, needs, suppressed, entry, prepared_by, prepared}
 use Rattle.st_prep.specs.Ranges.{HasFields, IsPlace, IsFetched, IsPrepared, IsNeeds}
 use Rattle.st_format.proofs.Spelled.{or-left, or-right}
@@ -36,8 +36,8 @@ of_target : (t : Option Decoded) (own : Decoded) → HasFields own.instr → IfS
 of_target None own h some = h
 of_target (Some d) own h some = some
 
-pub executed-shape : (f : Fetched) → IsFetched f → HasFields (executed f)
-unfolding executed
+pub executed-shape : (f : Fetched) → IsFetched f → HasFields (effective_instr f)
+unfolding effective_instr
 executed-shape f h = of_target f.target f.instr h.own h.target
 
 -- an entry that passes all checks
@@ -107,7 +107,7 @@ entry-prepared : (s : Sight) (r : Option ℕ) → IsSight s → IfSome r (λ w. 
     → Passes (aimed s.place s.fetched s.x) s.bounds s.enabled → IsPrepared (entry s.place (aim s) s.x r)
 unfolding entry aim aimed
 entry-prepared s r k some p =
-    let instr = executed s.fetched in
+    let instr = effective_instr s.fetched in
     let e = effective s.x instr in
     let f : ℕ = next s.place s.fetched.instr.halves in
     let shape : HasFields instr = executed-shape s.fetched k.fetched in
@@ -154,7 +154,7 @@ suppressed-prepared s i k = record {
   reads_inside = none-inside;
   writes = is_runs-none;
   writes_inside = none-inside;
-  stored = zero-fits (executed s.fetched);
+  stored = zero-fits (effective_instr s.fetched);
   some_cost = omega arith;
   cost = omega arith;
   entry = λ h. cc;

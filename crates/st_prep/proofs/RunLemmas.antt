@@ -12,7 +12,7 @@ use Rattle.st_state.specs.Boundary.{is_invalid, address_invalid, forbidden_by}
 use Rattle.st_state.specs.declared.protection.Access.{Access}
 use Rattle.st_state.specs.declared.protection.Access.TheVariants.{Read, Write, Fetch}
 use Rattle.st_prep.specs.declared.entries.Words.{Words}
-use Rattle.st_prep.specs.Entry.{no_words, one_run, two_runs, field_words, operand_words, words_read, words_written, is_index_store, reads_field, reads, writes, has_register}
+use Rattle.st_prep.specs.Entry.{no_words, one_run, two_runs, field_words, operand_words, words_moved_from, words_moved_to, is_index_store, reads_field, reads, writes, has_register}
 use Rattle.st_prep.specs.Checks.{forbidden_run, forbidden_words, area_access, forbidden_area}
 use Rattle.st_prep.specs.Ranges.{HasFields, IsRuns, AreInside, AreAbove, HasRoom}
 use Rattle.st_format.proofs.Spelled.{or-left, or-right}
@@ -44,11 +44,11 @@ is_runs-field e n h =
 is_runs-operand : (p e n : ℕ) → e < 2 ^ 24 → IsRuns (operand_words p e n)
 is_runs-operand p e n h = of_choice IsRuns (p == 1) no_words (field_words e n) is_runs-none (is_runs-field e n h)
 
-is_runs-read : (swap : Bool) (w v n : ℕ) → w < 2 ^ 18 → v < 2 ^ 18 → n ≤ 16 → IsRuns (words_read swap w v n)
+is_runs-read : (swap : Bool) (w v n : ℕ) → w < 2 ^ 18 → v < 2 ^ 18 → n ≤ 16 → IsRuns (words_moved_from swap w v n)
 is_runs-read false w v n near there few = is_runs-one w n near few
 is_runs-read true w v n near there few = is_runs-two w v n near there few
 
-is_runs-written : (swap : Bool) (w v n : ℕ) → w < 2 ^ 18 → v < 2 ^ 18 → n ≤ 16 → IsRuns (words_written swap w v n)
+is_runs-written : (swap : Bool) (w v n : ℕ) → w < 2 ^ 18 → v < 2 ^ 18 → n ≤ 16 → IsRuns (words_moved_to swap w v n)
 is_runs-written false w v n near there few = is_runs-one v n there few
 is_runs-written true w v n near there few = is_runs-two w v n near there few
 

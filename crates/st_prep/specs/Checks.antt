@@ -14,8 +14,8 @@ use Rattle.st_prep.specs.declared.entries.Aim.{Aim}
 use Rattle.st_prep.specs.Reading.{is_execute}
 
 -- the instruction that is executed: the target of EX, or else the instruction itself
-unfoldable pub executed : Fetched → Instr
-executed f = (unwrap_or f.target f.instr).instr
+unfoldable pub effective_instr : Fetched → Instr
+effective_instr f = (unwrap_or f.target f.instr).instr
 
 -- ---- forbidden words
 

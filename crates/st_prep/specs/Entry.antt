@@ -38,13 +38,13 @@ abbrev pub operand_words : ℕ → ℕ → ℕ → Words
 operand_words p e n = if p == 1 then no_words else field_words e n
 
 -- the words of a transmission
-abbrev pub words_read : Bool → ℕ → ℕ → ℕ → Words
-words_read false from to n = one_run from n
-words_read true from to n = two_runs from to n
+abbrev pub words_moved_from : Bool → ℕ → ℕ → ℕ → Words
+words_moved_from false from to n = one_run from n
+words_moved_from true from to n = two_runs from to n
 
-abbrev pub words_written : Bool → ℕ → ℕ → ℕ → Words
-words_written false from to n = one_run to n
-words_written true from to n = two_runs from to n
+abbrev pub words_moved_to : Bool → ℕ → ℕ → ℕ → Words
+words_moved_to false from to n = one_run to n
+words_moved_to true from to n = two_runs from to n
 
 -- the operations that store index word J or parts of it
 abbrev pub is_index_store : HalfOp → Bool
@@ -64,7 +64,7 @@ reads_field _ = true
 unfoldable pub reads : Instr → ℕ → Words
 reads (Vfl op d u n p length byte offset address i) e = if reads_field op then operand_words p e length else no_words
 reads (Connect kind table p length byte offset address i) e = operand_words p e length
-reads (Move swap address i second count) e = words_read swap (e / 64) (second / 2) count
+reads (Move swap address i second count) e = words_moved_from swap (e / 64) (second / 2) count
 reads (BitBranch sense change address i second) e = one_run (e / 64) 1
 reads _ e = no_words
 
@@ -75,7 +75,7 @@ writes (Vfl op d u n p length byte offset address i) e =
     if writes_field (Variable op) then field_words e length else no_words
 writes (Connect kind table p length byte offset address i) e =
     if writes_field (Connective kind) then field_words e length else no_words
-writes (Move swap address i second count) e = words_written swap (e / 64) (second / 2) count
+writes (Move swap address i second count) e = words_moved_to swap (e / 64) (second / 2) count
 writes (BitBranch sense change address i second) e = if change == 0 then no_words else one_run (e / 64) 1
 writes (StoreCounter address i second) e = one_run (e / 64) 1
 writes _ e = no_words

@@ -13,7 +13,7 @@ use Rattle.st_prep.specs.EarlyChange.{effective, side, change}
 use Rattle.st_prep.specs.Entry.{no_words, reads, writes, next, after, value, cost, acts_alone, has_register, is_register}
 use Rattle.st_prep.specs.Reading.{is_execute}
 use Rattle.st_prep.specs.Fetch.{index_words, place_of, fetched}
-use Rattle.st_prep.specs.Checks.{executed, fault}
+use Rattle.st_prep.specs.Checks.{effective_instr, fault}
 
 -- what preparation sees of a state: the place of the entry, what is fetched there, the sixteen index words, the
 -- register of the bounds, and whether interrupts are enabled
@@ -43,7 +43,7 @@ is_alone place f = is_some place.table || is_execute f.instr.instr
 -- whatever its target
 unfoldable pub aimed : Place → Fetched → List ℕ → Aim
 aimed place f x =
-    let instr = executed f in
+    let instr = effective_instr f in
     let e = effective x instr in
     record {
       instr = instr;

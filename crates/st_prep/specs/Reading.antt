@@ -55,9 +55,9 @@ given (Finds f) = FoundAll f
 given (Reads target w r) = Next w target
 
 -- how many words an index-side word is
-abbrev pub count_of : Option ℕ → ℕ
-count_of None = 0
-count_of (Some w) = 1
+abbrev pub index_side_words : Option ℕ → ℕ
+index_side_words None = 0
+index_side_words (Some w) = 1
 
 -- ---- one instruction
 
@@ -66,8 +66,8 @@ abbrev pub half_of : ℕ → ℕ → ℕ
 half_of content h = part content (32 * (h % 2)) 32
 
 -- a half-word that may not be fetched spells nothing
-abbrev pub nothing : Decoded
-nothing = record { instr = Invalid 0 0 false; halves = 1 }
+abbrev pub no_instr : Decoded
+no_instr = record { instr = Invalid 0 0 false; halves = 1 }
 
 -- the instruction that two half-words spell which may be fetched
 abbrev pub allowed_found : ℕ → ℕ → Found
@@ -95,7 +95,7 @@ with_first target bounds enabled h content use_it =
     else use_it (record { decoded = own; fault = None })
 
 abbrev pub read_after : Option ℕ → Bool → ℕ → Bool → ℕ → Use → Reading
-read_after (Some i) target bounds enabled h use_it = use_it (record { decoded = nothing; fault = Some i })
+read_after (Some i) target bounds enabled h use_it = use_it (record { decoded = no_instr; fault = Some i })
 read_after None target bounds enabled h use_it =
     Reads target (h / 2) (λ c. with_first target bounds enabled h c use_it)
 

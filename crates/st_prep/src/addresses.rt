@@ -1,6 +1,6 @@
 //! Effective addresses.
 ghost use Rattle.std.specs.Prelude.{◌≡◌, ◌<◌, ◌^◌};
-ghost use Rattle.st_prep.specs.EarlyChange.{index_part as part_of, half_address as half_of, bit_address as bit_of, field_address as field_of, effective as effective_of};
+ghost use Rattle.st_prep.specs.EarlyChange.{index_part as index_part_of, half_address as half_address_of, bit_address as bit_address_of, field_address as field_address_of, effective as effective_of};
 ghost use Rattle.st_prep.specs.Ranges.{HasFields};
 
 use st_format::Instr;
@@ -11,7 +11,7 @@ use st_index::effective;
 #[tactic(auto, unfolding(crate::specs::EarlyChange::index_part))]
 fn index_part(x: &[u64; 16], i: u8) -> u64
     requires { i < 16 }
-    ensures { result ≡ part_of x.now i }
+    ensures { result ≡ index_part_of x.now i }
 {
     if i == 0 { 0 } else { x[i as usize] }
 }
@@ -22,7 +22,7 @@ fn index_part(x: &[u64; 16], i: u8) -> u64
 fn half_address(x: &[u64; 16], address: u32, i: u8) -> u32
     requires address { address < 2 ^ 19 }
     requires index { i < 16 }
-    ensures value { result ≡ half_of x.now address i }
+    ensures value { result ≡ half_address_of x.now address i }
     ensures bound { result < 2 ^ 24 }
 {
     effective(32 * address, index_part(x, i))
@@ -34,7 +34,7 @@ fn half_address(x: &[u64; 16], address: u32, i: u8) -> u32
 fn bit_address(x: &[u64; 16], address: u32, i: u8) -> u32
     requires address { address < 2 ^ 24 }
     requires index { i < 16 }
-    ensures value { result ≡ bit_of x.now address i }
+    ensures value { result ≡ bit_address_of x.now address i }
     ensures bound { result < 2 ^ 24 }
 {
     effective(address, index_part(x, i))
@@ -46,7 +46,7 @@ fn bit_address(x: &[u64; 16], address: u32, i: u8) -> u32
 fn field_address(x: &[u64; 16], p: u8, address: u32, i: u8) -> u32
     requires address { address < 2 ^ 24 }
     requires index { i < 16 }
-    ensures value { result ≡ field_of x.now p address i }
+    ensures value { result ≡ field_address_of x.now p address i }
     ensures bound { result < 2 ^ 24 }
 {
     if p < 2 {

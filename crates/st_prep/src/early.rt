@@ -102,7 +102,7 @@ pub fn side(instr: &Instr, x: &[u64; 16], e: u32) -> Option<u32>
 }
 
 #[inline(always)]
-fn nothing() -> Early
+fn no_change() -> Early
     ensures { result ≡ unchanged }
 {
     Early {
@@ -177,7 +177,7 @@ fn half_change(half: Half, words: &[u64; 16], e: u32, read: Option<u64>) -> Earl
         HalfOp::Kci => compared(count_of(x) as i32, w as i32),
         HalfOp::Cb => changed(j, x, count_down(x), None),
         HalfOp::Cbr => changed(j, x, count_down(x), read),
-        HalfOp::Sx | HalfOp::Sv | HalfOp::Sc | HalfOp::Sr | HalfOp::Sva | HalfOp::Ex => nothing(),
+        HalfOp::Sx | HalfOp::Sv | HalfOp::Sc | HalfOp::Sr | HalfOp::Sva | HalfOp::Ex => no_change(),
     }
 }
 
@@ -190,7 +190,7 @@ fn progressive_change(p: u8, i: u8, x: u64, address: u32, read: Option<u64>) -> 
     ensures { result ≡ progressive_change_of p i x address read }
 {
     if p < 2 {
-        nothing()
+        no_change()
     } else {
         changed(i, x, progress(p, x, address).word, read)
     }
@@ -209,6 +209,6 @@ pub fn change(instr: &Instr, x: &[u64; 16], e: u32, read: Option<u64>) -> Early
         Instr::Vfl { p, address, i, .. } | Instr::Connect { p, address, i, .. } => {
             progressive_change(p, i, x[i as usize], address, read)
         }
-        _ => nothing(),
+        _ => no_change(),
     }
 }

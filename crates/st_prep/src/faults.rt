@@ -3,7 +3,7 @@ ghost use Rattle.std.specs.Prelude.{◌≡◌, ◌+◌, ◌/◌, ◌<◌, ◌^�
 ghost use Rattle.st_state.specs.Machine.{word, word as word_of};
 ghost use Rattle.st_prep.specs.Ranges.{HasFields, IsAim, IsFetched, IsRuns};
 ghost use Rattle.st_state.specs.Boundary.{forbidden_by};
-ghost use Rattle.st_prep.specs.Checks.{executed as executed_of, forbidden_run as forbidden_run_of, forbidden_words as forbidden_words_of, forbidden_side as forbidden_side_of, forbidden_area as forbidden_area_of, area_access as area_access_of, operation_fault as operation_fault_of, fault as fault_of};
+ghost use Rattle.st_prep.specs.Checks.{effective_instr as effective_instr_of, forbidden_run as forbidden_run_of, forbidden_words as forbidden_words_of, forbidden_side as forbidden_side_of, forbidden_area as forbidden_area_of, area_access as area_access_of, operation_fault as operation_fault_of, fault as fault_of};
 
 use crate::entries::{Aim, Fetched, Words};
 use crate::fetching::is_execute;
@@ -17,10 +17,10 @@ const AREA: u8 = 8;
 
 /// The instruction that is executed: the target of EX, or else the instruction itself.
 #[inline(always)]
-#[tactic(auto, unfolding(crate::specs::Checks::executed))]
-pub fn executed(fetched: &Fetched) -> &Instr
+#[tactic(auto, unfolding(crate::specs::Checks::effective_instr))]
+pub fn effective_instr(fetched: &Fetched) -> &Instr
     requires { IsFetched fetched.now }
-    ensures value { result.now ≡ executed_of fetched.now }
+    ensures value { result.now ≡ effective_instr_of fetched.now }
     ensures shape { HasFields result.now }
 {
     match &fetched.target {

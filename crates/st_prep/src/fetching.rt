@@ -5,7 +5,7 @@ ghost use Rattle.st_state.specs.Machine.{word};
 ghost use Rattle.st_state.specs.Boundary.{forbidden_by};
 ghost use Rattle.st_state.specs.declared.protection.Access.{Access};
 ghost use Rattle.st_prep.specs.Fetch.{index_words as index_words_of, place_of as place_by, address_by, fetched as fetched_at};
-ghost use Rattle.st_prep.specs.Reading.{Use, outcome, left_after, given, half_of as half_by, nothing as nothing_of, with_second as with_second_of, with_first as with_first_of, instruction_at, is_execute as is_execute_of, with_target as with_target_of, own_use, reading, given_by, allowed_found};
+ghost use Rattle.st_prep.specs.Reading.{Use, outcome, left_after, given, half_of as half_by, no_instr as no_instr_of, with_second as with_second_of, with_first as with_first_of, instruction_at, is_execute as is_execute_of, with_target as with_target_of, own_use, reading, given_by, allowed_found};
 ghost use Rattle.st_prep.specs.Ranges.{HasFields, IsPlace, IsPart, IsFound, IsFetched, IsFetching};
 
 use crate::addresses::effective_address;
@@ -82,8 +82,8 @@ fn half_of(content: u64, h: u32) -> u32
 }
 
 // A half-word that may not be fetched.
-fn nothing() -> Decoded
-    ensures { result ≡ nothing_of }
+fn no_instr() -> Decoded
+    ensures { result ≡ no_instr_of }
 {
     Decoded {
         instr: Instr::Invalid {
@@ -157,7 +157,7 @@ fn part_at(h: u32, contents: &[u64], state: &State) -> Part
     ensures shape { IsPart (length contents.now) result }
 {
     if let Some(i) = state.may(Access::Fetch, h / 2) {
-        return has(nothing(), Some(i), 0);
+        return has(no_instr(), Some(i), 0);
     }
     if contents.is_empty() {
         Part::Wants { word: h / 2 }

@@ -8,7 +8,7 @@ ghost use Rattle.st_prep.specs.Plan.{Sight, needs, prepared, sight, plan};
 ghost use Rattle.st_prep.specs.declared.entries.Place.{Place};
 ghost use Rattle.st_prep.specs.Ranges.{IsPrepared};
 ghost use Rattle.st_prep.specs.Fetch.{index_words, place_of, fetched};
-ghost use Rattle.st_prep.specs.Reading.{Reading, outcome, words_read, own_words, count_of, reading};
+ghost use Rattle.st_prep.specs.Reading.{Reading, outcome, words_read, own_words, index_side_words, reading};
 ghost use Rattle.st_prep.specs.Alike.{AreAlike, ReadTheSame};
 
 /// Each entry of each state is in its ranges once it is prepared.
@@ -80,6 +80,6 @@ pub fn entries_read_36_words_at_most()
     ensures { (s : Machine) (t : Option ℕ) → IsMachine s → IfSome t (λ i. i < 64)
         → let p = place_of s t in
         length (words_read (reading (index_words s) (word s 3) s.enabled p) (word s))
-        + count_of (needs (sight s p)).index_read
+        + index_side_words (needs (sight s p)).index_read
         + ((plan s t).reads.len + (plan s t).reads.len2) ≤ 36 }
 {}

@@ -5,7 +5,7 @@ ghost use Rattle.st_bits.specs.Storage.{words_of_storage};
 ghost use Rattle.st_state.specs.Machine.{Machine, word};
 ghost use Rattle.st_state.specs.Interrupts.{turned};
 ghost use Rattle.st_prep.specs.EarlyChange.{words_after};
-ghost use Rattle.st_prep.specs.Plan.{seen, is_alone as is_alone_of, aimed as aimed_at, aim as aim_of, is_serial as is_serial_of, needs_by, needs as needs_of, asks, suppressed as suppressed_of, entry as entry_of, prepared_by, prepared as prepared_of, plan as plan_of, opened, side_word as side_word_of, side_of, IsSeen, entry_by, sight};
+ghost use Rattle.st_prep.specs.Plan.{seen, is_alone as is_alone_of, aimed as aimed_of, aim as aim_of, is_serial as is_serial_of, needs_by, needs as needs_of, asks, suppressed as suppressed_of, entry as entry_of, prepared_by, prepared as prepared_of, plan as plan_of, opened, side_word as side_word_of, side_of, IsSeen, entry_by, sight};
 ghost use Rattle.st_prep.specs.Fetch.{place_of as place_by};
 ghost use Rattle.st_format.specs.declared.instruction.Format.{Format};
 ghost use Rattle.st_format.specs.Formats.{decoded, instruction_of, spelled_as};
@@ -15,7 +15,7 @@ ghost use Rattle.st_prep.specs.Ranges.{HasFields, IsPlace, IsFetched, IsAim, IsN
 use crate::addresses::effective_address;
 use crate::early::{change, side};
 use crate::entries::{Aim, Fetched, IndexChange, Needs, Place, Prepared};
-use crate::faults::{executed, fault};
+use crate::faults::{effective_instr, fault};
 use crate::fetching::{fetch_all, halves_at, index_words, is_execute, place_of};
 use crate::outcome::{acts_alone, after, cost, next, value};
 use crate::runs::{has_register, is_register, none, reads, writes};
@@ -37,10 +37,10 @@ fn is_alone(place: &Place, fetched: &Fetched) -> bool
 #[tactic(auto, unfolding(crate::specs::Plan::aimed))]
 fn aimed(place: &Place, fetched: &Fetched, x: &[u64; 16]) -> Aim
     requires { IsFetched fetched.now }
-    ensures value { result ≡ aimed_at place.now fetched.now x.now }
+    ensures value { result ≡ aimed_of place.now fetched.now x.now }
     ensures ranges { IsAim result }
 {
-    let instr = executed(fetched);
+    let instr = effective_instr(fetched);
     let e = effective_address(instr, x);
     Aim {
         instr: *instr,

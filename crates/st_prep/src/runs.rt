@@ -1,7 +1,7 @@
 //! The words that an entry reads and writes.
 ghost use Rattle.std.specs.Prelude.{◌≡◌, ◌<◌, ◌^◌};
-ghost use Rattle.st_prep.specs.Entry.{no_words, one_run as one_run_of, two_runs as two_runs_of, field_words as field_words_of, operand_words as operand_words_of, words_read as words_read_of, words_written as words_written_of};
-ghost use Rattle.st_prep.specs.Entry.{is_index_store as is_store, reads_field as reads_it, reads as reads_of, writes as writes_of, has_register as has_register_of, is_register as is_register_of};
+ghost use Rattle.st_prep.specs.Entry.{no_words, one_run as one_run_of, two_runs as two_runs_of, field_words as field_words_of, operand_words as operand_words_of, words_moved_from as words_moved_from_of, words_moved_to as words_moved_to_of};
+ghost use Rattle.st_prep.specs.Entry.{is_index_store as is_index_store_of, reads_field as reads_field_of, reads as reads_of, writes as writes_of, has_register as has_register_of, is_register as is_register_of};
 ghost use Rattle.st_prep.specs.Ranges.{HasFields, IsRuns};
 
 use crate::entries::Words;
@@ -72,8 +72,8 @@ fn operand_words(p: u8, e: u32, length: u8) -> Words
 
 // The words that a transmission reads.
 #[inline(always)]
-fn words_read(swap: bool, from: u32, to: u32, count: u8) -> Words
-    ensures { result ≡ words_read_of swap from to count }
+fn words_moved_from(swap: bool, from: u32, to: u32, count: u8) -> Words
+    ensures { result ≡ words_moved_from_of swap from to count }
 {
     if swap {
         two_runs(from, to, count)
@@ -84,8 +84,8 @@ fn words_read(swap: bool, from: u32, to: u32, count: u8) -> Words
 
 // The words that it writes.
 #[inline(always)]
-fn words_written(swap: bool, from: u32, to: u32, count: u8) -> Words
-    ensures { result ≡ words_written_of swap from to count }
+fn words_moved_to(swap: bool, from: u32, to: u32, count: u8) -> Words
+    ensures { result ≡ words_moved_to_of swap from to count }
 {
     if swap {
         two_runs(from, to, count)
@@ -97,7 +97,7 @@ fn words_written(swap: bool, from: u32, to: u32, count: u8) -> Words
 // Whether an operation stores an index word or a part of it.
 #[inline(always)]
 fn is_index_store(op: HalfOp) -> bool
-    ensures { result ≡ is_store op }
+    ensures { result ≡ is_index_store_of op }
 {
     matches!(
         op,
@@ -108,7 +108,7 @@ fn is_index_store(op: HalfOp) -> bool
 /// Whether an operation reads its field: all but ST.
 #[inline(always)]
 pub fn reads_field(op: VflOp) -> bool
-    ensures { result ≡ reads_it op }
+    ensures { result ≡ reads_field_of op }
 {
     !matches!(op, VflOp::St)
 }
@@ -130,7 +130,7 @@ pub fn reads(instr: &Instr, e: u32) -> Words
             second,
             count,
             ..
-        } => words_read(swap, e / 64, second / 2, count),
+        } => words_moved_from(swap, e / 64, second / 2, count),
         Instr::BitBranch { .. } => one_run(e / 64, 1),
         _ => none(),
     }
@@ -157,7 +157,7 @@ pub fn writes(instr: &Instr, e: u32) -> Words
             second,
             count,
             ..
-        } => words_written(swap, e / 64, second / 2, count),
+        } => words_moved_to(swap, e / 64, second / 2, count),
         Instr::BitBranch { change, .. } if change != 0 => one_run(e / 64, 1),
         Instr::StoreCounter { .. } => one_run(e / 64, 1),
         _ => none(),

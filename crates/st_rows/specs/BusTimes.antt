@@ -3,12 +3,12 @@ use Rattle.std.specs.Prelude.{ℕ, ◌+◌, List, replicate, Option, None, Some}
 use Rattle.st_banks.specs.Bank.{accept_tick, answered_at}
 use Rattle.st_banks.specs.Delay.{answer_tick}
 use Rattle.st_banks.specs.declared.answers.LastAnswers.{LastAnswers}
-use Rattle.st_fetch.specs.Planned.{nothing, tick_of, asked_for}
+use Rattle.st_fetch.specs.Planned.{unasked, tick_of, asked_for}
 use Rattle.st_rows.specs.declared.bus.Bus.{Bus}
 
 -- the bus of a segment that starts at the tick: no word is held
 abbrev pub no_reads : LastAnswers → ℕ → Bus
-no_reads banks start = record { banks = banks; free = start; held = record { words = replicate 4 nothing } }
+no_reads banks start = record { banks = banks; free = start; held = record { words = replicate 4 unasked } }
 
 -- the tick at which a read of the word w is accepted that is wanted from the want on
 abbrev pub accept_at : Bus → ℕ → ℕ → ℕ

@@ -8,7 +8,7 @@ use Rattle.st_state.specs.Machine.{Machine}
 use Rattle.st_prep.proofs.Choices.{of_choice}
 use Rattle.st_exec.specs.Completion.{guess}
 use Rattle.st_exec.specs.Step.{interrupt, rests}
-use Rattle.st_run.specs.Run.{Scene, PlainEvent, Ends, settled, interrupts_by}
+use Rattle.st_run.specs.Run.{Scene, PlainEvent, Ends, interlude, interrupts_by}
 use Rattle.st_exec.proofs.StepLemmas.{step-done}
 use Rattle.st_banks.specs.declared.answers.LastAnswers.{LastAnswers}
 use Rattle.st_banks.specs.declared.answers.TheConstants.{BANKS}
@@ -158,7 +158,7 @@ module _ (b : ℕ) (m : Moment) (has : HasTime b m.tick m.scene.machine) where
   between-time : All (IsInTime b) (between m)
   unfolding between
   between-time =
-      let hs = (settled m.scene).happened ++ interrupts_by (interrupt (next_state m)) (next_state m) in
+      let hs = (interlude m.scene).happened ++ interrupts_by (interrupt (next_state m)) (next_state m) in
       All-append (IsInTime b) (drops_if_ends m) (map (happening_at m) hs)
       (of_choice (λ xs. All (IsInTime b) xs) (ends_segment m) (drops m) [] drops-time (All-nil (IsInTime b)))
       (happenings-time hs)
@@ -166,12 +166,12 @@ module _ (b : ℕ) (m : Moment) (has : HasTime b m.tick m.scene.machine) where
   last_events-time : (snaps : List ℕ) → All (IsInTime b) (last_events m snaps)
   unfolding last_events
   last_events-time snaps =
-      let came = map (happening_at m) (settled m.scene).happened in
+      let came = map (happening_at m) (interlude m.scene).happened in
       let shows = map (last_snapshot_at m) (ticks_before (m.tick + 1) snaps) in
       let last = happening_at m (Ends (next_state m) (rests (next_state m))) in
       All-append (IsInTime b) (drops m ++ came ++ shows) (last ∷ [])
       (All-append (IsInTime b) (drops m ++ came) shows
-      (All-append (IsInTime b) (drops m) came drops-time (happenings-time (settled m.scene).happened))
+      (All-append (IsInTime b) (drops m) came drops-time (happenings-time (interlude m.scene).happened))
       (each-time b (last_snapshot_at m) (ticks_before (m.tick + 1) snaps)
       (λ x. at-time b m.tick m.scene.machine (last_snapshot_at m x).event has)))
       (All-cons (IsInTime b) last [] (at-time b m.tick m.scene.machine last.event has) (All-nil (IsInTime b)))

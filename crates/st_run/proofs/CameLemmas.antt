@@ -12,10 +12,10 @@ use Rattle.st_prep.specs.BesideOrders.{AreAlikeBesideOrders}
 use Rattle.st_prep.proofs.Choices.{of_choice}
 use Rattle.st_exec.specs.Step.{rests}
 use Rattle.st_exec.specs.Transfer.{read_in}
-use Rattle.st_run.specs.Run.{Signal, Scene, Transition, PlainEvent, with_due_signals, with_signals_at_rest, first_card, cards_after, with_reader, with_printer, nothing, and_then, if_due, with_due_orders, with_device, with_order_at_rest, with_wait, settled}
+use Rattle.st_run.specs.Run.{Signal, Scene, Transition, PlainEvent, with_due_signals, with_signals_at_rest, first_card, cards_after, with_reader, with_printer, uneventful, and_then, if_due, with_due_orders, with_device, with_order_at_rest, with_wait, interlude}
 use Rattle.st_exec.proofs.BesideEntries.{beside-printed, beside-no_card, beside-signalled, beside-same, beside-then}
 use Rattle.st_ahead.specs.Overlap.{Overlap, interrupt_due}
-use Rattle.st_ahead.specs.Calls.{ended, settled as settled_of, read_in_by, printed_by, MayServe}
+use Rattle.st_ahead.specs.Calls.{ended, interlude as settled_of, read_in_by, printed_by, MayServe}
 use Rattle.st_ahead.proofs.Settling.{settled-waits}
 use Rattle.st_run.specs.Moments.{has_card, has_waited}
 use Rattle.st_run.specs.Together.{Together, scene_of, moment_of, with_scene, text_told, AreTexts, IsBehind, IsSince, closed_if}
@@ -67,7 +67,7 @@ came-text r t u x y a b same came = subst (λ k. Came r k x y a b) same came
 
 -- ---- nothing, and what changes the state alone
 
-pub came-none : (over : Bool) (t : Together) → Came (nothing (scene_of t)) None over over t t
+pub came-none : (over : Bool) (t : Together) → Came (uneventful (scene_of t)) None over over t t
 came-none over t = record {
   scene = refl;
   told = λ few. refl;
@@ -110,17 +110,17 @@ rest-alike s (x ∷ xs) cards =
     (beside-then _ _ _ (beside-signalled s x.indicator) (rest-alike (signalled s x.indicator) xs cards)) (beside-same s)
 
 came-scene : (over : Bool) (c : Scene) (a b : Together) → b ≡ with_scene a c → AreAlikeBesideOrders a.machine.state c.machine
-    → Came (nothing c) None over over a b
+    → Came (uneventful c) None over over a b
 came-scene over c a b same alike =
-    subst (λ (t : Together). Came (nothing c) None over over a t) (sym same)
-    (came-state (nothing c) None over a (with_scene a c) refl (λ few. refl) refl alike)
+    subst (λ (t : Together). Came (uneventful c) None over over a t) (sym same)
+    (came-state (uneventful c) None over a (with_scene a c) refl (λ few. refl) refl alike)
 
 pub came-due : (over : Bool) (a b : Together) → b ≡ with_scene a (with_due_signals a.machine.state a.signals a.cards)
-    → Came (nothing (with_due_signals a.machine.state a.signals a.cards)) None over over a b
+    → Came (uneventful (with_due_signals a.machine.state a.signals a.cards)) None over over a b
 came-due over a b same = came-scene over _ a b same (due-alike a.machine.state a.signals a.cards)
 
 pub came-rest : (over : Bool) (a b : Together) → b ≡ with_scene a (with_signals_at_rest a.machine.state a.signals a.cards)
-    → Came (nothing (with_signals_at_rest a.machine.state a.signals a.cards)) None over over a b
+    → Came (uneventful (with_signals_at_rest a.machine.state a.signals a.cards)) None over over a b
 came-rest over a b same = came-scene over _ a b same (rest-alike a.machine.state a.signals a.cards)
 
 -- ---- the printer
@@ -289,10 +289,10 @@ rested old m k xs cards view waits after =
     subst (λ (t : Together). rests t.machine.state ≡ true → drive k xs cards ≡ record t { machine = ended t.machine }) view
     (λ wait. ap (λ (x : Overlap). drive x xs cards) (after ∙ sym (settled-waits m (rests-quiet m wait) wait))) waits
 
-pub came-ended : (over : Bool) (t u : Together) → u ≡ record t { machine = ended t.machine } → Came (nothing (scene_of t)) None over true t u
+pub came-ended : (over : Bool) (t u : Together) → u ≡ record t { machine = ended t.machine } → Came (uneventful (scene_of t)) None over true t u
 came-ended over t u same =
     let m = t.machine in
-    subst (λ (x : Together). Came (nothing (scene_of t)) None over true t x) (sym same)
+    subst (λ (x : Together). Came (uneventful (scene_of t)) None over true t x) (sym same)
     (record {
       scene = ap (λ s. record { machine = s; signals = t.signals; cards = t.cards }) (ended-state m);
       told = λ few. refl;
@@ -308,14 +308,14 @@ came-ended over t u same =
     })
 
 -- the order that is given, where the machine rests or not
-pub not_at_rest : (c : Scene) → rests c.machine ≡ false → nothing c ≡ with_order_at_rest c
+pub not_at_rest : (c : Scene) → rests c.machine ≡ false → uneventful c ≡ with_order_at_rest c
 unfolding with_order_at_rest
-not_at_rest c h = sym (ap (λ b. if b then with_device (next_device c.machine) c else nothing c) h)
+not_at_rest c h = sym (ap (λ b. if b then with_device (next_device c.machine) c else uneventful c) h)
 
 pub at_rest : (c : Scene) (d : Option Device) → rests c.machine ≡ true → next_device c.machine ≡ d → with_device d c ≡ with_order_at_rest c
 unfolding with_order_at_rest
 at_rest c d h e =
-    sym (ap (λ b. if b then with_device (next_device c.machine) c else nothing c) h ∙ ap (λ x. with_device x c) e)
+    sym (ap (λ b. if b then with_device (next_device c.machine) c else uneventful c) h ∙ ap (λ x. with_device x c) e)
 
 pub wait-came : (a b c d : Together) (t u : Option (List ℕ)) → Came (with_order_at_rest (scene_of a)) t true true a b
     → Came (with_order_at_rest (scene_of b)) u true true b c
@@ -324,7 +324,7 @@ pub wait-came : (a b c d : Together) (t u : Option (List ℕ)) → Came (with_or
 unfolding with_wait
 wait-came a b c d t u first second signals =
     came-before (and_then (with_order_at_rest (scene_of a)) with_order_at_rest)
-    (λ e. nothing (with_signals_at_rest e.machine e.signals e.cards)) (first_text t u) true true true a c d
+    (λ e. uneventful (with_signals_at_rest e.machine e.signals e.cards)) (first_text t u) true true true a c d
     (came-then (with_order_at_rest (scene_of a)) with_order_at_rest t u true true true a b c first second) (came-rest true c d signals)
 
 -- where it does not rest nothing comes of it
@@ -334,13 +334,13 @@ signals-none s [] cards h = refl
 signals-none s (x ∷ xs) cards h =
     ap (λ b. if b then with_signals_at_rest (signalled s x.indicator) xs cards else record { machine = s; signals = x ∷ xs; cards = cards }) h
 
-wait-none : (c : Scene) → rests c.machine ≡ false → nothing c ≡ with_wait c
+wait-none : (c : Scene) → rests c.machine ≡ false → uneventful c ≡ with_wait c
 unfolding with_wait
 wait-none c h =
-    let order : with_order_at_rest c ≡ nothing c = sym (not_at_rest c h) in
-    sym (ap (λ r. and_then (and_then r with_order_at_rest) (λ d. nothing (with_signals_at_rest d.machine d.signals d.cards))) order
-    ∙ ap (λ r. and_then (and_then (nothing c) (λ d. r)) (λ d. nothing (with_signals_at_rest d.machine d.signals d.cards))) order
-    ∙ ap nothing (signals-none c.machine c.signals c.cards h))
+    let order : with_order_at_rest c ≡ uneventful c = sym (not_at_rest c h) in
+    sym (ap (λ r. and_then (and_then r with_order_at_rest) (λ d. uneventful (with_signals_at_rest d.machine d.signals d.cards))) order
+    ∙ ap (λ r. and_then (and_then (uneventful c) (λ d. r)) (λ d. uneventful (with_signals_at_rest d.machine d.signals d.cards))) order
+    ∙ ap uneventful (signals-none c.machine c.signals c.cards h))
 
 -- ---- all of it
 
@@ -348,12 +348,12 @@ due-came : (a b c : Together) (t : Option (List ℕ)) (card : Bool) → b ≡ wi
     → Came (with_due_orders (scene_of b)) t false card b c
     → Came (with_due_orders (with_due_signals a.machine.state a.signals a.cards)) t false card a c
 due-came a b c t card signals orders =
-    came-then (nothing (with_due_signals a.machine.state a.signals a.cards)) with_due_orders None t false false card a b c (came-due false a b signals) orders
+    came-then (uneventful (with_due_signals a.machine.state a.signals a.cards)) with_due_orders None t false false card a b c (came-due false a b signals) orders
 
 pub settled-going : (a b c : Together) (t : Option (List ℕ)) (card : Bool) → b ≡ with_scene a (with_due_signals a.machine.state a.signals a.cards)
     → Came (with_due_orders (scene_of b)) t false card b c → rests c.machine.state ≡ false
-    → Came (settled (scene_of a)) t false card a c
-unfolding settled
+    → Came (interlude (scene_of a)) t false card a c
+unfolding interlude
 settled-going a b c t card signals orders goes =
     came-before (with_due_orders (with_due_signals a.machine.state a.signals a.cards)) with_wait t false card card a c c
     (due-came a b c t card signals orders) (came-is _ _ None card card c c (wait-none (scene_of c) goes) (came-none card c))
@@ -361,12 +361,12 @@ settled-going a b c t card signals orders goes =
 pub settled-waiting : (a b c d e : Together) (t u : Option (List ℕ)) (card : Bool) → b ≡ with_scene a (with_due_signals a.machine.state a.signals a.cards)
     → Came (with_due_orders (scene_of b)) t false card b c → d ≡ record c { machine = ended c.machine }
     → Came (with_wait (scene_of d)) u true true d e
-    → Came (settled (scene_of a)) (first_text t u) false true a e
-unfolding settled
+    → Came (interlude (scene_of a)) (first_text t u) false true a e
+unfolding interlude
 settled-waiting a b c d e t u card signals orders ends wait =
     came-then (with_due_orders (with_due_signals a.machine.state a.signals a.cards)) with_wait t u false card true a c e
     (due-came a b c t card signals orders)
-    (came-then (nothing (scene_of c)) with_wait None u card true true c d e (came-ended card c d ends) wait)
+    (came-then (uneventful (scene_of c)) with_wait None u card true true c d e (came-ended card c d ends) wait)
 
 pub ended-may : (a b c d : Together) (t : Option (List ℕ)) (card : Bool) → b ≡ with_scene a (with_due_signals a.machine.state a.signals a.cards)
     → Came (with_due_orders (scene_of b)) t false card b c → d ≡ record c { machine = ended c.machine }
@@ -400,7 +400,7 @@ pub over-going : (a b c : Together) (t : Option (List ℕ)) (card : Bool) → b 
     → card ≡ (has_card (moment_of a) || has_waited (moment_of a))
 over-going a b c t card signals orders goes is =
     let before : b.cards ≡ a.cards = ap (λ (x : Together). x.cards) signals ∙ due-cards a.machine.state a.signals a.cards in
-    let behind : c.cards ≡ (settled (scene_of a)).scene.cards = ap (λ (d : Scene). d.cards) (settled-going a b c t card signals orders goes).scene in
+    let behind : c.cards ≡ (interlude (scene_of a)).scene.cards = ap (λ (d : Scene). d.cards) (settled-going a b c t card signals orders goes).scene in
     one-alone card (has_card (moment_of a)) (has_waited (moment_of a))
     (is ∙ ap (λ (xs : List (List ℕ)). nat_lt (length c.cards) (length xs)) before ∙ ap (λ (xs : List (List ℕ)). nat_lt (length xs) (length a.cards)) behind)
     (rests-due a b c t card signals orders ∙ goes)

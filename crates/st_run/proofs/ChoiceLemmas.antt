@@ -5,7 +5,7 @@ use Rattle.st_state.specs.Machine.{Machine, IsMachine}
 use Rattle.st_prep.proofs.Choices.{of_choice}
 use Rattle.st_exec.proofs.BesideEntries.{beside-same}
 use Rattle.st_exec.specs.Step.{rests, interrupt}
-use Rattle.st_run.specs.Run.{Scene, Signal, settled}
+use Rattle.st_run.specs.Run.{Scene, Signal, interlude}
 use Rattle.st_rows.specs.Rows.{row, tick_c}
 use Rattle.st_rows.specs.Ranges.{IsEntry, AreDelays}
 use Rattle.st_rows.specs.declared.entry.Entry.{Entry}
@@ -13,7 +13,7 @@ use Rattle.st_rows.specs.declared.front.Front.{Front}
 use Rattle.st_segment.specs.Entries.{entry}
 use Rattle.st_segment.proofs.EntryRanges.{entry-ranges}
 use Rattle.st_ahead.specs.Overlap.{Overlap, seen, levels_of, interrupt_due, oldest_row}
-use Rattle.st_ahead.specs.Calls.{ended, settled as settled_of, settled_by, passed, answer, answer_by}
+use Rattle.st_ahead.specs.Calls.{ended, interlude as settled_of, settled_by, passed, answer, answer_by}
 use Rattle.st_ahead.specs.declared.events.Settled.{Settled}
 use Rattle.st_run.specs.Moments.{Moment, next_scene, next_state, ends_segment, next_front, next_segment, has_card, has_waited}
 use Rattle.st_run.specs.Scenes.{IsScene}
@@ -78,7 +78,7 @@ going-before b n s t f is same scene table awake late =
       few = subst (λ (m : Overlap). m.levels ≤ 8) (sym same) is.few;
       delays = subst (λ (m : Overlap). AreDelays 255 m.delays) (sym same) is.delays;
       scene = scene;
-      settled = ap (λ (m : Overlap). m.owed) same;
+      interlude = ap (λ (m : Overlap). m.owed) same;
       going = ap (λ (m : Overlap). m.ended) same;
       guessed = ap (λ (m : Overlap). m.behind) same;
       closed = ap (λ (m : Overlap). m.closing) same;
@@ -117,7 +117,7 @@ ends-by false true waited due = refl
 ends-by false false waited due = refl
 
 -- the moment, and the machine in the state behind all that comes
-module _ (b t : Together) (text : Option (List ℕ)) (over : Bool) (is : IsBehind b) (came : Came (settled (scene_of b)) text false over b t)
+module _ (b t : Together) (text : Option (List ℕ)) (over : Bool) (is : IsBehind b) (came : Came (interlude (scene_of b)) text false over b t)
     (over-is : over ≡ (has_card (moment_of b) || has_waited (moment_of b))) where
   abbrev m : Moment
   m = moment_of b
@@ -214,6 +214,6 @@ module _ (b t : Together) (text : Option (List ℕ)) (over : Bool) (is : IsBehin
   pub decided : (left : ℕ) (d : Decided) (n : Together) → n ≡ record t { machine = n.machine }
       → option_map (λ x. x.bytes) d.text ≡ text → IsChoice d.turn left over t.machine d n.machine → IsDecided left m d n
   decided left d n rest same choice = record {
-    text = subst (λ x. AreTexts x (settled (scene_of b)).happened) (sym same) (came.told (settled-one (scene_of b)));
+    text = subst (λ x. AreTexts x (interlude (scene_of b)).happened) (sym same) (came.told (settled-one (scene_of b)));
     way = way-is d.turn left d n rest choice;
   }

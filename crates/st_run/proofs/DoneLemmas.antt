@@ -8,7 +8,7 @@ use Rattle.st_state.specs.declared.devices.Device.{Device}
 use Rattle.st_state.specs.declared.devices.Device.TheVariants.{Reader, Printer}
 use Rattle.st_exec.specs.Step.{rests}
 use Rattle.st_exec.specs.Transfer.{all_stored, read_in}
-use Rattle.st_run.specs.Run.{Signal, Scene, first_card, with_due_signals, with_signals_at_rest, with_reader, with_printer, if_due, with_due_orders, with_device, with_order_at_rest, with_wait, settled, nothing}
+use Rattle.st_run.specs.Run.{Signal, Scene, first_card, with_due_signals, with_signals_at_rest, with_reader, with_printer, if_due, with_due_orders, with_device, with_order_at_rest, with_wait, interlude, uneventful}
 
 either : {A : Type 0} (f : A → ℕ) (n : ℕ) (b : Bool) (x y : A) → f x ≡ n → f y ≡ n → f (if b then x else y) ≡ n
 either f n true x y p q = p
@@ -52,7 +52,7 @@ due_orders-done c =
 
 order_at_rest-done : (c : Scene) → (with_order_at_rest c).scene.machine.done ≡ c.machine.done
 unfolding with_order_at_rest
-order_at_rest-done c = either (λ r. r.scene.machine.done) c.machine.done (rests c.machine) (with_device (next_device c.machine) c) (nothing c) (device-done (next_device c.machine) c) refl
+order_at_rest-done c = either (λ r. r.scene.machine.done) c.machine.done (rests c.machine) (with_device (next_device c.machine) c) (uneventful c) (device-done (next_device c.machine) c) refl
 
 wait-done : (c : Scene) → (with_wait c).scene.machine.done ≡ c.machine.done
 unfolding with_wait
@@ -61,8 +61,8 @@ wait-done c =
     let e = (with_order_at_rest d).scene in
     rest-done e.machine e.signals e.cards ∙ (order_at_rest-done d ∙ order_at_rest-done c)
 
-pub settled-done : (c : Scene) → (settled c).scene.machine.done ≡ c.machine.done
-unfolding settled
+pub settled-done : (c : Scene) → (interlude c).scene.machine.done ≡ c.machine.done
+unfolding interlude
 settled-done c =
     let d = with_due_signals c.machine c.signals c.cards in
     wait-done (with_due_orders d).scene ∙ (due_orders-done d ∙ due-done c.machine c.signals c.cards)

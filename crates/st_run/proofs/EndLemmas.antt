@@ -2,7 +2,7 @@
 use Rattle.std.proofs.Common.{◌≡◌, ℕ, zero, suc, ◌+◌, ◌*◌, ◌≤◌, Bool, true, false, if◌then◌else◌, List, ◌++◌, sym, subst, arith}
 use Rattle.std.proofs.Math.Nat.{mul-add}
 use Rattle.st_exec.specs.Step.{rests}
-use Rattle.st_run.specs.Run.{Scene, Execution, settled, stepped, ended, goes_on, run}
+use Rattle.st_run.specs.Run.{Scene, Execution, interlude, stepped, ended, goes_on, run}
 use Rattle.st_rows.specs.Ranges.{AreDelays}
 use Rattle.st_run.specs.Events.{Timed}
 use Rattle.st_run.specs.Moments.{Moment, start, next_scene, next_state, standing, next_moment}
@@ -18,7 +18,7 @@ EndsInTime : ℕ → List Timed → Execution → Type 0
 EndsInTime b xs ran = (t : ℕ) → last_tick t xs ≤ b * (ran.last.done + 1)
 
 last-ends : (b : ℕ) (m : Moment) (snaps : List ℕ) → HasTime b m.tick m.scene.machine
-    → EndsInTime b (last_events m snaps) (ended (settled m.scene))
+    → EndsInTime b (last_events m snaps) (ended (interlude m.scene))
 unfolding EndsInTime
 last-ends b m snaps has t =
     let same : (next_state m).done ≡ m.scene.machine.done = settled-done m.scene in
@@ -28,8 +28,8 @@ last-ends b m snaps has t =
     omega (arith, late, last_events-tick t m snaps)
 
 ends-if : (c : Bool) (b : ℕ) (m : Moment) (xs turn rest : List Timed) (later : Execution)
-    → EndsInTime b xs (ended (settled m.scene)) → EndsInTime b rest later
-    → EndsInTime b (if c then xs else turn ++ rest) (if c then ended (settled m.scene) else goes_on (settled m.scene) later)
+    → EndsInTime b xs (ended (interlude m.scene)) → EndsInTime b rest later
+    → EndsInTime b (if c then xs else turn ++ rest) (if c then ended (interlude m.scene) else goes_on (interlude m.scene) later)
 unfolding EndsInTime
 ends-if true b m xs turn rest later here there t = here t
 ends-if false b m xs turn rest later here there t =

@@ -1,7 +1,7 @@
 -- The last thing that is told of a run is told at its end.
 use Rattle.std.proofs.Common.{◌≡◌, ℕ, zero, suc, Bool, true, false, if◌then◌else◌, List, [], ◌∷◌, ◌++◌, ◌+◌, refl, sym, ◌∙◌, map}
 use Rattle.st_exec.specs.Step.{rests}
-use Rattle.st_run.specs.Run.{Scene, Execution, Ends, settled, stepped, ended, goes_on, run}
+use Rattle.st_run.specs.Run.{Scene, Execution, Ends, interlude, stepped, ended, goes_on, run}
 use Rattle.st_run.specs.Events.{Timed}
 use Rattle.st_run.specs.Moments.{Moment, start, next_scene, next_state, standing, next_moment}
 use Rattle.st_run.specs.TimedRun.{ticks_before, ticks_from, drops, happening_at, last_snapshot_at, between, until_done, last_events, timed_from}
@@ -24,18 +24,18 @@ record EndsLike (ran : Execution) (xs : List Timed) : Type 0 where
   done : (d : ℕ) → last_done d xs ≡ ran.last.done
   tick : (t u : ℕ) → last_tick t xs ≡ last_tick u xs
 
-last-like : (m : Moment) (snaps : List ℕ) → EndsLike (ended (settled m.scene)) (last_events m snaps)
+last-like : (m : Moment) (snaps : List ℕ) → EndsLike (ended (interlude m.scene)) (last_events m snaps)
 unfolding last_events last_done
 last-like m snaps =
-    let front = drops m ++ map (happening_at m) (settled m.scene).happened ++ map (last_snapshot_at m) (ticks_before (m.tick + 1) snaps) in
+    let front = drops m ++ map (happening_at m) (interlude m.scene).happened ++ map (last_snapshot_at m) (ticks_before (m.tick + 1) snaps) in
     record {
       done = λ d. done-append d front (happening_at m (Ends (next_state m) (rests (next_state m))) ∷ []) ∙ sym (settled-done m.scene);
       tick = λ t u. last_events-tick t m snaps ∙ sym (last_events-tick u m snaps);
     }
 
 like-if : (c : Bool) (m : Moment) (xs turn rest : List Timed) (later : Execution)
-    → EndsLike (ended (settled m.scene)) xs → EndsLike later rest
-    → EndsLike (if c then ended (settled m.scene) else goes_on (settled m.scene) later) (if c then xs else turn ++ rest)
+    → EndsLike (ended (interlude m.scene)) xs → EndsLike later rest
+    → EndsLike (if c then ended (interlude m.scene) else goes_on (interlude m.scene) later) (if c then xs else turn ++ rest)
 like-if true m xs turn rest later here there = here
 like-if false m xs turn rest later here there = record {
   done = λ d. done-append d turn rest ∙ there.done (last_done d turn);

@@ -7,7 +7,7 @@ use Rattle.st_prep.specs.Plan.{plan, prepared, prepared_by, suppressed, entry as
 use Rattle.st_prep.specs.declared.entries.Place.{Place}
 use Rattle.st_prep.specs.declared.entries.Aim.{Aim}
 use Rattle.st_exec.specs.Step.{interrupt, rests, address}
-use Rattle.st_run.specs.Run.{Scene, settled}
+use Rattle.st_run.specs.Run.{Scene, interlude}
 use Rattle.st_exec.proofs.StepLemmas.{step-done}
 use Rattle.st_rows.specs.declared.front.Front.{Front}
 use Rattle.st_segment.specs.Ahead.{prepared_before}
@@ -46,7 +46,7 @@ abbrev pub waits_by : List (ℕ × ℕ) → Decided → Waiting
 waits_by drops d = waits drops (option_map (λ x. x.bytes) d.text) d.taken
 
 module _ (ds : List ℕ) (n left tick : ℕ) (m : Moment) (snaps : List ℕ) (d : Decided) (drops : List (ℕ × ℕ)) (t : Together)
-    (text : AreTexts (option_map (λ x. x.bytes) d.text) (settled m.scene).happened)
+    (text : AreTexts (option_map (λ x. x.bytes) d.text) (interlude m.scene).happened)
     (tick_is : tick ≡ m.tick) (delays : t.machine.delays ≡ ds) (levels : t.machine.levels ≡ n)
     (dropped : drops ≡ dropped_if d.ends m) where
   abbrev printed : Option (List ℕ)

@@ -4,7 +4,7 @@ use Rattle.std.proofs.Common.{◌≡◌, ℕ, zero, suc, ◌+◌, ◌≤◌, ◌
 use Rattle.std.proofs.lemmas.Bool.{cases_Bool, ltb-true, ltb-false}
 use Rattle.st_prep.proofs.Choices.{of_choice}
 use Rattle.st_exec.specs.Step.{interrupt, rests}
-use Rattle.st_run.specs.Run.{PlainEvent, Ends, settled, interrupts_by}
+use Rattle.st_run.specs.Run.{PlainEvent, Ends, interlude, interrupts_by}
 use Rattle.st_rows.specs.Rows.{row, tick_c, after}
 use Rattle.st_run.specs.Events.{Timed, drop_of, snapshot}
 use Rattle.st_run.specs.Moments.{Moment, Standing, next_state, ends_segment, next_segment, next_front, standing, next_row, next_moment}
@@ -82,7 +82,7 @@ module _ (m : Moment) where
   between-lead : Leads m.tick m.tick (between m)
   unfolding between
   between-lead =
-      let hs = (settled m.scene).happened ++ interrupts_by (interrupt (next_state m)) (next_state m) in
+      let hs = (interlude m.scene).happened ++ interrupts_by (interrupt (next_state m)) (next_state m) in
       leads-append m.tick m.tick m.tick (drops_if_ends m) (map (happening_at m) hs)
       (of_choice (λ xs. Leads m.tick m.tick xs) (ends_segment m) (drops m) [] drops-lead (leads-nil m.tick))
       (happenings-lead hs)
@@ -90,11 +90,11 @@ module _ (m : Moment) where
   last-order : (snaps : List ℕ) → AreRising m.tick snaps → AreInOrder m.tick (last_events m snaps)
   unfolding last_events AreInOrder
   last-order snaps rising =
-      let came = map (happening_at m) (settled m.scene).happened in
+      let came = map (happening_at m) (interlude m.scene).happened in
       let shows = map (last_snapshot_at m) (ticks_before (m.tick + 1) snaps) in
       let last = happening_at m (Ends (next_state m) (rests (next_state m))) in
       leads-append m.tick m.tick m.tick (drops m ++ came) shows
-      (leads-append m.tick m.tick m.tick (drops m) came drops-lead (happenings-lead (settled m.scene).happened))
+      (leads-append m.tick m.tick m.tick (drops m) came drops-lead (happenings-lead (interlude m.scene).happened))
       (leads-snapshots m.tick m.tick (m.tick + 1) (last_snapshot_at m) snaps (λ x. refl) (omega arith) (omega arith) rising)
       (last ∷ []) (omega arith, tt)
 

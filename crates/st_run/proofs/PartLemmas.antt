@@ -3,10 +3,10 @@ use Rattle.std.proofs.Common.{◌≡◌, ℕ, ◌+◌, Bool, true, false, List, 
 use Rattle.st_prep.proofs.Choices.{of_choice}
 use Rattle.st_exec.proofs.BesideEntries.{beside-same}
 use Rattle.st_exec.specs.Step.{rests}
-use Rattle.st_run.specs.Run.{settled}
+use Rattle.st_run.specs.Run.{interlude}
 use Rattle.st_rows.specs.Rows.{opening}
 use Rattle.st_ahead.specs.Overlap.{Overlap, levels_of, interrupt_due}
-use Rattle.st_ahead.specs.Calls.{banks_left, ended, settled as settled_of, settled_by}
+use Rattle.st_ahead.specs.Calls.{banks_left, ended, interlude as settled_of, settled_by}
 use Rattle.st_run.specs.Together.{Together, scene_of, IsBehind, IsSince, closed_if}
 use Rattle.st_run.specs.Between.{Came, IsChoice}
 use Rattle.st_run.specs.declared.turn.Turn.{Turn}
@@ -46,7 +46,7 @@ closed-parts true o = ended-parts o
 closed-parts false o = record { delays = refl; levels = refl }
 
 pub left-parts : (b t n : Together) (text : Option (List ℕ)) (over : Bool) (left : ℕ) (d : Decided) → IsBehind b
-    → Came (settled (scene_of b)) text false over b t → IsChoice d.turn left over t.machine d n.machine → HasParts b.machine n.machine
+    → Came (interlude (scene_of b)) text false over b t → IsChoice d.turn left over t.machine d n.machine → HasParts b.machine n.machine
 left-parts b t n text over left d is came choice =
     let since : IsSince b.machine over t = came.since b is (record { machine = refl; alike = λ open_still. beside-same b.machine.state }) in
     let closed : HasParts b.machine t.machine =

@@ -9,7 +9,7 @@ use Rattle.st_state.specs.declared.devices.Device.TheVariants.{Reader, Printer}
 use Rattle.st_prep.proofs.Choices.{of_choice}
 use Rattle.st_exec.specs.Step.{rests}
 use Rattle.st_exec.specs.Transfer.{all_stored, read_in}
-use Rattle.st_run.specs.Run.{Signal, Scene, Transition, first_card, with_due_signals, with_signals_at_rest, with_reader, with_printer, if_due, with_due_orders, with_device, with_order_at_rest, with_wait, settled, nothing, and_then}
+use Rattle.st_run.specs.Run.{Signal, Scene, Transition, first_card, with_due_signals, with_signals_at_rest, with_reader, with_printer, if_due, with_due_orders, with_device, with_order_at_rest, with_wait, interlude, uneventful, and_then}
 
 -- how many orders the printer has
 orders : Option Order → ℕ
@@ -89,7 +89,7 @@ device-prints (Some Printer) c = printer-prints c.machine.printer c (omega arith
 order_at_rest-prints : (c : Scene) → PrintsWithin c (with_order_at_rest c)
 unfolding with_order_at_rest
 order_at_rest-prints c =
-    of_choice (λ r. PrintsWithin c r) (rests c.machine) (with_device (next_device c.machine) c) (nothing c)
+    of_choice (λ r. PrintsWithin c r) (rests c.machine) (with_device (next_device c.machine) c) (uneventful c)
     (device-prints (next_device c.machine) c) (record { few = omega arith })
 
 wait-prints : (c : Scene) → PrintsWithin c (with_wait c)
@@ -99,12 +99,12 @@ wait-prints c =
     let q = and_then r with_order_at_rest in
     let e = q.scene in
     let same = ap orders (rest-printer e.machine e.signals e.cards) in
-    then-prints c q (λ d. nothing (with_signals_at_rest d.machine d.signals d.cards))
+    then-prints c q (λ d. uneventful (with_signals_at_rest d.machine d.signals d.cards))
     (then-prints c r with_order_at_rest (order_at_rest-prints c) (order_at_rest-prints r.scene))
     (record { few = omega (arith, same) })
 
-pub settled-one : (c : Scene) → length (settled c).happened ≤ 1
-unfolding settled
+pub settled-one : (c : Scene) → length (interlude c).happened ≤ 1
+unfolding interlude
 settled-one c =
     let d = with_due_signals c.machine c.signals c.cards in
     let all = then-prints d (with_due_orders d) with_wait (due_orders-prints d) (wait-prints (with_due_orders d).scene) in

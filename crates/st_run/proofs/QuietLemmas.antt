@@ -5,8 +5,8 @@ use Rattle.std.proofs.lemmas.Bool.{le-ltb}
 use Rattle.st_state.specs.Machine.{Machine}
 use Rattle.st_state.specs.Orders.{is_due}
 use Rattle.st_ahead.specs.Overlap.{Overlap, interrupt_due}
-use Rattle.st_ahead.specs.Calls.{settled as settled_of}
-use Rattle.st_run.specs.Run.{Scene, Signal, with_due_signals, with_due_orders, settled, nothing}
+use Rattle.st_ahead.specs.Calls.{interlude as settled_of}
+use Rattle.st_run.specs.Run.{Scene, Signal, with_due_signals, with_due_orders, interlude, uneventful}
 use Rattle.st_run.specs.Together.{Together, scene_of, moment_of, with_scene, IsBehind}
 use Rattle.st_run.specs.Between.{Came, IsChoice, IsQuiet, signal_due}
 use Rattle.st_run.specs.Leaving.{IsDecided, nothing_decided}
@@ -32,13 +32,13 @@ no-signal : (t : Together) → signal_due t.machine.state.done t.signals ≡ fal
 no-signal t none = ap (with_scene t) (by-signal t.machine.state t.signals t.cards none)
 
 by-orders : (c : Scene) (reader printer : Bool) → is_due c.machine.done c.machine.reader ≡ reader → is_due c.machine.done c.machine.printer ≡ printer
-    → reader ≡ false → printer ≡ false → nothing c ≡ with_due_orders c
+    → reader ≡ false → printer ≡ false → uneventful c ≡ with_due_orders c
 unfolding with_due_orders
 by-orders c reader printer first second a b = rw (first ∙ a, second ∙ b) refl
 
 no-text : (t : Together) → IsQuiet t.machine → Came (with_due_orders (scene_of t)) None false false t t
 no-text t quiet =
-    came-is (nothing (scene_of t)) (with_due_orders (scene_of t)) None false false t t
+    came-is (uneventful (scene_of t)) (with_due_orders (scene_of t)) None false false t t
     (by-orders (scene_of t) false false quiet.reader quiet.printer refl refl) (came-none false t)
 
 -- two tests, none of which holds
@@ -58,7 +58,7 @@ same-count n = sym (le-ltb n n (omega arith))
 
 module _ (left : ℕ) (b n : Together) (is : IsBehind b) (some : left ≢ 0) (signals : signal_due b.machine.state.done b.signals ≡ false)
     (quiet : IsQuiet b.machine) (rest : n ≡ record b { machine = n.machine }) (after : n.machine ≡ settled_of b.machine) where
-  came : Came (settled (scene_of b)) None false false b b
+  came : Came (interlude (scene_of b)) None false false b b
   came = settled-going b b b None false (no-signal b signals) (no-text b quiet) quiet.awake
 
   choice : IsChoice Before left false b.machine nothing_decided n.machine

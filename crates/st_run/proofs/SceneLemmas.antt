@@ -19,7 +19,7 @@ use Rattle.st_prep.proofs.Choices.{of_choice}
 use Rattle.st_prep.proofs.PlanLemmas.{plan-prepared, fixed-indicators}
 use Rattle.st_exec.specs.Step.{rests, interrupt, step}
 use Rattle.st_exec.specs.Transfer.{all_stored, read_in}
-use Rattle.st_run.specs.Run.{Signal, Scene, first_card, cards_after, with_due_signals, with_signals_at_rest, with_reader, with_printer, if_due, with_due_orders, with_device, with_order_at_rest, with_wait, settled, stepped, nothing}
+use Rattle.st_run.specs.Run.{Signal, Scene, first_card, cards_after, with_due_signals, with_signals_at_rest, with_reader, with_printer, if_due, with_due_orders, with_device, with_order_at_rest, with_wait, interlude, stepped, uneventful}
 use Rattle.st_exec.proofs.MachineKept.{kept-stored, kept-completed}
 use Rattle.st_run.specs.Scenes.{IsCard, IsScene}
 
@@ -142,7 +142,7 @@ device-scene (Some Printer) c is = printer-scene c.machine.printer c is
 order_at_rest-scene : (c : Scene) → IsScene c → IsScene (with_order_at_rest c).scene
 unfolding with_order_at_rest
 order_at_rest-scene c is =
-    of_choice (λ r. IsScene r.scene) (rests c.machine) (with_device (next_device c.machine) c) (nothing c)
+    of_choice (λ r. IsScene r.scene) (rests c.machine) (with_device (next_device c.machine) c) (uneventful c)
     (device-scene (next_device c.machine) c is) is
 
 wait-scene : (c : Scene) → IsScene c → IsScene (with_wait c).scene
@@ -153,8 +153,8 @@ wait-scene c is =
     let kept : IsScene e = order_at_rest-scene d (order_at_rest-scene c is) in
     rest-scene e.machine e.signals e.cards kept.machine kept.cards
 
-pub settled-scene : (c : Scene) → IsScene c → IsScene (settled c).scene
-unfolding settled
+pub settled-scene : (c : Scene) → IsScene c → IsScene (interlude c).scene
+unfolding interlude
 settled-scene c is =
     let d = with_due_signals c.machine c.signals c.cards in
     wait-scene (with_due_orders d).scene (due_orders-scene d (due-scene c.machine c.signals c.cards is.machine is.cards))

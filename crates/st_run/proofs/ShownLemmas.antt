@@ -3,7 +3,7 @@ use Rattle.std.specs.Prelude.{map, reverse}
 use Rattle.std.proofs.Common.{◌≡◌, ℕ, zero, suc, ◌+◌, ◌≤◌, ◌<◌, inl, inr, Bool, true, false, if◌then◌else◌, List, [], ◌∷◌, ◌++◌, refl, sym, ◌∙◌, ap, arith, append_assoc, append-nil}
 use Rattle.std.proofs.lemmas.Bool.{lt-ltb}
 use Rattle.st_exec.specs.Step.{interrupt, rests}
-use Rattle.st_run.specs.Run.{Ends, settled, interrupts_by}
+use Rattle.st_run.specs.Run.{Ends, interlude, interrupts_by}
 use Rattle.st_run.specs.Events.{Timed, drop_of, snapshot}
 use Rattle.st_run.specs.Moments.{Moment, Standing, next_state, ends_segment, standing, next_moment}
 use Rattle.st_run.specs.TimedRun.{at, ticks_before, ticks_from, snapshot_at, last_snapshot_at, drops, drops_if_ends, happening_at, between, completion, until_done, last_events, timed_from}
@@ -55,7 +55,7 @@ drops-shown false m = refl
 between-shown : (m : Moment) → shown_ticks (between m) ≡ []
 unfolding between
 between-shown m =
-    let hs = (settled m.scene).happened ++ interrupts_by (interrupt (next_state m)) (next_state m) in
+    let hs = (interlude m.scene).happened ++ interrupts_by (interrupt (next_state m)) (next_state m) in
     shown-append (drops_if_ends m) (map (happening_at m) hs)
     ∙ ap (λ xs. xs ++ shown_ticks (map (happening_at m) hs)) (drops-shown (ends_segment m) m)
     ∙ none-shown (happening_at m) hs (λ h. refl)
@@ -72,7 +72,7 @@ until_done-shown ds n p snaps =
 last-shown : (m : Moment) (snaps : List ℕ) → shown_ticks (last_events m snaps) ≡ ticks_before (m.tick + 1) snaps
 unfolding last_events shown_ticks
 last-shown m snaps =
-    let came = map (happening_at m) (settled m.scene).happened in
+    let came = map (happening_at m) (interlude m.scene).happened in
     let due = ticks_before (m.tick + 1) snaps in
     let shows = map (last_snapshot_at m) due in
     shown-append (drops m ++ came ++ shows) (happening_at m (Ends (next_state m) (rests (next_state m))) ∷ [])
@@ -81,7 +81,7 @@ last-shown m snaps =
     ∙ ap (λ xs. xs ++ shown_ticks shows)
     (shown-append (drops m) came
     ∙ ap (λ xs. xs ++ shown_ticks came) (drops-shown true m)
-    ∙ none-shown (happening_at m) (settled m.scene).happened (λ h. refl))
+    ∙ none-shown (happening_at m) (interlude m.scene).happened (λ h. refl))
     ∙ all-shown (last_snapshot_at m) due (λ x. refl)
 
 -- ---- the last tick
@@ -93,7 +93,7 @@ last-one t xs x = last-append t xs (x ∷ [])
 pub last_events-tick : (t : ℕ) (m : Moment) (snaps : List ℕ) → last_tick t (last_events m snaps) ≡ m.tick
 unfolding last_events
 last_events-tick t m snaps =
-    last-one t (drops m ++ map (happening_at m) (settled m.scene).happened ++ map (last_snapshot_at m) (ticks_before (m.tick + 1) snaps))
+    last-one t (drops m ++ map (happening_at m) (interlude m.scene).happened ++ map (last_snapshot_at m) (ticks_before (m.tick + 1) snaps))
     (happening_at m (Ends (next_state m) (rests (next_state m))))
 
 -- ---- the run

@@ -10,7 +10,7 @@ use Rattle.st_state.specs.Orders.{next_device}
 use Rattle.st_state.specs.declared.devices.Order.{Order}
 use Rattle.st_prep.proofs.Choices.{of_choice}
 use Rattle.st_exec.specs.Step.{interrupt, rests}
-use Rattle.st_run.specs.Run.{Signal, Scene, PlainEvent, Ends, with_due_signals, with_due_orders, with_order_at_rest, with_signals_at_rest, with_wait, settled, interrupts_by, if_due, Transition, nothing, and_then, with_reader, with_printer, with_device}
+use Rattle.st_run.specs.Run.{Signal, Scene, PlainEvent, Ends, with_due_signals, with_due_orders, with_order_at_rest, with_signals_at_rest, with_wait, interlude, interrupts_by, if_due, Transition, uneventful, and_then, with_reader, with_printer, with_device}
 use Rattle.st_rows.specs.Ranges.{AreDelays}
 use Rattle.st_rows.specs.Rows.{opening}
 use Rattle.st_ahead.specs.Overlap.{started}
@@ -59,29 +59,29 @@ idle-interrupt s is = rw is.enabled refl
 
 -- ---- so nothing comes between the start and the first entry but signals
 
-orders-idle : (c : Scene) → IsIdle c.machine → with_due_orders c ≡ nothing c
+orders-idle : (c : Scene) → IsIdle c.machine → with_due_orders c ≡ uneventful c
 unfolding with_due_orders
 orders-idle c is =
     ap {A = Option Order} (λ o. and_then (with_reader (if_due c.machine.done o) c)
     (λ e. with_printer (if_due e.machine.done e.machine.printer) e)) is.reader
-    ∙ ap {A = Option Order} (λ o. and_then (nothing c) (λ e. with_printer (if_due c.machine.done o) c)) is.printer
+    ∙ ap {A = Option Order} (λ o. and_then (uneventful c) (λ e. with_printer (if_due c.machine.done o) c)) is.printer
 
 rest-idle : (s : Machine) (xs : List Signal) (cards : List (List ℕ)) → rests s ≡ false
     → with_signals_at_rest s xs cards ≡ record { machine = s; signals = xs; cards = cards }
 rest-idle s [] cards awake = refl
 rest-idle s (x ∷ xs) cards awake = rw awake refl
 
-order-idle : (c : Scene) → rests c.machine ≡ false → with_order_at_rest c ≡ nothing c
+order-idle : (c : Scene) → rests c.machine ≡ false → with_order_at_rest c ≡ uneventful c
 unfolding with_order_at_rest
-order-idle c awake = ap {A = Bool} (λ b. if b then with_device (next_device c.machine) c else nothing c) awake
+order-idle c awake = ap {A = Bool} (λ b. if b then with_device (next_device c.machine) c else uneventful c) awake
 
-wait-idle : (c : Scene) → rests c.machine ≡ false → with_wait c ≡ nothing c
+wait-idle : (c : Scene) → rests c.machine ≡ false → with_wait c ≡ uneventful c
 unfolding with_wait
 wait-idle c awake =
-    let ending : Scene → Transition = λ d. nothing (with_signals_at_rest d.machine d.signals d.cards) in
+    let ending : Scene → Transition = λ d. uneventful (with_signals_at_rest d.machine d.signals d.cards) in
     ap {A = Transition} (λ r. and_then (and_then r with_order_at_rest) ending) (order-idle c awake)
-    ∙ ap {A = Transition} (λ r. and_then (and_then (nothing c) (λ d. r)) ending) (order-idle c awake)
-    ∙ ap {A = Scene} (λ d. nothing d) (rest-idle c.machine c.signals c.cards awake)
+    ∙ ap {A = Transition} (λ r. and_then (and_then (uneventful c) (λ d. r)) ending) (order-idle c awake)
+    ∙ ap {A = Scene} (λ d. uneventful d) (rest-idle c.machine c.signals c.cards awake)
 
 module _ (c : Scene) (is : IsIdle c.machine) where
   abbrev pub due : Scene
@@ -90,11 +90,11 @@ module _ (c : Scene) (is : IsIdle c.machine) where
   due-idle : IsIdle due.machine
   due-idle = signals-idle c.machine c.signals c.cards is
 
-  settled-idle : settled c ≡ nothing due
-  unfolding settled
+  settled-idle : interlude c ≡ uneventful due
+  unfolding interlude
   settled-idle =
       ap {A = Transition} (λ r. and_then r with_wait) (orders-idle due due-idle)
-      ∙ ap {A = Transition} (λ r. and_then (nothing due) (λ d. r)) (wait-idle due (idle-rests due.machine due-idle))
+      ∙ ap {A = Transition} (λ r. and_then (uneventful due) (λ d. r)) (wait-idle due (idle-rests due.machine due-idle))
 
   same-not_less : (n : ℕ) → nat_lt n n ≡ false
   same-not_less n = let le : n ≤ n = omega arith in le-ltb n n le
@@ -134,7 +134,7 @@ module _ (c : Scene) (is : IsIdle c.machine) where
   between-idle =
       let m = start c in
       ap {A = Bool} (λ b. (if b then drops m else []) ++ map (happening_at m)
-      ((settled c).happened ++ interrupts_by (interrupt (next_state m)) (next_state m))) no-end
+      ((interlude c).happened ++ interrupts_by (interrupt (next_state m)) (next_state m))) no-end
       ∙ ap {A = Transition} (λ r. map (happening_at m) (r.happened ++ interrupts_by (interrupt r.scene.machine) r.scene.machine)) settled-idle
       ∙ ap {A = Option ℕ} (λ o. map (happening_at m) (interrupts_by o due.machine)) (idle-interrupt due.machine due-idle)
 
@@ -168,7 +168,7 @@ module _ (b : ℕ) (m : Moment) (few : m.scene.machine.done ≤ b) where
   between-few : All (IsFew b) (between m)
   unfolding between
   between-few =
-      let hs = (settled m.scene).happened ++ interrupts_by (interrupt (next_state m)) (next_state m) in
+      let hs = (interlude m.scene).happened ++ interrupts_by (interrupt (next_state m)) (next_state m) in
       All-append (IsFew b) (drops_if_ends m) (map (happening_at m) hs)
       (of_choice (λ (xs : List Timed). All (IsFew b) xs) (ends_segment m) (drops m) [] drops-few (All-nil (IsFew b)))
       (happenings-few hs)
@@ -176,12 +176,12 @@ module _ (b : ℕ) (m : Moment) (few : m.scene.machine.done ≤ b) where
   last-few : (snaps : List ℕ) → All (IsFew b) (last_events m snaps)
   unfolding last_events
   last-few snaps =
-      let came = map (happening_at m) (settled m.scene).happened in
+      let came = map (happening_at m) (interlude m.scene).happened in
       let shows = map (last_snapshot_at m) (ticks_before (m.tick + 1) snaps) in
       let last = happening_at m (Ends (next_state m) (rests (next_state m))) in
       All-append (IsFew b) (drops m ++ came ++ shows) (last ∷ [])
       (All-append (IsFew b) (drops m ++ came) shows
-      (All-append (IsFew b) (drops m) came drops-few (happenings-few (settled m.scene).happened))
+      (All-append (IsFew b) (drops m) came drops-few (happenings-few (interlude m.scene).happened))
       (each-few b (last_snapshot_at m) (ticks_before (m.tick + 1) snaps) (λ x. few)))
       (All-cons (IsFew b) last [] few (All-nil (IsFew b)))
 
@@ -270,7 +270,7 @@ module _ (ds : List ℕ) (n : ℕ) (c : Scene) (idle : IsIdle c.machine) (is : I
     few = few;
     delays = are;
     scene = due-scene c.machine c.signals c.cards is.machine is.cards;
-    settled = refl;
+    interlude = refl;
     going = refl;
     guessed = refl;
     closed = refl;

@@ -6,7 +6,7 @@ use Rattle.std.proofs.lemmas.List.{reverse-append, map-append}
 use Rattle.std.proofs.lemmas.List.Elements.{All-head, All-tail}
 use Rattle.st_state.specs.Machine.{Machine}
 use Rattle.st_exec.specs.Step.{interrupt, rests}
-use Rattle.st_run.specs.Run.{PlainEvent, Ends, settled, interrupts_by}
+use Rattle.st_run.specs.Run.{PlainEvent, Ends, interlude, interrupts_by}
 use Rattle.st_segment.specs.Ahead.{Ahead}
 use Rattle.st_run.specs.Events.{Timed, address_of, drop_of}
 use Rattle.st_run.specs.Moments.{Moment, Standing, next_state, ends_segment, next_moment}
@@ -81,12 +81,12 @@ module _ (m : Moment) where
   tell-taken None s = refl
   tell-taken (Some i) s = refl
 
-  tell-between : (text : Option (List ℕ)) → AreTexts text (settled m.scene).happened
+  tell-between : (text : Option (List ℕ)) → AreTexts text (interlude m.scene).happened
       → told (between m)
       ≡ map tell (whats (record { drops = drops_by (ends_segment m); text = text; taken = interrupt (next_state m) }) (next_state m))
   unfolding between whats
   tell-between text same =
-      let hs = (settled m.scene).happened in
+      let hs = (interlude m.scene).happened in
       let s = next_state m in
       let is = interrupts_by (interrupt s) s in
       let ds : List What = map dropped_told (reverse (drops_by (ends_segment m))) in
@@ -100,7 +100,7 @@ module _ (m : Moment) where
       ∙ ap (λ (xs : List What). ds ++ text_told text ++ xs) (tell-taken (interrupt s) s))
 
   -- where the state behind it has as many done
-  pub told-between : (text : Option (List ℕ)) → AreTexts text (settled m.scene).happened
+  pub told-between : (text : Option (List ℕ)) → AreTexts text (interlude m.scene).happened
       → told (between m)
       ≡ map (at_once m.tick (next_state m))
       (whats (record { drops = drops_by (ends_segment m); text = text; taken = interrupt (next_state m) }) (next_state m))
@@ -109,14 +109,14 @@ module _ (m : Moment) where
       tell-between text same
       ∙ ap (λ (d : ℕ). map (once d m.tick) ws) (sym (settled-done m.scene))
 
-  tell-last : (text : Option (List ℕ)) (snaps : List ℕ) → AreTexts text (settled m.scene).happened
+  tell-last : (text : Option (List ℕ)) (snaps : List ℕ) → AreTexts text (interlude m.scene).happened
       → told (last_events m snaps)
       ≡ map tell (whats (record { drops = map dropped_at m.dropped; text = text; taken = None }) (next_state m))
       ++ (map (λ (x : ℕ). tell (Shown x (next_state m) [])) (ticks_before (m.tick + 1) snaps)
       ++ tell (Ended (rests (next_state m)) (next_state m)) ∷ [])
   unfolding last_events whats told
   tell-last text snaps same =
-      let hs = (settled m.scene).happened in
+      let hs = (interlude m.scene).happened in
       let s = next_state m in
       let due = ticks_before (m.tick + 1) snaps in
       let shows = map (last_snapshot_at m) due in
@@ -142,7 +142,7 @@ module _ (m : Moment) where
       append-none [] = refl
       append-none (x ∷ xs) = ap (λ (ys : List What). x ∷ ys) (append-none xs)
 
-  pub told-last : (text : Option (List ℕ)) (snaps : List ℕ) → AreTexts text (settled m.scene).happened
+  pub told-last : (text : Option (List ℕ)) (snaps : List ℕ) → AreTexts text (interlude m.scene).happened
       → told (last_events m snaps)
       ≡ map (at_once m.tick (next_state m)) (whats (record { drops = map dropped_at m.dropped; text = text; taken = None }) (next_state m))
       ++ told_at_end (rests (next_state m)) m.tick snaps (next_state m)

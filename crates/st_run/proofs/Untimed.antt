@@ -2,7 +2,7 @@
 use Rattle.std.specs.Prelude.{map, reverse}
 use Rattle.std.proofs.Common.{◌≡◌, ℕ, zero, suc, ◌+◌, Bool, true, false, if◌then◌else◌, List, [], ◌∷◌, ◌++◌, refl, sym, ◌∙◌, ap, append_assoc, append-nil}
 use Rattle.st_exec.specs.Step.{step, rests, address, interrupt}
-use Rattle.st_run.specs.Run.{PlainEvent, Executes, Ends, settled, interrupts_by, Execution, ended, stepped, happens, goes_on, run}
+use Rattle.st_run.specs.Run.{PlainEvent, Executes, Ends, interlude, interrupts_by, Execution, ended, stepped, happens, goes_on, run}
 use Rattle.st_run.specs.Events.{Timed, plain, untimed, drop_of, snapshot}
 use Rattle.st_run.specs.Moments.{Moment, Standing, next_scene, next_state, ends_segment, standing, next_moment}
 use Rattle.st_run.specs.TimedRun.{at, ticks_before, ticks_from, snapshot_at, last_snapshot_at, drops, drops_if_ends, happening_at, between, completion, until_done, last_events, timed_from}
@@ -44,10 +44,10 @@ snapshots-none ds n p xs = none-of (snapshot_at ds n p) xs (λ x. refl)
 -- ---- a turn
 
 between-plain : (m : Moment)
-    → untimed (between m) ≡ (settled m.scene).happened ++ interrupts_by (interrupt (next_state m)) (next_state m)
+    → untimed (between m) ≡ (interlude m.scene).happened ++ interrupts_by (interrupt (next_state m)) (next_state m)
 unfolding between
 between-plain m =
-    let hs = (settled m.scene).happened ++ interrupts_by (interrupt (next_state m)) (next_state m) in
+    let hs = (interlude m.scene).happened ++ interrupts_by (interrupt (next_state m)) (next_state m) in
     untimed-append (drops_if_ends m) (map (happening_at m) hs)
     ∙ ap (λ xs. xs ++ untimed (map (happening_at m) hs)) (drops-none_if (ends_segment m) m)
     ∙ happenings m hs
@@ -62,9 +62,9 @@ until_done-plain ds n p snaps =
     ∙ ap (λ xs. xs ++ untimed last) (snapshots-none ds n p due)
 
 turn-plain : (ds : List ℕ) (n : ℕ) (m : Moment) (snaps : List ℕ)
-    → untimed (between m ++ until_done ds n (standing m) snaps) ≡ (settled m.scene).happened ++ happens (next_state m)
+    → untimed (between m ++ until_done ds n (standing m) snaps) ≡ (interlude m.scene).happened ++ happens (next_state m)
 turn-plain ds n m snaps =
-    let came = (settled m.scene).happened in
+    let came = (interlude m.scene).happened in
     let s = next_state m in
     let taking = interrupts_by (interrupt s) s in
     let done = Executes (step s) (address s) ∷ [] in
@@ -73,10 +73,10 @@ turn-plain ds n m snaps =
     ∙ ap (λ xs. came ++ taking ++ xs) (until_done-plain ds n (standing m) snaps)
     ∙ append_assoc came taking done
 
-last_events-plain : (m : Moment) (snaps : List ℕ) → untimed (last_events m snaps) ≡ (ended (settled m.scene)).happened
+last_events-plain : (m : Moment) (snaps : List ℕ) → untimed (last_events m snaps) ≡ (ended (interlude m.scene)).happened
 unfolding last_events untimed
 last_events-plain m snaps =
-    let came = map (happening_at m) (settled m.scene).happened in
+    let came = map (happening_at m) (interlude m.scene).happened in
     let shows = map (last_snapshot_at m) (ticks_before (m.tick + 1) snaps) in
     let last = happening_at m (Ends (next_state m) (rests (next_state m))) ∷ [] in
     untimed-append (drops m ++ came ++ shows) last
@@ -86,7 +86,7 @@ last_events-plain m snaps =
     ∙ append-nil (untimed (drops m ++ came))
     ∙ untimed-append (drops m) came
     ∙ ap (λ xs. xs ++ untimed came) (drops-none m)
-    ∙ happenings m (settled m.scene).happened)
+    ∙ happenings m (interlude m.scene).happened)
 
 -- ---- the run
 
@@ -102,10 +102,10 @@ module _ (ds : List ℕ) (n left : ℕ) (m : Moment) (snaps : List ℕ) where
 
   turns-plain : (b : Bool) → untimed rest ≡ later.happened
       → untimed (if b then last_events m snaps else between m ++ until_done ds n (standing m) snaps ++ rest)
-      ≡ (if b then ended (settled m.scene) else goes_on (settled m.scene) later).happened
+      ≡ (if b then ended (interlude m.scene) else goes_on (interlude m.scene) later).happened
   turns-plain true same = last_events-plain m snaps
   turns-plain false same =
-      let came = (settled m.scene).happened in
+      let came = (interlude m.scene).happened in
       untimed-append (between m ++ until_done ds n (standing m) snaps) rest
       ∙ ap (λ xs. xs ++ untimed rest) (turn-plain ds n m snaps)
       ∙ ap (λ xs. came ++ happens (next_state m) ++ xs) same

@@ -1,7 +1,7 @@
 -- What was decided between two entries.
 use Rattle.std.specs.Prelude.{ℕ, ◌≡◌, ◌≢◌, true, false, None, option_map}
 use Rattle.st_exec.specs.Step.{rests}
-use Rattle.st_run.specs.Run.{settled}
+use Rattle.st_run.specs.Run.{interlude}
 use Rattle.st_run.specs.Moments.{Moment, next_state}
 use Rattle.st_run.specs.Together.{Together, AreTexts, GoesOn, Stops}
 use Rattle.st_run.specs.declared.turn.Turn.{Turn}
@@ -17,7 +17,7 @@ IsWay Over left m d t = ⊥
 
 -- what was decided is what the moment gives: the text that is printed, and how the run goes on
 pub record IsDecided (left : ℕ) (m : Moment) (d : Decided) (t : Together) : Type 0 where
-  pub text : AreTexts (option_map (λ x. x.bytes) d.text) (settled m.scene).happened
+  pub text : AreTexts (option_map (λ x. x.bytes) d.text) (interlude m.scene).happened
   pub way : IsWay d.turn left m d t
 
 -- where nothing comes and the segment goes on

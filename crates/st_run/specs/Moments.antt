@@ -5,7 +5,7 @@ use Rattle.st_state.specs.Machine.{Machine}
 use Rattle.st_prep.specs.Plan.{plan}
 use Rattle.st_exec.specs.Completion.{guess, is_missed}
 use Rattle.st_exec.specs.Step.{interrupt, rests}
-use Rattle.st_run.specs.Run.{Scene, with_due_signals, with_due_orders, settled, stepped}
+use Rattle.st_run.specs.Run.{Scene, with_due_signals, with_due_orders, interlude, stepped}
 use Rattle.st_banks.specs.declared.answers.LastAnswers.{LastAnswers}
 use Rattle.st_banks.specs.declared.answers.TheConstants.{BANKS}
 use Rattle.st_rows.specs.Rows.{opening, row, after}
@@ -54,7 +54,7 @@ start c = record {
 
 -- the scene before the next entry: signals, orders and waits are over
 abbrev pub next_scene : Moment → Scene
-next_scene m = (settled m.scene).scene
+next_scene m = (interlude m.scene).scene
 
 -- the state before the next entry
 abbrev pub next_state : Moment → Machine

@@ -51,12 +51,12 @@ cards_after [] = []
 cards_after (card ∷ cards) = cards
 
 -- a scene where nothing happens
-abbrev pub nothing : Scene → Transition
-nothing c = record { scene = c; happened = [] }
+abbrev pub uneventful : Scene → Transition
+uneventful c = record { scene = c; happened = [] }
 
 -- an order of the reader takes effect
 abbrev pub with_reader : Option Order → Scene → Transition
-with_reader None c = nothing c
+with_reader None c = uneventful c
 with_reader (Some order) c = record {
   scene = record c {
     machine = read_in c.machine order.word (first_card c.cards);
@@ -67,7 +67,7 @@ with_reader (Some order) c = record {
 
 -- an order of the printer takes effect: eight words are printed, and EOP is turned on
 abbrev pub with_printer : Option Order → Scene → Transition
-with_printer None c = nothing c
+with_printer None c = uneventful c
 with_printer (Some order) c = record {
   scene = record c { machine = printed_out c.machine };
   happened = Prints c.machine (words_from c.machine order.word 8) ∷ [];
@@ -89,13 +89,13 @@ with_due_orders c =
 
 -- the order of this device takes effect
 abbrev pub with_device : Option Device → Scene → Transition
-with_device None c = nothing c
+with_device None c = uneventful c
 with_device (Some Reader) c = with_reader c.machine.reader c
 with_device (Some Printer) c = with_printer c.machine.printer c
 
 -- the order that is given takes effect where the machine rests; the reader's where both are due at once
 unfoldable pub with_order_at_rest : Scene → Transition
-with_order_at_rest c = if rests c.machine then with_device (next_device c.machine) c else nothing c
+with_order_at_rest c = if rests c.machine then with_device (next_device c.machine) c else uneventful c
 
 -- signals come one at a time as long as the machine rests
 abbrev pub with_signals_at_rest : Machine → List Signal → List (List ℕ) → Scene
@@ -108,11 +108,11 @@ with_signals_at_rest s (x ∷ xs) cards =
 unfoldable pub with_wait : Scene → Transition
 with_wait c =
     and_then (and_then (with_order_at_rest c) with_order_at_rest)
-    (λ d. nothing (with_signals_at_rest d.machine d.signals d.cards))
+    (λ d. uneventful (with_signals_at_rest d.machine d.signals d.cards))
 
 -- what comes between two instructions: the due signals, the due orders, and what ends a wait
-unfoldable pub settled : Scene → Transition
-settled c = and_then (with_due_orders (with_due_signals c.machine c.signals c.cards)) with_wait
+unfoldable pub interlude : Scene → Transition
+interlude c = and_then (with_due_orders (with_due_signals c.machine c.signals c.cards)) with_wait
 
 -- a run to its end: what happened, and the last state
 pub record Execution : Type 0 where
@@ -148,7 +148,7 @@ goes_on r rest = record {
 
 -- the run from a scene on, in which so many instructions may still be done; a rest is tried before the budget
 unfoldable pub run : ℕ → Scene → Execution
-run zero c = ended (settled c)
+run zero c = ended (interlude c)
 run (suc left) c =
-    let r = settled c in
+    let r = interlude c in
     if rests r.scene.machine then ended r else goes_on r (run left (stepped r.scene))

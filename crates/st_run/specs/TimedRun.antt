@@ -3,7 +3,7 @@
 use Rattle.std.specs.Prelude.{ℕ, zero, suc, ◌+◌, nat_lt, if◌then◌else◌, List, [], ◌∷◌, ◌++◌, map, reverse}
 use Rattle.st_state.specs.Machine.{Machine}
 use Rattle.st_exec.specs.Step.{rests, address, interrupt}
-use Rattle.st_run.specs.Run.{Scene, PlainEvent, Ends, settled, interrupts_by}
+use Rattle.st_run.specs.Run.{Scene, PlainEvent, Ends, interlude, interrupts_by}
 use Rattle.st_segment.specs.Ahead.{prepared_before}
 use Rattle.st_run.specs.Events.{Event, Timed, Completes, Shows, Happens, drop_of, snapshot}
 use Rattle.st_run.specs.Moments.{Moment, Standing, start, next_state, ends_segment, standing, taken, next_row, entries_ahead, next_moment}
@@ -43,7 +43,7 @@ unfoldable pub between : Moment → List Timed
 between m =
     drops_if_ends m
     ++ map (happening_at m)
-    ((settled m.scene).happened ++ interrupts_by (interrupt (next_state m)) (next_state m))
+    ((interlude m.scene).happened ++ interrupts_by (interrupt (next_state m)) (next_state m))
 
 -- ---- events until the next entry is done
 
@@ -75,7 +75,7 @@ last_snapshot_at m tick = at m.tick m.scene.machine (Shows tick (next_state m) [
 unfoldable pub last_events : Moment → List ℕ → List Timed
 last_events m snaps =
     drops m
-    ++ map (happening_at m) (settled m.scene).happened
+    ++ map (happening_at m) (interlude m.scene).happened
     ++ map (last_snapshot_at m) (ticks_before (m.tick + 1) snaps)
     ++ happening_at m (Ends (next_state m) (rests (next_state m))) ∷ []
 

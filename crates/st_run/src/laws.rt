@@ -2,7 +2,7 @@
 ghost use Rattle.std.specs.Prelude.{◌≡◌, ℕ, ◌+◌, ◌*◌, ◌<◌, ◌≤◌, true, false, List, [], length, All, Option, None, IfSome};
 ghost use Rattle.st_state.specs.Machine.{Machine};
 ghost use Rattle.st_prep.specs.Plan.{plan};
-ghost use Rattle.st_run.specs.Run.{Scene, settled, run};
+ghost use Rattle.st_run.specs.Run.{Scene, interlude, run};
 ghost use Rattle.st_rows.specs.Ranges.{AreDelays};
 ghost use Rattle.st_segment.specs.Ahead.{ahead, prepared_before};
 ghost use Rattle.st_run.specs.Events.{Timed, Shows, snapshot, untimed};
@@ -63,7 +63,7 @@ pub fn nothing_is_ahead_behind_an_end()
 
 /// What comes between two entries is one print at most.
 pub fn prints_come_one_at_a_time()
-    ensures { (c : Scene) → length (settled c).happened ≤ 1 }
+    ensures { (c : Scene) → length (interlude c).happened ≤ 1 }
 {}
 
 /// What runs behind the guess of an entry runs ahead of the state that it leaves, where the guess was right;

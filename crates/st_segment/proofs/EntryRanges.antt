@@ -9,7 +9,7 @@ use Rattle.st_state.specs.Machine.{Machine, IsMachine, word}
 use Rattle.st_prep.specs.Fetch.{index_words, place_of, fetched}
 use Rattle.st_prep.specs.Plan.{needs, sight, plan}
 use Rattle.st_prep.specs.Ranges.{IsPrepared, IsNeeds}
-use Rattle.st_prep.specs.Reading.{count_of, words_read, own_words}
+use Rattle.st_prep.specs.Reading.{index_side_words, words_read, own_words}
 use Rattle.st_prep.proofs.Choices.{of_choice}
 use Rattle.st_prep.proofs.CountLemmas.{few-plan}
 use Rattle.st_prep.proofs.PlanLemmas.{plan-prepared}
@@ -158,7 +158,7 @@ side-one : (w : ℕ) (b : Bool) → side_count (if b then Some w else None) ≤ 
 side-one w true = omega arith
 side-one w false = omega arith
 
-side-few : (q : Option ℕ) → side_count (side_to_read q) ≤ count_of q
+side-few : (q : Option ℕ) → side_count (side_to_read q) ≤ index_side_words q
 unfolding side_to_read
 side-few None = omega arith
 side-few (Some w) = side-one w (nat_le 32 w)

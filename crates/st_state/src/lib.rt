@@ -85,9 +85,9 @@ impl Model for State {
 impl State {
     ghost use Rattle.st_state.specs.Machine.{IsMachine, opening, placed, stored, word as word_of};
     ghost use Rattle.st_bits.specs.Bits.{bits as bits_of};
-    ghost use Rattle.st_state.specs.Interrupts.{applied, signalled, pending as first_pending};
+    ghost use Rattle.st_state.specs.Interrupts.{applied, signalled, pending as pending_of};
     ghost use Rattle.st_state.specs.Boundary.{forbidden, is_protected};
-    ghost use Rattle.st_state.specs.Orders.{due as first_due, next_device as next_of};
+    ghost use Rattle.st_state.specs.Orders.{due as due_of, next_device as next_device_of};
 
     /// The state at the start: storage is the image, no register but the mask has a bit that is one, and the
     /// counter is the half-word address `start`.
@@ -196,7 +196,7 @@ impl State {
 
     /// The leftmost indicator that is on and whose mask bit is one, 0 to 63; None where there is none.
     pub fn pending(&self) -> Option<u8>
-        ensures value { result ≡ first_pending self.now }
+        ensures value { result ≡ pending_of self.now }
         ensures bound { IfSome result (λ i. i < 64) }
     {
         leftmost(self.word(INDICATORS), self.word(MASK))
@@ -222,7 +222,7 @@ impl State {
 
     /// The device whose order takes effect first of those that are due; None where none is due.
     pub fn due(&self) -> Option<Device>
-        ensures { result ≡ first_due self.now }
+        ensures { result ≡ due_of self.now }
     {
         if is_due(self.reader, self.done) {
             Some(Device::Reader)
@@ -235,7 +235,7 @@ impl State {
 
     /// The device whose order takes effect first while the machine waits; None where no order is given.
     pub fn next_device(&self) -> Option<Device>
-        ensures { result ≡ next_of self.now }
+        ensures { result ≡ next_device_of self.now }
     {
         match (self.reader, self.printer) {
             (None, None) => None,

@@ -8,7 +8,7 @@ use Rattle.st_state.specs.Machine.{Machine}
 use Rattle.st_prep.specs.Plan.{plan}
 use Rattle.st_exec.specs.Completion.{is_missed}
 use Rattle.st_exec.specs.Step.{interrupt, rests}
-use Rattle.st_run.specs.Run.{Scene, with_due_signals, with_due_orders, settled, stepped}
+use Rattle.st_run.specs.Run.{Scene, with_due_signals, with_due_orders, interlude, stepped}
 use Rattle.st_rows.specs.Entries.{is_among}
 use Rattle.st_rows.specs.Levels.{AreEqual, IsUnwritten, IsRunUnwritten, IsCalm}
 use Rattle.st_rows.specs.declared.entry.Run.{Run}
@@ -123,8 +123,8 @@ calm-entry earlier s h =
 -- ---- what comes between two entries
 
 pub record IsQuiet (c : Scene) : Type 0 where
-  pub no_card : nat_lt (length (settled c).scene.cards) (length c.cards) ≡ false
-  pub no_wait : rests (settled c).scene.machine ≡ false
+  pub no_card : nat_lt (length (interlude c).scene.cards) (length c.cards) ≡ false
+  pub no_wait : rests (interlude c).scene.machine ≡ false
       → rests (with_due_orders (with_due_signals c.machine c.signals c.cards)).scene.machine ≡ false
 
 awake : (after before : Bool) → (after || not before) ≡ true → after ≡ false → before ≡ false
@@ -144,21 +144,21 @@ quiet-is c h =
 
 pub record GoesOn (earlier : List Runs) (left : ℕ) (c : Scene) : Type 0 where
   pub quiet : IsQuiet c
-  pub calm : IsCalmEntry earlier (settled c).scene.machine
+  pub calm : IsCalmEntry earlier (interlude c).scene.machine
   pub rest :
-      let s = (settled c).scene.machine in
-      is_calm_behind ((entry (interrupt s) s).writes ∷ earlier) left (stepped (settled c).scene) ≡ true
+      let s = (interlude c).scene.machine in
+      is_calm_behind ((entry (interrupt s) s).writes ∷ earlier) left (stepped (interlude c).scene) ≡ true
 
 goes_on : (rest : Bool) (entry later : Bool) → (rest || entry && later) ≡ true → rest ≡ false → (entry && later) ≡ true
 goes_on true entry later h going = absurd (cc)
 goes_on false entry later h going = h
 
 pub calm-goes_on : (earlier : List Runs) (left : ℕ) (c : Scene) → is_calm_behind earlier (suc left) c ≡ true
-    → rests (settled c).scene.machine ≡ false → GoesOn earlier left c
+    → rests (interlude c).scene.machine ≡ false → GoesOn earlier left c
 unfolding is_calm_behind entry
 calm-goes_on earlier left c h going =
-    let s = (settled c).scene.machine in
-    let later = is_calm_behind (next_writes s ∷ earlier) left (stepped (settled c).scene) in
+    let s = (interlude c).scene.machine in
+    let later = is_calm_behind (next_writes s ∷ earlier) left (stepped (interlude c).scene) in
     let parts = and_parts (is_quiet c) (rests s || is_calm_entry earlier s && later) h in
     let both = and_parts (is_calm_entry earlier s) later (goes_on (rests s) (is_calm_entry earlier s) later parts.1 going) in
     record {

@@ -6,7 +6,7 @@ use Rattle.st_state.specs.Machine.{Machine}
 use Rattle.st_prep.specs.Plan.{plan}
 use Rattle.st_exec.specs.Completion.{is_missed}
 use Rattle.st_exec.specs.Step.{interrupt, step, rests, IsStep}
-use Rattle.st_run.specs.Run.{Signal, Scene, settled, stepped, run}
+use Rattle.st_run.specs.Run.{Signal, Scene, interlude, stepped, run}
 use Rattle.st_exec.specs.Trails.{IsTrail, CanBePutBack, IsKept}
 use Rattle.st_exec.specs.declared.kept.Trail.{Trail}
 use Rattle.st_exec.specs.declared.step.Step.{Step}
@@ -56,7 +56,7 @@ pub at-start : (s : Machine) (xs : List Signal) (left : ℕ) (marks : List Bool)
 at-start s xs left marks are few = record { earlier = []; marks = are; calm = refl; done = refl; few = few }
 
 -- at its end
-calm-ends : (earlier : List Runs) (left : ℕ) (c : Scene) → (left ≡ 0) ⊎ (rests (settled c).scene.machine ≡ true)
+calm-ends : (earlier : List Runs) (left : ℕ) (c : Scene) → (left ≡ 0) ⊎ (rests (interlude c).scene.machine ≡ true)
     → is_calm_behind earlier left c ≡ is_quiet c
 unfolding is_calm_behind
 calm-ends earlier zero c end = refl
@@ -67,7 +67,7 @@ calm-ends earlier (suc left) c (inr resting) = rw resting (and-right (is_quiet c
     and-right true = refl
     and-right false = refl
 
-done-ends : (left : ℕ) (c : Scene) → (left ≡ 0) ⊎ (rests (settled c).scene.machine ≡ true) → (run left c).last.done ≡ (settled c).scene.machine.done
+done-ends : (left : ℕ) (c : Scene) → (left ≡ 0) ⊎ (rests (interlude c).scene.machine ≡ true) → (run left c).last.done ≡ (interlude c).scene.machine.done
 done-ends left c (inl none) = ap (λ r. r.last.done) (run-budget left c none)
 done-ends left c (inr resting) = ap (λ r. r.last.done) (run-rests left c resting)
 
@@ -76,13 +76,13 @@ abbrev calm_on : List Runs → ℕ → Scene → Bool
 calm_on earlier left d =
     is_calm_entry earlier d.machine && is_calm_behind (next_writes d.machine ∷ earlier) left (stepped d)
 
-calm-goes_on : (earlier : List Runs) (left : ℕ) (c : Scene) → left ≢ 0 → rests (settled c).scene.machine ≡ false
-    → is_calm_behind earlier left c ≡ (is_quiet c && calm_on earlier (left - 1) (settled c).scene)
+calm-goes_on : (earlier : List Runs) (left : ℕ) (c : Scene) → left ≢ 0 → rests (interlude c).scene.machine ≡ false
+    → is_calm_behind earlier left c ≡ (is_quiet c && calm_on earlier (left - 1) (interlude c).scene)
 unfolding is_calm_behind
 calm-goes_on earlier zero c some going = absurd (some refl)
 calm-goes_on earlier (suc left) c some going =
     let one : left ≡ suc left - 1 = omega arith in
-    rw going (ap (λ k. is_quiet c && calm_on earlier k (settled c).scene) one)
+    rw going (ap (λ k. is_quiet c && calm_on earlier k (interlude c).scene) one)
 
 regroup : (a b c d : Bool) → (((a && b) && c) && d) ≡ (a && (b && (c && d)))
 regroup true true c d = refl
@@ -90,10 +90,10 @@ regroup true false c d = refl
 regroup false b c d = refl
 
 module _ (whole : Bool) (last : ℕ) (calm quiet : Bool) (left : ℕ) (s t : Machine) (xs ys : List Signal) (marks : List Bool)
-    (is : IsSoFar whole last calm left s xs marks) (came : (settled (without_cards s xs)).scene ≡ without_cards t ys)
+    (is : IsSoFar whole last calm left s xs marks) (came : (interlude (without_cards s xs)).scene ≡ without_cards t ys)
     (still : quiet ≡ is_quiet (without_cards s xs)) where
   module _ (end : (left ≡ 0) ⊎ (rests t ≡ true)) where
-    at_end : (left ≡ 0) ⊎ (rests (settled (without_cards s xs)).scene.machine ≡ true)
+    at_end : (left ≡ 0) ⊎ (rests (interlude (without_cards s xs)).scene.machine ≡ true)
     at_end = subst (λ m. (left ≡ 0) ⊎ (rests m ≡ true)) (ap (λ c. c.machine) (sym came)) end
 
     pub ends-calm : (calm && quiet) ≡ whole
@@ -104,7 +104,7 @@ module _ (whole : Bool) (last : ℕ) (calm quiet : Bool) (left : ℕ) (s t : Mac
 
   -- it goes on by an entry
   module _ (some : left ≢ 0) (going : rests t ≡ false) where
-    goes_on : rests (settled (without_cards s xs)).scene.machine ≡ false
+    goes_on : rests (interlude (without_cards s xs)).scene.machine ≡ false
     goes_on = ap (λ c. rests c.machine) came ∙ going
 
     pub few-now : t.done + left ≤ MOST_INSTRUCTIONS
@@ -120,7 +120,7 @@ module _ (whole : Bool) (last : ℕ) (calm quiet : Bool) (left : ℕ) (s t : Mac
         let e = is.earlier in
         let noted = kept e is.marks in
         let later = is_calm_behind (next_writes t ∷ e) (left - 1) (without_cards u ys) in
-        let on : calm_on e (left - 1) (settled c).scene ≡ (entry && later) =
+        let on : calm_on e (left - 1) (interlude c).scene ≡ (entry && later) =
         ap (calm_on e (left - 1)) came
         ∙ ap (λ b. b && is_calm_behind (next_writes t ∷ e) (left - 1) (without_cards (step t) ys)) (sym noted.1)
         ∙ ap (λ m. entry && is_calm_behind (next_writes t ∷ e) (left - 1) (without_cards m ys)) (sym made) in

@@ -2,7 +2,7 @@
 use Rattle.std.proofs.Common.{◌≡◌, ℕ, zero, suc, ◌-◌, ◌≤◌, inl, inr, true, false, List, [], ◌∷◌, ◌++◌, length, refl, ◌∙◌, ap, arith}
 use Rattle.std.proofs.lemmas.Bool.{cases_Bool, and_parts}
 use Rattle.st_exec.specs.Step.{interrupt, rests}
-use Rattle.st_run.specs.Run.{Scene, settled, stepped}
+use Rattle.st_run.specs.Run.{Scene, interlude, stepped}
 use Rattle.st_banks.specs.declared.answers.LastAnswers.{LastAnswers}
 use Rattle.st_rows.specs.Levels.{AreEqual, IsFrontSooner, AreInOrder, AreCovered}
 use Rattle.st_rows.specs.Rows.{opening, row, after}
@@ -48,16 +48,16 @@ last-goes_on ds n left v m h =
 
 -- ---- one entry
 
-module _ (earlier : List Runs) (left : ℕ) (c : Scene) (going : rests (settled c).scene.machine ≡ false) (on : GoesOn earlier left c) where
+module _ (earlier : List Runs) (left : ℕ) (c : Scene) (going : rests (interlude c).scene.machine ≡ false) (on : GoesOn earlier left c) where
   stays : (tick : ℕ) (f : Front) (dropped : List Ahead) (banks : LastAnswers) → next_front (moment c tick f dropped banks) ≡ f
   unfolding next_front ends_segment
   stays tick f dropped banks = rw (on.quiet.no_card, on.quiet.no_wait going, on.calm.none) refl
 
   next-is : (ds : List ℕ) (n tick : ℕ) (f : Front) (dropped : List Ahead) (banks : LastAnswers)
-      → let s = (settled c).scene.machine in
+      → let s = (interlude c).scene.machine in
       let e = entry (interrupt s) s in
       let next = next_moment ds n (standing (moment c tick f dropped banks)) in
-      next ≡ moment (stepped (settled c).scene) (row ds n f e).c (after ds n f e) next.dropped next.banks
+      next ≡ moment (stepped (interlude c).scene) (row ds n f e).c (after ds n f e) next.dropped next.banks
   unfolding next_moment next_row
   next-is ds n tick f dropped banks = rw (stays tick f dropped banks, on.calm.right) refl
 
@@ -72,10 +72,10 @@ module _ (d : ℕ) (ds : List ℕ) (are : AreEqual d ds) (m n : ℕ) (more : n �
   calm-sooner (suc left) c earlier t u f g xs ys b e low is order covered calm v w =
       let x = moment c t f xs b in
       let y = moment c u g ys e in
-      elim (cases_Bool (rests (settled c).scene.machine)) [
+      elim (cases_Bool (rests (interlude c).scene.machine)) [
         | inl at_rest ↦ omega (arith, last-ends ds m (suc left) v x at_rest, last-ends ds n (suc left) w y at_rest)
         | inr going ↦
-            let s = (settled c).scene.machine in
+            let s = (interlude c).scene.machine in
             let i = entry (interrupt s) s in
             let on = calm-goes_on earlier left c calm going in
             let behind = calm-behind f.past earlier i covered on.calm.calm in
@@ -85,7 +85,7 @@ module _ (d : ℕ) (ds : List ℕ) (are : AreEqual d ds) (m n : ℕ) (more : n �
             let first = last-goes_on ds m left v x going ∙ ap (λ k. last_tick next.tick (timed_from ds m left k [])) (next-is earlier left c going on ds m t f xs b) in
             let second = last-goes_on ds n left w y going ∙ ap (λ k. last_tick other.tick (timed_from ds n left k [])) (next-is earlier left c going on ds n u g ys e) in
             let rest =
-            calm-sooner left (stepped (settled c).scene) (i.writes ∷ earlier) (row ds m f i).c (row ds n g i).c (after ds m f i) (after ds n g i)
+            calm-sooner left (stepped (interlude c).scene) (i.writes ∷ earlier) (row ds m f i).c (row ds n g i).c (after ds m f i) (after ds n g i)
             next.dropped other.dropped next.banks other.banks done (after-sooner d ds are m n more f g i is order behind) (order-after ds n g i order)
             (covered-after ds m f i earlier covered) on.rest next.tick other.tick in
             omega (arith, first, second, rest)

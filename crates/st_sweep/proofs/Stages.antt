@@ -5,7 +5,7 @@ use Rattle.st_state.specs.Machine.{Machine}
 use Rattle.st_state.specs.Orders.{next_device}
 use Rattle.st_state.specs.declared.devices.Device.{Device}
 use Rattle.st_exec.specs.Step.{rests}
-use Rattle.st_run.specs.Run.{Signal, with_due_signals, with_reader, with_printer, if_due, with_due_orders, with_device, with_order_at_rest, with_signals_at_rest, with_wait, settled}
+use Rattle.st_run.specs.Run.{Signal, with_due_signals, with_reader, with_printer, if_due, with_due_orders, with_device, with_order_at_rest, with_signals_at_rest, with_wait, interlude}
 use Rattle.st_sweep.specs.Calm.{is_quiet}
 use Rattle.st_sweep.specs.Sweep.{without_cards}
 
@@ -31,8 +31,8 @@ module _ (s t u v : Machine) (xs ys zs : List Signal) where
     due : (with_due_orders (with_due_signals s xs [])).scene ≡ without_cards u ys
     due = ap (λ d. (with_due_orders d).scene) first ∙ second
 
-    pub settled-stages : (settled (without_cards s xs)).scene ≡ without_cards v zs
-    unfolding settled
+    pub settled-stages : (interlude (without_cards s xs)).scene ≡ without_cards v zs
+    unfolding interlude
     settled-stages = ap (λ d. (with_wait d).scene) due ∙ third
 
     pub quiet-stages : is_quiet (without_cards s xs) ≡ (rests v || not (rests u))

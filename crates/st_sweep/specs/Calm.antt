@@ -8,7 +8,7 @@ use Rattle.st_prep.specs.Plan.{needs, sight, plan}
 use Rattle.st_prep.specs.declared.entries.Words.{Words}
 use Rattle.st_exec.specs.Completion.{is_missed}
 use Rattle.st_exec.specs.Step.{interrupt, rests}
-use Rattle.st_run.specs.Run.{Scene, with_due_signals, with_due_orders, settled, stepped}
+use Rattle.st_run.specs.Run.{Scene, with_due_signals, with_due_orders, interlude, stepped}
 use Rattle.st_rows.specs.Entries.{is_among}
 use Rattle.st_rows.specs.declared.entry.Runs.{Runs}
 use Rattle.st_segment.specs.Entries.{words_to_write}
@@ -64,7 +64,7 @@ is_calm_entry earlier s =
 -- no card is put into storage, and where the machine waits, nothing comes that ends the wait
 unfoldable pub is_quiet : Scene → Bool
 is_quiet c =
-    let after = (settled c).scene in
+    let after = (interlude c).scene in
     not (nat_lt (length after.cards) (length c.cards))
     && (rests after.machine
     || not (rests (with_due_orders (with_due_signals c.machine c.signals c.cards)).scene.machine))
@@ -75,10 +75,10 @@ is_quiet c =
 unfoldable pub is_calm_behind : List Runs → ℕ → Scene → Bool
 is_calm_behind earlier zero c = is_quiet c
 is_calm_behind earlier (suc left) c =
-    let s = (settled c).scene.machine in
+    let s = (interlude c).scene.machine in
     is_quiet c
     && (rests s
-    || is_calm_entry earlier s && is_calm_behind (next_writes s ∷ earlier) left (stepped (settled c).scene))
+    || is_calm_entry earlier s && is_calm_behind (next_writes s ∷ earlier) left (stepped (interlude c).scene))
 
 -- the whole run of a scene, with these delays
 abbrev pub is_calm : List ℕ → ℕ → Scene → Bool

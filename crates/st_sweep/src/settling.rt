@@ -2,7 +2,7 @@
 ghost use Rattle.std.specs.Prelude.{◌≡◌, ◌||◌, not, List};
 ghost use Rattle.std.specs.List.{AllPass};
 ghost use Rattle.st_card.specs.Limits.{is_signal};
-ghost use Rattle.st_run.specs.Run.{Signal as SignalOf, with_reader, with_printer, if_due, with_due_orders, with_order_at_rest, with_wait, settled};
+ghost use Rattle.st_run.specs.Run.{Signal as SignalOf, with_reader, with_printer, if_due, with_due_orders, with_order_at_rest, with_wait, interlude};
 ghost use Rattle.st_run.specs.Together.{signals_of};
 ghost use Rattle.st_sweep.specs.Calm.{is_quiet};
 ghost use Rattle.st_sweep.specs.Sweep.{without_cards};
@@ -112,7 +112,7 @@ fn is_kept(before: bool, after: bool) -> bool
 pub(crate) fn settle<'a>(state: &mut State, signals: &'a [Signal]) -> Settled<'a>
     requires { AllPass is_signal signals.now }
     ensures rest { AllPass is_signal result.signals.now }
-    ensures came { (settled (without_cards state.old (signals_of signals.now))).scene
+    ensures came { (interlude (without_cards state.old (signals_of signals.now))).scene
         ≡ without_cards state.new (signals_of result.signals.now) }
     ensures quiet { result.quiet ≡ is_quiet (without_cards state.old (signals_of signals.now)) }
 {

@@ -14,7 +14,7 @@ use Rattle.st_exec.specs.Step.{rests, IsStep}
 use Rattle.st_exec.specs.declared.step.Step.{Step}
 use Rattle.st_exec.specs.declared.step.Step.TheVariants.{Plain, Interrupt, Waits}
 use Rattle.st_exec.specs.Transfer.{all_stored, read_in, printed_out}
-use Rattle.st_run.specs.Run.{Signal, Scene, with_due_signals, with_signals_at_rest, with_reader, with_printer, if_due, first_card, cards_after, with_due_orders, with_device, with_order_at_rest, with_wait, settled, nothing}
+use Rattle.st_run.specs.Run.{Signal, Scene, with_due_signals, with_signals_at_rest, with_reader, with_printer, if_due, first_card, cards_after, with_due_orders, with_device, with_order_at_rest, with_wait, interlude, uneventful}
 use Rattle.st_exec.proofs.StepLemmas.{step_made}
 use Rattle.st_back.specs.declared.kept.Kept.{Kept}
 use Rattle.st_back.specs.Between.{AreAlikeAbove}
@@ -179,20 +179,20 @@ unfolding with_wait
 wait_scenes a b c d h k l =
     l ∙ (ap (λ (e : Scene). with_signals_at_rest e.machine e.signals e.cards) (k ∙ ap (λ (e : Scene). (with_order_at_rest e).scene) h))
 
-pub settled_scenes : (a b c d : Scene) → b ≡ with_due_signals a.machine a.signals a.cards → c ≡ (with_due_orders b).scene → d ≡ (with_wait c).scene → d ≡ (settled a).scene
-unfolding settled
+pub settled_scenes : (a b c d : Scene) → b ≡ with_due_signals a.machine a.signals a.cards → c ≡ (with_due_orders b).scene → d ≡ (with_wait c).scene → d ≡ (interlude a).scene
+unfolding interlude
 settled_scenes a b c d h k l =
     l ∙ (ap (λ (e : Scene). (with_wait e).scene) (k ∙ ap (λ (e : Scene). (with_due_orders e).scene) h))
 
 -- where the machine is not at rest nothing happens, else the order of a device takes effect
 pub no_order_at_rest : (c : Scene) → rests c.machine ≡ false → c ≡ (with_order_at_rest c).scene
 unfolding with_order_at_rest
-no_order_at_rest c h = sym (ap (λ b. (if b then with_device (next_device c.machine) c else nothing c).scene) h)
+no_order_at_rest c h = sym (ap (λ b. (if b then with_device (next_device c.machine) c else uneventful c).scene) h)
 
 pub order_at_rest : (c : Scene) (o : Option Device) → rests c.machine ≡ true → next_device c.machine ≡ o → (with_device o c).scene ≡ (with_order_at_rest c).scene
 unfolding with_order_at_rest
 order_at_rest c o h e =
-    ap (λ d. (with_device d c).scene) (sym e) ∙ sym (ap (λ b. (if b then with_device (next_device c.machine) c else nothing c).scene) h)
+    ap (λ d. (with_device d c).scene) (sym e) ∙ sym (ap (λ b. (if b then with_device (next_device c.machine) c else uneventful c).scene) h)
 
 -- ---- beside a run
 

@@ -8,7 +8,7 @@ use Rattle.clap.specs.Words.{matches_of, takes, first_of}
 use Rattle.clap.proofs.OnLiterals.{clap_on_literals}
 use Rattle.std.specs.Char.{is_ascii_digit}
 use Rattle.st_text.specs.Number.{is_filled, is_number, value}
-use Rattle.st_top.specs.Command.{command_named, command_with, command_of, number_in, soak_of, IsWithinCards}
+use Rattle.st_top.specs.Command.{command_named, command_with, command_of, number_between, soak_of, IsWithinCards}
 use Rattle.st_top.specs.CommandLine.{is_plain, three_words, command_by}
 use Rattle.st_top.specs.declared.command.Command.{Command}
 
@@ -140,8 +140,8 @@ none_unless : (is x y z : Bool) (n : Option ℕ) → is ≡ false → (if is && 
 none_unless true x y z n h = absurd (true≢false h)
 none_unless false x y z n h = refl
 
-not_number : (least most : ℕ) (w : List ℕ) → is_plain w ≡ false → number_in least most w ≡ None
-unfolding number_in
+not_number : (least most : ℕ) (w : List ℕ) → is_plain w ≡ false → number_between least most w ≡ None
+unfolding number_between
 not_number least most w h = none_unless (is_number w) (nat_le (length w) 20) (nat_le least (value w)) (nat_le (value w) most) (Some (value w)) (not_digits w h)
 
 none_by : (b : Bool) (x : Option Command) → x ≡ None → (if b then x else None) ≡ None
@@ -154,11 +154,11 @@ no_cards (Some n) = refl
 
 not_seed : (w number cards : List ℕ) → is_plain number ≡ false → command_with w number cards ≡ None
 not_seed w number cards h =
-    none_by (pointwise nat_eq w (codes "soak")) _ (ap (λ n. soak_of n (number_in 1 4000 cards)) (not_number 0 (2 ^ 64 - 1) number h))
+    none_by (pointwise nat_eq w (codes "soak")) _ (ap (λ n. soak_of n (number_between 1 4000 cards)) (not_number 0 (2 ^ 64 - 1) number h))
 
 not_cards : (w number cards : List ℕ) → is_plain cards ≡ false → command_with w number cards ≡ None
 not_cards w number cards h =
-    let seed : Option ℕ = number_in 0 (2 ^ 64 - 1) number in
+    let seed : Option ℕ = number_between 0 (2 ^ 64 - 1) number in
     none_by (pointwise nat_eq w (codes "soak")) _ (ap (soak_of seed) (not_number 1 4000 cards h) ∙ no_cards seed)
 
 -- words of which one is not plain mean nothing
@@ -209,8 +209,8 @@ number_test : (t : Bool) (n most : ℕ) → (t ≡ true → n ≤ most) → Matc
 number_test true n most h = h refl
 number_test false n most h = tt
 
-number_within : (least most : ℕ) (w : List ℕ) → MatchOption (number_in least most w) (Unit {0}) (λ n. n ≤ most)
-unfolding number_in
+number_within : (least most : ℕ) (w : List ℕ) → MatchOption (number_between least most w) (Unit {0}) (λ n. n ≤ most)
+unfolding number_between
 number_within least most w =
     number_test _ (value w) most (λ is. leb-true (value w) most (and_parts (is_number w && nat_le (length w) 20 && nat_le least (value w)) (nat_le (value w) most) is).1)
 
@@ -230,7 +230,7 @@ commands_are_within [] = tt
 commands_are_within (w ∷ []) = named_within w
 commands_are_within (w ∷ n ∷ []) = tt
 commands_are_within (w ∷ n ∷ k ∷ []) =
-    of_test (pointwise nat_eq w (codes "soak")) _ _ (soak_within (number_in 0 (2 ^ 64 - 1) n) (number_in 1 4000 k) (number_within 1 4000 k)) tt
+    of_test (pointwise nat_eq w (codes "soak")) _ _ (soak_within (number_between 0 (2 ^ 64 - 1) n) (number_between 1 4000 k) (number_within 1 4000 k)) tt
 commands_are_within (w ∷ n ∷ k ∷ v ∷ ws) = tt
 
 pub command_within : (command : Command) (ws : List (List ℕ)) → Some command ≡ command_of ws → IsWithinCards command

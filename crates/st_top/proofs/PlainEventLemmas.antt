@@ -10,7 +10,7 @@ use Rattle.st_state.specs.declared.devices.Device.{Device}
 use Rattle.st_state.specs.declared.devices.Device.TheVariants.{Reader, Printer}
 use Rattle.st_exch.specs.Printer.{printed}
 use Rattle.st_exec.specs.Step.{rests, interrupt}
-use Rattle.st_run.specs.Run.{Scene, PlainEvent, Prints, Interrupts, Executes, Ends, settled, with_due_signals, with_due_orders, with_reader, with_printer, if_due, with_device, with_order_at_rest, with_wait, interrupts_by, nothing}
+use Rattle.st_run.specs.Run.{Scene, PlainEvent, Prints, Interrupts, Executes, Ends, interlude, with_due_signals, with_due_orders, with_reader, with_printer, if_due, with_device, with_order_at_rest, with_wait, interrupts_by, uneventful}
 use Rattle.st_report.specs.Line.{prt_line, trc_line, row_line, drop_line, int_line, time_line, end_line, done_line, ticks_line}
 use Rattle.st_run.specs.Events.{Event, Timed, Completes, Drops, Shows, Happens, plain as plain_event, untimed, drop_of, snapshot}
 use Rattle.st_run.specs.Moments.{Moment, Standing, next_state, standing, next_moment, ends_segment}
@@ -168,11 +168,11 @@ due-prints c =
 rest-prints : (c : Scene) → ArePrints (with_order_at_rest c).happened
 unfolding with_order_at_rest ArePrints
 rest-prints c =
-    of_choice (λ r. ArePrints r.happened) (rests c.machine) (with_device (next_device c.machine) c) (nothing c)
+    of_choice (λ r. ArePrints r.happened) (rests c.machine) (with_device (next_device c.machine) c) (uneventful c)
     (device-prints (next_device c.machine) c) tt
 
-settled-prints : (c : Scene) → ArePrints (settled c).happened
-unfolding settled with_wait ArePrints
+settled-prints : (c : Scene) → ArePrints (interlude c).happened
+unfolding interlude with_wait ArePrints
 settled-prints c =
     let d = with_due_signals c.machine c.signals c.cards in
     let e = (with_due_orders d).scene in
@@ -219,7 +219,7 @@ counted-drops_if false m = tt
 counted-between : (m : Moment) → AreCounted (between m)
 unfolding between
 counted-between m =
-    let hs = (settled m.scene).happened in
+    let hs = (interlude m.scene).happened in
     let is = interrupts_by (interrupt (next_state m)) (next_state m) in
     counted-append (drops_if_ends m) (map (happening_at m) (hs ++ is)) (counted-drops_if (ends_segment m) m)
     (subst AreCounted (sym (map-append (happening_at m) hs is))
@@ -236,7 +236,7 @@ counted-until_done ds n p snaps =
 counted-last : (m : Moment) (snaps : List ℕ) → AreCounted (last_events m snaps)
 unfolding last_events AreCounted ComesAt HappensAt
 counted-last m snaps =
-    let hs = (settled m.scene).happened in
+    let hs = (interlude m.scene).happened in
     let due = ticks_before (m.tick + 1) snaps in
     let last = happening_at m (Ends (next_state m) (rests (next_state m))) in
     counted-append (drops m ++ map (happening_at m) hs ++ map (last_snapshot_at m) due) (last ∷ [])

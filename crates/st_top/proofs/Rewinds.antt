@@ -5,7 +5,7 @@ use Rattle.std.proofs.lemmas.Bool.Decides.{nat_tests}
 use Rattle.st_card.specs.Controls.{Asked}
 use Rattle.st_state.specs.Machine.{Machine}
 use Rattle.st_exec.specs.Step.{rests}
-use Rattle.st_run.specs.Run.{Scene, Execution, settled, stepped, ended, run}
+use Rattle.st_run.specs.Run.{Scene, Execution, interlude, stepped, ended, run}
 use Rattle.st_exec.proofs.StepLemmas.{step-done}
 use Rattle.st_run.proofs.Runs.{run-rests, run-budget, run-goes_on}
 use Rattle.st_back.specs.declared.kept.Kept.{Kept}
@@ -20,26 +20,26 @@ use Rattle.st_top.proofs.Besides.{beside_settled, beside_stepped}
 
 -- ---- the states of a run
 
-pub states-rests : (left : ℕ) (c : Scene) → rests (settled c).scene.machine ≡ true → states left c ≡ (settled c).scene.machine ∷ []
+pub states-rests : (left : ℕ) (c : Scene) → rests (interlude c).scene.machine ≡ true → states left c ≡ (interlude c).scene.machine ∷ []
 unfolding states
 states-rests zero c h = refl
 states-rests (suc left) c h =
-    let s = (settled c).scene in ap (λ b. if b then s.machine ∷ [] else s.machine ∷ states left (stepped s)) h
+    let s = (interlude c).scene in ap (λ b. if b then s.machine ∷ [] else s.machine ∷ states left (stepped s)) h
 
-pub states-budget : (left : ℕ) (c : Scene) → left ≡ 0 → states left c ≡ (settled c).scene.machine ∷ []
+pub states-budget : (left : ℕ) (c : Scene) → left ≡ 0 → states left c ≡ (interlude c).scene.machine ∷ []
 unfolding states
 states-budget zero c h = refl
 states-budget (suc left) c h = absurd (omega arith)
 
-states-some : (k : ℕ) (c : Scene) → rests (settled c).scene.machine ≡ false → states (suc k) c ≡ (settled c).scene.machine ∷ states k (stepped (settled c).scene)
+states-some : (k : ℕ) (c : Scene) → rests (interlude c).scene.machine ≡ false → states (suc k) c ≡ (interlude c).scene.machine ∷ states k (stepped (interlude c).scene)
 unfolding states
-states-some k c h = let s = (settled c).scene in ap (λ b. if b then s.machine ∷ [] else s.machine ∷ states k (stepped s)) h
+states-some k c h = let s = (interlude c).scene in ap (λ b. if b then s.machine ∷ [] else s.machine ∷ states k (stepped s)) h
 
-pub states-goes_on : (left : ℕ) (c : Scene) → left ≢ 0 → rests (settled c).scene.machine ≡ false → states left c ≡ (settled c).scene.machine ∷ states (left - 1) (stepped (settled c).scene)
+pub states-goes_on : (left : ℕ) (c : Scene) → left ≢ 0 → rests (interlude c).scene.machine ≡ false → states left c ≡ (interlude c).scene.machine ∷ states (left - 1) (stepped (interlude c).scene)
 states-goes_on zero c some h = absurd (some refl)
 states-goes_on (suc k) c some h =
     let same : k ≡ suc k - 1 = omega arith in
-    states-some k c h ∙ ap (λ n. (settled c).scene.machine ∷ states n (stepped (settled c).scene)) same
+    states-some k c h ∙ ap (λ n. (interlude c).scene.machine ∷ states n (stepped (interlude c).scene)) same
 
 -- ---- how far the run has come
 
@@ -55,36 +55,36 @@ pub states_begin : (back budget : ℕ) (b : Beside) → b.0.machine.done ≡ 0 �
 states_begin back budget b none h = record { before = []; all = refl; last = refl; counted = sym none; beside = h }
 
 -- the run ends
-states_end : (back budget : ℕ) (start : Scene) (left : ℕ) (b d : Beside) → IsMoved b d (settled b.0).scene
-    → states left b.0 ≡ (settled b.0).scene.machine ∷ [] → run left b.0 ≡ ended (settled b.0)
+states_end : (back budget : ℕ) (start : Scene) (left : ℕ) (b d : Beside) → IsMoved b d (interlude b.0).scene
+    → states left b.0 ≡ (interlude b.0).scene.machine ∷ [] → run left b.0 ≡ ended (interlude b.0)
     → StatesSoFar back budget start left b → HasRun back budget start d
 states_end back budget start left b d moved ends over h =
-    let same : d.0 ≡ (settled b.0).scene = moved.scene in
+    let same : d.0 ≡ (interlude b.0).scene = moved.scene in
     record {
       before = h.before;
       all = h.all ∙ (ap (λ (ss : List Machine). h.before ++ ss) ends ∙ ap (λ (k : Scene). h.before ++ k.machine ∷ []) (sym same));
       last = ap (λ (k : Scene). k.machine) same ∙ (sym (ap (λ (r : Execution). r.last) over) ∙ h.last);
       counted = h.counted ∙ (sym (settled-done b.0) ∙ ap (λ (k : Scene). k.machine.done) (sym same));
-      beside = beside_settled back b d (settled b.0).scene h.before moved h.beside;
+      beside = beside_settled back b d (interlude b.0).scene h.before moved h.beside;
     }
 
-pub states_rest : (back budget : ℕ) (start : Scene) (left : ℕ) (b d : Beside) → IsMoved b d (settled b.0).scene
+pub states_rest : (back budget : ℕ) (start : Scene) (left : ℕ) (b d : Beside) → IsMoved b d (interlude b.0).scene
     → rests d.0.machine ≡ true → StatesSoFar back budget start left b → HasRun back budget start d
 states_rest back budget start left b d moved at_rest h =
-    let there : rests (settled b.0).scene.machine ≡ true = ap (λ (k : Scene). rests k.machine) (sym moved.scene) ∙ at_rest in
+    let there : rests (interlude b.0).scene.machine ≡ true = ap (λ (k : Scene). rests k.machine) (sym moved.scene) ∙ at_rest in
     states_end back budget start left b d moved (states-rests left b.0 there) (run-rests left b.0 there) h
 
-pub states_used : (back budget : ℕ) (start : Scene) (left : ℕ) (b d : Beside) → IsMoved b d (settled b.0).scene
+pub states_used : (back budget : ℕ) (start : Scene) (left : ℕ) (b d : Beside) → IsMoved b d (interlude b.0).scene
     → left ≡ 0 → StatesSoFar back budget start left b → HasRun back budget start d
 states_used back budget start left b d moved none h =
     states_end back budget start left b d moved (states-budget left b.0 none) (run-budget left b.0 none) h
 
 -- the run goes on
 pub states_next : (back budget : ℕ) (start : Scene) (left : ℕ) (b d e : Beside) → left ≢ 0 → rests d.0.machine ≡ false
-    → IsMoved b d (settled b.0).scene → IsStepped d e → StatesSoFar back budget start left b → StatesSoFar back budget start (left - 1) e
+    → IsMoved b d (interlude b.0).scene → IsStepped d e → StatesSoFar back budget start left b → StatesSoFar back budget start (left - 1) e
 states_next back budget start left b d e some going moved step h =
     let c = b.0 in
-    let s = (settled c).scene in
+    let s = (interlude c).scene in
     let same : d.0 ≡ s = moved.scene in
     let going_on : rests s.machine ≡ false = ap (λ (g : Scene). rests g.machine) (sym same) ∙ going in
     let here : e.0 ≡ stepped s = step.scene ∙ ap stepped same in
@@ -106,12 +106,12 @@ states_next back budget start left b d e some going moved step h =
     }
 
 -- how many instructions it counts
-pub states_few : (left budget : ℕ) (b d : Beside) → IsMoved b d (settled b.0).scene → b.0.machine.done + left ≡ budget → d.0.machine.done + left ≡ budget
+pub states_few : (left budget : ℕ) (b d : Beside) → IsMoved b d (interlude b.0).scene → b.0.machine.done + left ≡ budget → d.0.machine.done + left ≡ budget
 states_few left budget b d moved counted =
     let same : d.0.machine.done ≡ b.0.machine.done = ap (λ (k : Scene). k.machine.done) moved.scene ∙ settled-done b.0 in
     omega (arith, same, counted)
 
-pub states_count : (left budget : ℕ) (b d e : Beside) → left ≢ 0 → IsMoved b d (settled b.0).scene → IsStepped d e → b.0.machine.done + left ≡ budget → e.0.machine.done + (left - 1) ≡ budget
+pub states_count : (left budget : ℕ) (b d e : Beside) → left ≢ 0 → IsMoved b d (interlude b.0).scene → IsStepped d e → b.0.machine.done + left ≡ budget → e.0.machine.done + (left - 1) ≡ budget
 states_count left budget b d e some moved step counted =
     let few = states_few left budget b d moved counted in
     let more : e.0.machine.done ≡ d.0.machine.done + 1 = ap (λ (k : Scene). k.machine.done) step.scene ∙ step-done d.0.machine in

@@ -16,8 +16,8 @@ command_named word =
     else None
 
 -- the number that a word of 1 to 20 decimal digits is, where it is from `least` to `most`
-unfoldable pub number_in : ℕ → ℕ → List ℕ → Option ℕ
-number_in least most word =
+unfoldable pub number_between : ℕ → ℕ → List ℕ → Option ℕ
+number_between least most word =
     let n = value word in
     if is_number word && nat_le (length word) 20 && nat_le least n && nat_le n most then Some n else None
 
@@ -39,7 +39,7 @@ IsWithinCards Sweep = Unit {0}
 -- the command that a word is with a seed and a number of cards
 abbrev pub command_with : List ℕ → List ℕ → List ℕ → Option Command
 command_with word number cards =
-    if pointwise nat_eq word (codes "soak") then soak_of (number_in 0 (2 ^ 64 - 1) number) (number_in 1 4000 cards)
+    if pointwise nat_eq word (codes "soak") then soak_of (number_between 0 (2 ^ 64 - 1) number) (number_between 1 4000 cards)
     else None
 
 -- the command that the words are, or none

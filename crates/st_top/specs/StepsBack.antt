@@ -3,7 +3,7 @@ use Rattle.std.specs.Prelude.{ℕ, zero, suc, ◌-◌, ◌==◌, min, if◌then�
 use Rattle.st_card.specs.Controls.{Asked}
 use Rattle.st_state.specs.Machine.{Machine}
 use Rattle.st_exec.specs.Step.{rests}
-use Rattle.st_run.specs.Run.{Scene, settled, stepped, run}
+use Rattle.st_run.specs.Run.{Scene, interlude, stepped, run}
 use Rattle.st_io.specs.Event.{Event, at_moment}
 use Rattle.st_report.specs.Line.{back_line}
 use Rattle.st_run.specs.Events.{Timed}
@@ -16,9 +16,9 @@ use Rattle.st_top.specs.declared.reporting.TheConstants.{LEVELS}
 
 -- the states of a run from a scene on, each after what comes before its step, up to the one in which the run ends
 unfoldable pub states : ℕ → Scene → List Machine
-states zero c = (settled c).scene.machine ∷ []
+states zero c = (interlude c).scene.machine ∷ []
 states (suc left) c =
-    let s = (settled c).scene in
+    let s = (interlude c).scene in
     if rests s.machine then s.machine ∷ [] else s.machine ∷ states left (stepped s)
 
 -- the line and the block of the state so many steps before the last one, but no more than were made

@@ -3,8 +3,8 @@ ghost use Rattle.std.specs.Prelude.{◌≡◌, ◌<◌, ◌≤◌, IfOk, MatchOp
 ghost use Rattle.std.specs.List.{list_all};
 ghost use Rattle.std.specs.String.{string_bytes};
 ghost use Rattle.clap.specs.Words.{app_of, kind_of};
-ghost use Rattle.st_top.specs.Command.{command_named, command_of, command_with, number_in};
-ghost use Rattle.st_top.specs.CommandLine.{is_plain as is_plain_word, three_words, command_by as command_by_words};
+ghost use Rattle.st_top.specs.Command.{command_named, command_of, command_with, number_between};
+ghost use Rattle.st_top.specs.CommandLine.{is_plain as is_plain_of, three_words, command_by as command_by_of};
 
 use clap::error::ErrorKind;
 use clap::{Arg, Command as Parser, Error};
@@ -45,7 +45,7 @@ const MOST_CARDS: u64 = 4_000;
 
 // Whether a word may be an argument: it is not empty, and does not begin with `-`.
 fn is_plain(word: &str) -> bool
-    ensures { result ≡ is_plain_word word.now }
+    ensures { result ≡ is_plain_of word.now }
 {
     match word.as_bytes() {
         [] => false,
@@ -55,7 +55,7 @@ fn is_plain(word: &str) -> bool
 
 // Whether each word may be an argument.
 fn are_plain(words: &[String]) -> bool
-    ensures { result ≡ list_all is_plain_word (map string_bytes words.now) }
+    ensures { result ≡ list_all is_plain_of (map string_bytes words.now) }
 {
     let mut rest = words;
     'words: while let [word, after @ ..] = rest {
@@ -93,9 +93,9 @@ fn command_named_by(word: &str) -> Option<Command>
 }
 
 // The number that a word of 1 to 20 decimal digits is, where it is from `least` to `most`.
-#[tactic(auto, unfolding(crate::specs::Command::number_in))]
+#[tactic(auto, unfolding(crate::specs::Command::number_between))]
 fn number_by(word: &str, least: u64, most: u64) -> Option<u64>
-    ensures value { result ≡ number_in least most word.now }
+    ensures value { result ≡ number_between least most word.now }
     ensures few { MatchOption result (Unit {0}) (λ n. n ≤ most) }
 {
     let digits = word.as_bytes();
@@ -125,7 +125,7 @@ fn command_with_by(word: &str, number: &str, cards: &str) -> Option<Command>
 
 // The command that three arguments are.
 fn command_by(command: Option<&str>, number: Option<&str>, cards: Option<&str>) -> Option<Command>
-    ensures { result ≡ command_by_words (option_map (λ s. s.now) command.entry)
+    ensures { result ≡ command_by_of (option_map (λ s. s.now) command.entry)
         (option_map (λ s. s.now) number.entry) (option_map (λ s. s.now) cards.entry) }
 {
     match (number, cards) {
@@ -146,7 +146,7 @@ fn is_memory(error: &Error) -> bool
 fn read_arguments(alloc: Global, words: &[String]) -> Result<Option<Command>, NoMemory>
     requires some { 1 ≤ length words.now }
     requires few { length words.now ≤ 3 }
-    requires plain { list_all is_plain_word (map string_bytes words.now) ≡ true }
+    requires plain { list_all is_plain_of (map string_bytes words.now) ≡ true }
     ensures { IfOk result (λ command. command ≡ command_of (map string_bytes words.now)) }
 {
     let Ok(parser) = three(alloc) else {
@@ -167,7 +167,7 @@ fn read_arguments(alloc: Global, words: &[String]) -> Result<Option<Command>, No
 /// comes where a word is empty or begins with `-`, nor where there are no words or more than three.
 pub fn read_words(alloc: Global, words: &[String]) -> Result<Option<Command>, NoMemory>
     ensures ok { IfOk result (λ command. command ≡ command_of (map string_bytes words.now)) }
-    ensures plain { list_all is_plain_word (map string_bytes words.now) ≡ false → result ≡ Ok None }
+    ensures plain { list_all is_plain_of (map string_bytes words.now) ≡ false → result ≡ Ok None }
     ensures some { length words.now ≡ 0 → result ≡ Ok None }
     ensures few { 3 < length words.now → result ≡ Ok None }
 {
