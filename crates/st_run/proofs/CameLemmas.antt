@@ -12,7 +12,8 @@ use Rattle.st_prep.specs.BesideOrders.{AreAlikeBesideOrders}
 use Rattle.st_prep.proofs.Choices.{of_choice}
 use Rattle.st_exec.specs.Step.{rests}
 use Rattle.st_exec.specs.Transfer.{read_in}
-use Rattle.st_run.specs.Run.{Signal, Scene, Transition, PlainEvent, with_due_signals, with_signals_at_rest, first_card, cards_after, with_reader, with_printer, uneventful, and_then, if_due, with_due_orders, with_device, with_order_at_rest, with_wait, interlude}
+use Rattle.st_card.specs.declared.control_cards.Signal.{Signal}
+use Rattle.st_run.specs.Run.{Scene, Transition, PlainEvent, with_due_signals, with_signals_at_rest, first_card, cards_after, with_reader, with_printer, uneventful, and_then, if_due, with_due_orders, with_device, with_order_at_rest, with_wait, interlude}
 use Rattle.st_exec.proofs.BesideEntries.{beside-printed, beside-no_card, beside-signalled, beside-same, beside-then}
 use Rattle.st_ahead.specs.Overlap.{Overlap, interrupt_due}
 use Rattle.st_ahead.specs.Calls.{ended, interlude as settled_of, read_in_by, printed_by, MayServe}

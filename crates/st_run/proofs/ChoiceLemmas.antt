@@ -5,7 +5,8 @@ use Rattle.st_state.specs.Machine.{Machine, IsMachine}
 use Rattle.st_prep.proofs.Choices.{of_choice}
 use Rattle.st_exec.proofs.BesideEntries.{beside-same}
 use Rattle.st_exec.specs.Step.{rests, interrupt}
-use Rattle.st_run.specs.Run.{Scene, Signal, interlude}
+use Rattle.st_card.specs.declared.control_cards.Signal.{Signal}
+use Rattle.st_run.specs.Run.{Scene, interlude}
 use Rattle.st_rows.specs.Rows.{row, tick_c}
 use Rattle.st_rows.specs.Ranges.{IsEntry, AreDelays}
 use Rattle.st_rows.specs.declared.entry.Entry.{Entry}

@@ -8,7 +8,8 @@ use Rattle.st_state.specs.declared.devices.Device.{Device}
 use Rattle.st_state.specs.declared.devices.Device.TheVariants.{Reader, Printer}
 use Rattle.st_exec.specs.Step.{rests}
 use Rattle.st_exec.specs.Transfer.{all_stored, read_in}
-use Rattle.st_run.specs.Run.{Signal, Scene, first_card, with_due_signals, with_signals_at_rest, with_reader, with_printer, if_due, with_due_orders, with_device, with_order_at_rest, with_wait, interlude, uneventful}
+use Rattle.st_card.specs.declared.control_cards.Signal.{Signal}
+use Rattle.st_run.specs.Run.{Scene, first_card, with_due_signals, with_signals_at_rest, with_reader, with_printer, if_due, with_due_orders, with_device, with_order_at_rest, with_wait, interlude, uneventful}
 
 either : {A : Type 0} (f : A → ℕ) (n : ℕ) (b : Bool) (x y : A) → f x ≡ n → f y ≡ n → f (if b then x else y) ≡ n
 either f n true x y p q = p

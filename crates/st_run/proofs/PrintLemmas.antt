@@ -9,7 +9,8 @@ use Rattle.st_state.specs.declared.devices.Device.TheVariants.{Reader, Printer}
 use Rattle.st_prep.proofs.Choices.{of_choice}
 use Rattle.st_exec.specs.Step.{rests}
 use Rattle.st_exec.specs.Transfer.{all_stored, read_in}
-use Rattle.st_run.specs.Run.{Signal, Scene, Transition, first_card, with_due_signals, with_signals_at_rest, with_reader, with_printer, if_due, with_due_orders, with_device, with_order_at_rest, with_wait, interlude, uneventful, and_then}
+use Rattle.st_card.specs.declared.control_cards.Signal.{Signal}
+use Rattle.st_run.specs.Run.{Scene, Transition, first_card, with_due_signals, with_signals_at_rest, with_reader, with_printer, if_due, with_due_orders, with_device, with_order_at_rest, with_wait, interlude, uneventful, and_then}
 
 -- how many orders the printer has
 orders : Option Order → ℕ

@@ -19,7 +19,8 @@ use Rattle.st_prep.proofs.Choices.{of_choice}
 use Rattle.st_prep.proofs.PlanLemmas.{plan-prepared, fixed-indicators}
 use Rattle.st_exec.specs.Step.{rests, interrupt, step}
 use Rattle.st_exec.specs.Transfer.{all_stored, read_in}
-use Rattle.st_run.specs.Run.{Signal, Scene, first_card, cards_after, with_due_signals, with_signals_at_rest, with_reader, with_printer, if_due, with_due_orders, with_device, with_order_at_rest, with_wait, interlude, stepped, uneventful}
+use Rattle.st_card.specs.declared.control_cards.Signal.{Signal}
+use Rattle.st_run.specs.Run.{Scene, first_card, cards_after, with_due_signals, with_signals_at_rest, with_reader, with_printer, if_due, with_due_orders, with_device, with_order_at_rest, with_wait, interlude, stepped, uneventful}
 use Rattle.st_exec.proofs.MachineKept.{kept-stored, kept-completed}
 use Rattle.st_run.specs.Scenes.{IsCard, IsScene}
 

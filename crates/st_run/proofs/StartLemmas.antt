@@ -10,7 +10,8 @@ use Rattle.st_state.specs.Orders.{next_device}
 use Rattle.st_state.specs.declared.devices.Order.{Order}
 use Rattle.st_prep.proofs.Choices.{of_choice}
 use Rattle.st_exec.specs.Step.{interrupt, rests}
-use Rattle.st_run.specs.Run.{Signal, Scene, PlainEvent, Ends, with_due_signals, with_due_orders, with_order_at_rest, with_signals_at_rest, with_wait, interlude, interrupts_by, if_due, Transition, uneventful, and_then, with_reader, with_printer, with_device}
+use Rattle.st_card.specs.declared.control_cards.Signal.{Signal}
+use Rattle.st_run.specs.Run.{Scene, PlainEvent, Ends, with_due_signals, with_due_orders, with_order_at_rest, with_signals_at_rest, with_wait, interlude, interrupts_by, if_due, Transition, uneventful, and_then, with_reader, with_printer, with_device}
 use Rattle.st_rows.specs.Ranges.{AreDelays}
 use Rattle.st_rows.specs.Rows.{opening}
 use Rattle.st_ahead.specs.Overlap.{started}

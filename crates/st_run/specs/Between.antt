@@ -2,7 +2,8 @@
 use Rattle.std.specs.Prelude.{ℕ, ◌≡◌, ◌≢◌, ◌≤◌, Bool, true, false, ◌||◌, is_some, length, nat_le, List, [], ◌∷◌, Option, None, Some}
 use Rattle.st_state.specs.Orders.{is_due}
 use Rattle.st_exec.specs.Step.{rests}
-use Rattle.st_run.specs.Run.{Transition, Signal}
+use Rattle.st_card.specs.declared.control_cards.Signal.{Signal}
+use Rattle.st_run.specs.Run.{Transition}
 use Rattle.st_ahead.specs.Overlap.{Overlap, interrupt_due}
 use Rattle.st_ahead.specs.Calls.{ended, settled, MayServe}
 use Rattle.st_ahead.specs.declared.events.Settled.{Settled}

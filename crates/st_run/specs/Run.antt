@@ -1,5 +1,6 @@
 -- A whole run, one instruction after the other: signals and orders take effect between two of them.
 use Rattle.std.specs.Prelude.{ℕ, zero, suc, Bool, nat_le, if◌then◌else◌, List, [], ◌∷◌, ◌++◌, Option, None, Some}
+use Rattle.st_card.specs.declared.control_cards.Signal.{Signal}
 use Rattle.st_state.specs.Machine.{Machine}
 use Rattle.st_state.specs.Interrupts.{signalled}
 use Rattle.st_state.specs.Orders.{is_due, next_device}
@@ -8,11 +9,6 @@ use Rattle.st_state.specs.declared.devices.Device.{Device}
 use Rattle.st_state.specs.declared.devices.Device.TheVariants.{Reader, Printer}
 use Rattle.st_exec.specs.Step.{rests, interrupt, step, address}
 use Rattle.st_exec.specs.Transfer.{words_from, read_in, printed_out}
-
--- a signal turns its indicator on when so many instructions are done
-pub record Signal : Type 0 where
-  pub count : ℕ
-  pub indicator : ℕ
 
 -- a run at a moment: the machine, and the signals and the reader's cards that are still to come
 pub record Scene : Type 0 where

@@ -1,23 +1,15 @@
 -- An overlapped machine with the signals and the reader's cards that are still to come.
 use Rattle.std.specs.Prelude.{ℕ, ◌≡◌, ◌+◌, ◌≤◌, Bool, true, false, if◌then◌else◌, is_some, List, [], ◌∷◌, map, Option, None, Some, IsSome, IfSome, ◌<◌, ◌^◌}
-use Rattle.st_card.specs.declared.control_cards.Signal.{Signal as SignalCard}
+use Rattle.st_card.specs.declared.control_cards.Signal.{Signal}
 use Rattle.st_prep.specs.BesideOrders.{AreAlikeBesideOrders}
 use Rattle.st_exec.specs.Step.{interrupt, rests}
-use Rattle.st_run.specs.Run.{Scene, Signal, PlainEvent}
+use Rattle.st_run.specs.Run.{Scene, PlainEvent}
 use Rattle.st_rows.specs.Ranges.{AreDelays}
 use Rattle.st_ahead.specs.Overlap.{Overlap, oldest_row, levels_of}
 use Rattle.st_ahead.specs.Calls.{ended, banks_left}
 use Rattle.st_run.specs.Moments.{Moment, Standing, next_scene, next_state, ends_segment, next_front}
 use Rattle.st_run.specs.Scenes.{IsScene}
 use Rattle.st_run.specs.Told.{What, Printed, what_happens}
-
--- a signal, as a control card asks for it
-abbrev pub signal_of : SignalCard → Signal
-signal_of x = record { count = x.count; indicator = x.indicator }
-
--- those of all control cards
-abbrev pub signals_of : List SignalCard → List Signal
-signals_of xs = map signal_of xs
 
 -- the machine, and what is still to come from outside
 pub record Together : Type 0 where

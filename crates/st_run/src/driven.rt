@@ -5,7 +5,7 @@ ghost use Rattle.st_card.specs.Limits.{is_signal};
 ghost use Rattle.st_run.specs.Run.{with_due_signals};
 ghost use Rattle.st_ahead.specs.Calls.{MaySignal};
 ghost use Rattle.st_ahead.specs.Shown.{shown};
-ghost use Rattle.st_run.specs.Together.{signals_of, with_scene};
+ghost use Rattle.st_run.specs.Together.{with_scene};
 
 use st_ahead::{Machine, View};
 use st_card::Signal;
@@ -23,11 +23,11 @@ pub(crate) struct Driven<'a, const N: usize> {
 impl<'a, const N: usize> Model for Driven<'a, N> {
     ghost use Rattle.std.specs.List.{AllPass};
     ghost use Rattle.st_card.specs.Limits.{is_signal};
-    ghost use Rattle.st_run.specs.Together.{Together, signals_of};
+    ghost use Rattle.st_run.specs.Together.{Together};
 
     ghost Value = { Together };
 
-    ghost view = { λ d. record { machine = d.machine; signals = signals_of d.signals.now; cards = d.cards } };
+    ghost view = { λ d. record { machine = d.machine; signals = d.signals.now; cards = d.cards } };
 
     ghost invariant = { λ d. AllPass is_signal d.signals.now };
 }
@@ -37,8 +37,8 @@ fn due_signals<'a, const N: usize>(machine: &mut Machine<N>, signals: &'a [Signa
     requires known { AllPass is_signal signals.now }
     requires turn { MaySignal machine.old }
     ensures rest { AllPass is_signal result.now }
-    ensures came { (cards : List (List ℕ)) → with_due_signals machine.old.state (signals_of signals.now) cards
-        ≡ record { machine = machine.new.state; signals = signals_of result.now; cards = cards } }
+    ensures came { (cards : List (List ℕ)) → with_due_signals machine.old.state signals.now cards
+        ≡ record { machine = machine.new.state; signals = result.now; cards = cards } }
     ensures machine { machine.new ≡ record machine.old { state = machine.new.state } }
 {
     let mut rest = signals;

@@ -9,7 +9,7 @@ ghost use Rattle.st_ahead.specs.Overlap.{levels_of};
 ghost use Rattle.st_ahead.specs.Calls.{ended, MayServe, MaySignal};
 ghost use Rattle.st_run.specs.Events.{address_of};
 ghost use Rattle.st_run.specs.Moments.{has_card, has_waited};
-ghost use Rattle.st_run.specs.Together.{IsBehind, moment_of, signals_of, scene_of, with_scene};
+ghost use Rattle.st_run.specs.Together.{IsBehind, moment_of, scene_of, with_scene};
 ghost use Rattle.st_run.specs.Leaving.{IsDecided, nothing_decided};
 ghost use Rattle.st_run.specs.Serving.{IsServed, is_card, order_of, printed_text};
 ghost use Rattle.st_run.specs.Between.{Came, IsChoice, IsQuiet, choice_of, signal_due, first_text as first_text_of};
@@ -199,8 +199,8 @@ fn signals_at_rest<'a, const N: usize>(
     requires known { AllPass is_signal signals.now }
     requires turn { MaySignal machine.old }
     ensures rest { AllPass is_signal result.now }
-    ensures came { (cards : List (List ℕ)) → run.with_signals_at_rest machine.old.state (signals_of signals.now) cards
-        ≡ record { machine = machine.new.state; signals = signals_of result.now; cards = cards } }
+    ensures came { (cards : List (List ℕ)) → run.with_signals_at_rest machine.old.state signals.now cards
+        ≡ record { machine = machine.new.state; signals = result.now; cards = cards } }
     ensures machine { machine.new ≡ record machine.old { state = machine.new.state } }
 {
     let mut rest = signals;
@@ -327,7 +327,7 @@ pub(crate) fn leave<const N: usize>(driven: &mut Driven<N>, left: u64) -> Decide
 
 // Whether the first of the signals comes where so many instructions are done.
 fn signal_is_due(state: &State, signals: &[Signal]) -> bool
-    ensures { result ≡ signal_due state.now.done (signals_of signals.now) }
+    ensures { result ≡ signal_due state.now.done signals.now }
 {
     match signals {
         [first, ..] => first.count <= state.done,

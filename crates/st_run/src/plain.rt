@@ -4,7 +4,6 @@ ghost use Rattle.std.specs.List.{AllPass};
 ghost use Rattle.st_card.specs.Limits.{is_signal};
 ghost use Rattle.st_state.specs.Orders.{is_due as is_due_of};
 ghost use Rattle.st_run.specs.Run.{with_due_signals, with_signals_at_rest};
-ghost use Rattle.st_run.specs.Together.{signals_of};
 
 use st_card::Signal;
 use st_exec::is_at_rest;
@@ -14,8 +13,8 @@ use st_state::{State, is_due};
 pub fn due_signals<'a>(state: &mut State, signals: &'a [Signal]) -> &'a [Signal]
     requires { AllPass is_signal signals.now }
     ensures rest { AllPass is_signal result.now }
-    ensures came { (cards : List (List ℕ)) → with_due_signals state.old (signals_of signals.now) cards
-        ≡ record { machine = state.new; signals = signals_of result.now; cards = cards } }
+    ensures came { (cards : List (List ℕ)) → with_due_signals state.old signals.now cards
+        ≡ record { machine = state.new; signals = result.now; cards = cards } }
 {
     let mut rest = signals;
     'signals: while let [first, after @ ..] = rest {
@@ -32,8 +31,8 @@ pub fn due_signals<'a>(state: &mut State, signals: &'a [Signal]) -> &'a [Signal]
 pub fn signals_at_rest<'a>(state: &mut State, signals: &'a [Signal]) -> &'a [Signal]
     requires { AllPass is_signal signals.now }
     ensures rest { AllPass is_signal result.now }
-    ensures came { (cards : List (List ℕ)) → with_signals_at_rest state.old (signals_of signals.now) cards
-        ≡ record { machine = state.new; signals = signals_of result.now; cards = cards } }
+    ensures came { (cards : List (List ℕ)) → with_signals_at_rest state.old signals.now cards
+        ≡ record { machine = state.new; signals = result.now; cards = cards } }
 {
     let mut rest = signals;
     'signals: while let [first, after @ ..] = rest {

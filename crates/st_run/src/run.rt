@@ -5,7 +5,6 @@ ghost use Rattle.std.specs.List.Sorted.{IsStrictlyIncreasing};
 ghost use Rattle.st_bits.specs.declared.limits.TheConstants.{MOST_INSTRUCTIONS};
 ghost use Rattle.st_card.specs.Limits.{is_signal};
 ghost use Rattle.st_run.specs.Scenes.{IsCard};
-ghost use Rattle.st_run.specs.Together.{signals_of};
 ghost use Rattle.st_run.specs.Told.{told as told_events};
 ghost use Rattle.st_run.specs.TimedRun.{timed_run};
 ghost use Rattle.st_run.specs.Telling.{what_told, AreLevels};
@@ -51,7 +50,6 @@ impl<'a, const N: usize> Run<'a, N> {
     ghost use Rattle.std.specs.List.Sorted.{IsStrictlyIncreasing};
     ghost use Rattle.st_card.specs.Limits.{is_signal};
     ghost use Rattle.st_run.specs.Scenes.{IsCard};
-    ghost use Rattle.st_run.specs.Together.{signals_of};
     ghost use Rattle.st_run.specs.Told.{told as told_events};
     ghost use Rattle.st_run.specs.TimedRun.{timed_run};
     ghost use Rattle.st_run.specs.Telling.{what_told, AreLevels};
@@ -79,7 +77,7 @@ impl<'a, const N: usize> Run<'a, N> {
         requires some_done { 1 ≤ budget }
         requires few_done { budget ≤ MOST_INSTRUCTIONS }
         ensures { result.rest ≡ told_events (timed_run delays N budget
-            (record { machine = state; signals = signals_of signals.now; cards = cards }) snaps.now) }
+            (record { machine = state; signals = signals.now; cards = cards }) snaps.now) }
     {
         state.shape();
         delays.shape();

@@ -6,7 +6,8 @@ use Rattle.st_state.specs.Machine.{Machine}
 use Rattle.st_prep.specs.Plan.{plan}
 use Rattle.st_exec.specs.Completion.{is_missed}
 use Rattle.st_exec.specs.Step.{interrupt, step, rests, IsStep}
-use Rattle.st_run.specs.Run.{Signal, Scene, interlude, stepped, run}
+use Rattle.st_card.specs.declared.control_cards.Signal.{Signal}
+use Rattle.st_run.specs.Run.{Scene, interlude, stepped, run}
 use Rattle.st_exec.specs.Trails.{IsTrail, CanBePutBack, IsKept}
 use Rattle.st_exec.specs.declared.kept.Trail.{Trail}
 use Rattle.st_exec.specs.declared.step.Step.{Step}

@@ -1,7 +1,7 @@
 -- The last tick that is told.
+use Rattle.st_card.specs.declared.control_cards.Signal.{Signal}
 use Rattle.std.proofs.Common.{◌≡◌, ℕ, List, [], ◌∷◌, refl, ◌∙◌, ap}
 use Rattle.st_state.specs.Machine.{Machine}
-use Rattle.st_run.specs.Run.{Signal}
 use Rattle.st_run.specs.Events.{Timed}
 use Rattle.st_run.specs.Order.{last_tick}
 use Rattle.st_run.specs.TimedRun.{timed_run}

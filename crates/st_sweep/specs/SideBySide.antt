@@ -1,7 +1,8 @@
 -- What a sweep tells of a run.
 use Rattle.std.specs.Prelude.{ℕ, ◌≡◌, ◌≤◌, ◌<◌, false, List, [], ◌∷◌, map, length, slice_index, None}
 use Rattle.st_state.specs.Machine.{Machine}
-use Rattle.st_run.specs.Run.{Signal, Scene, run}
+use Rattle.st_card.specs.declared.control_cards.Signal.{Signal}
+use Rattle.st_run.specs.Run.{Scene, run}
 use Rattle.st_sweep.specs.Calm.{is_calm}
 use Rattle.st_sweep.specs.Sweep.{without_cards, ticks}
 use Rattle.st_sweep.specs.Starts.{Start}

@@ -1,7 +1,7 @@
 -- Machines before their first entry.
+use Rattle.st_card.specs.declared.control_cards.Signal.{Signal}
 use Rattle.std.specs.Prelude.{ℕ, ◌≡◌, false, List, None}
 use Rattle.st_state.specs.Machine.{Machine, opening}
-use Rattle.st_run.specs.Run.{Signal}
 use Rattle.st_sweep.specs.Sweep.{without_cards, ticks}
 
 -- a state and the delays

@@ -1,7 +1,8 @@
 -- A job on machines with one to eight levels.
 use Rattle.std.specs.Prelude.{ℕ, List, []}
 use Rattle.st_state.specs.Machine.{Machine}
-use Rattle.st_run.specs.Run.{Signal, Scene}
+use Rattle.st_card.specs.declared.control_cards.Signal.{Signal}
+use Rattle.st_run.specs.Run.{Scene}
 use Rattle.st_run.specs.Order.{last_tick}
 use Rattle.st_run.specs.TimedRun.{timed_run}
 

@@ -8,7 +8,6 @@ ghost use Rattle.st_exec.specs.Completion.{is_missed as is_missed_of};
 ghost use Rattle.st_exec.specs.Step.{interrupt as interrupt_of, rests, step as step_of};
 ghost use Rattle.st_run.specs.Run.{run};
 ghost use Rattle.st_rows.specs.declared.entry.Runs.{Runs};
-ghost use Rattle.st_run.specs.Together.{signals_of};
 ghost use Rattle.st_sweep.specs.Calm.{are_equal as are_equal_of, next_writes, is_calm_entry, is_calm_behind};
 ghost use Rattle.st_sweep.specs.Marks.{AreMarks};
 ghost use Rattle.st_sweep.specs.Sweep.{without_cards};
@@ -99,8 +98,8 @@ pub(crate) fn run_plain(
     requires signals { AllPass is_signal signals.now }
     requires written { AreMarks [] written.old }
     requires few { state.old.done + budget ≤ MOST_INSTRUCTIONS }
-    ensures done { result.done ≡ (run budget (without_cards state.old (signals_of signals.now))).last.done }
-    ensures calm { result.calm ≡ is_calm_behind [] budget (without_cards state.old (signals_of signals.now)) }
+    ensures done { result.done ≡ (run budget (without_cards state.old signals.now)).last.done }
+    ensures calm { result.calm ≡ is_calm_behind [] budget (without_cards state.old signals.now) }
 {
     let mut rest = signals;
     let mut calm = true;

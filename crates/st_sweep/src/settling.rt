@@ -2,8 +2,8 @@
 ghost use Rattle.std.specs.Prelude.{◌≡◌, ◌||◌, not, List};
 ghost use Rattle.std.specs.List.{AllPass};
 ghost use Rattle.st_card.specs.Limits.{is_signal};
-ghost use Rattle.st_run.specs.Run.{Signal as SignalOf, with_reader, with_printer, if_due, with_due_orders, with_order_at_rest, with_wait, interlude};
-ghost use Rattle.st_run.specs.Together.{signals_of};
+ghost use Rattle.st_card.specs.declared.control_cards.Signal.{Signal as SignalOf};
+ghost use Rattle.st_run.specs.Run.{with_reader, with_printer, if_due, with_due_orders, with_order_at_rest, with_wait, interlude};
 ghost use Rattle.st_sweep.specs.Calm.{is_quiet};
 ghost use Rattle.st_sweep.specs.Sweep.{without_cards};
 
@@ -84,8 +84,8 @@ fn serve_at_rest(state: &mut State)
 fn end_wait<'a>(state: &mut State, signals: &'a [Signal]) -> &'a [Signal]
     requires { AllPass is_signal signals.now }
     ensures rest { AllPass is_signal result.now }
-    ensures came { (with_wait (without_cards state.old (signals_of signals.now))).scene
-        ≡ without_cards state.new (signals_of result.now) }
+    ensures came { (with_wait (without_cards state.old signals.now)).scene
+        ≡ without_cards state.new result.now }
 {
     serve_at_rest(state);
     serve_at_rest(state);
@@ -112,9 +112,9 @@ fn is_kept(before: bool, after: bool) -> bool
 pub(crate) fn settle<'a>(state: &mut State, signals: &'a [Signal]) -> Settled<'a>
     requires { AllPass is_signal signals.now }
     ensures rest { AllPass is_signal result.signals.now }
-    ensures came { (interlude (without_cards state.old (signals_of signals.now))).scene
-        ≡ without_cards state.new (signals_of result.signals.now) }
-    ensures quiet { result.quiet ≡ is_quiet (without_cards state.old (signals_of signals.now)) }
+    ensures came { (interlude (without_cards state.old signals.now)).scene
+        ≡ without_cards state.new result.signals.now }
+    ensures quiet { result.quiet ≡ is_quiet (without_cards state.old signals.now) }
 {
     let due = due_signals(state, signals);
     serve_due(state);

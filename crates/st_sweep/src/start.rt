@@ -5,7 +5,6 @@ ghost use Rattle.st_bits.specs.Storage.{words_of_storage};
 ghost use Rattle.st_bits.specs.declared.limits.TheConstants.{MOST_INSTRUCTIONS};
 ghost use Rattle.st_bits.specs.declared.register.TheConstants.{FIRST_STORAGE_WORD};
 ghost use Rattle.st_card.specs.Limits.{is_signal};
-ghost use Rattle.st_run.specs.Together.{signals_of};
 ghost use Rattle.st_sweep.specs.Starts.{ticks_from, start_of};
 ghost use Rattle.st_sweep.specs.SideBySide.{four_of};
 
@@ -61,7 +60,7 @@ fn ticks<const N: usize>(start: Start, signals: &[Signal], budget: u64) -> u64
     requires signals { AllPass is_signal signals.now }
     requires some_done { 1 ≤ budget }
     requires few_done { budget ≤ MOST_INSTRUCTIONS }
-    ensures { result ≡ ticks_from start N budget (signals_of signals.now) }
+    ensures { result ≡ ticks_from start N budget signals.now }
 {
     let Start { state, delays } = start;
     let mut run = Run::<N>::new(state, delays, signals, Hopper::empty(), &[], budget);
@@ -105,7 +104,7 @@ pub(crate) fn ticks_on_few(four: Four, signals: &[Signal], budget: u64) -> [u64;
     requires signals { AllPass is_signal signals.now }
     requires some_done { 1 ≤ budget }
     requires few_done { budget ≤ MOST_INSTRUCTIONS }
-    ensures { let xs = signals_of signals.now in
+    ensures { let xs = signals.now in
         result ≡ ticks_from four.first 1 budget xs ∷ ticks_from four.second 2 budget xs
         ∷ ticks_from four.third 3 budget xs ∷ ticks_from four.fourth 4 budget xs ∷ [] }
 {
@@ -128,7 +127,7 @@ pub(crate) fn ticks_on_many(four: Four, signals: &[Signal], budget: u64) -> [u64
     requires signals { AllPass is_signal signals.now }
     requires some_done { 1 ≤ budget }
     requires few_done { budget ≤ MOST_INSTRUCTIONS }
-    ensures { let xs = signals_of signals.now in
+    ensures { let xs = signals.now in
         result ≡ ticks_from four.first 5 budget xs ∷ ticks_from four.second 6 budget xs
         ∷ ticks_from four.third 7 budget xs ∷ ticks_from four.fourth 8 budget xs ∷ [] }
 {

@@ -6,7 +6,6 @@ ghost use Rattle.st_bits.specs.declared.limits.TheConstants.{MOST_INSTRUCTIONS};
 ghost use Rattle.st_bits.specs.declared.register.TheConstants.{FIRST_STORAGE_WORD};
 ghost use Rattle.st_card.specs.Limits.{is_signal};
 ghost use Rattle.st_state.specs.Machine.{opening};
-ghost use Rattle.st_run.specs.Together.{signals_of};
 ghost use Rattle.st_sweep.specs.Sweep.{without_cards};
 ghost use Rattle.st_sweep.specs.SideBySide.{swept, AreNotRising};
 
@@ -48,7 +47,7 @@ fn run_all(
     requires some_done { 1 ≤ budget }
     requires few_done { budget ≤ MOST_INSTRUCTIONS }
     ensures { IfOk result (λ r. r
-        ≡ swept delays.now budget (without_cards (opening image.now start) (signals_of signals.now))) }
+        ≡ swept delays.now budget (without_cards (opening image.now start) signals.now)) }
 {
     let few = Four::new(alloc, image, start, delays)?;
     let many = Four::new(alloc, image, start, delays)?;
@@ -86,7 +85,7 @@ pub fn sweep(
     requires some_done { 1 ≤ budget }
     requires few_done { budget ≤ MOST_INSTRUCTIONS }
     ensures value { IfOk result (λ r. r
-        ≡ swept delays.now budget (without_cards (opening image.now start) (signals_of signals.now))) }
+        ≡ swept delays.now budget (without_cards (opening image.now start) signals.now)) }
     ensures levels { IfOk result (λ r. r.calm ≡ true → AreNotRising r.ticks) }
 {
     run_all(alloc, image, start, delays, signals, budget)

@@ -14,7 +14,8 @@ use Rattle.st_exec.specs.Step.{rests, IsStep}
 use Rattle.st_exec.specs.declared.step.Step.{Step}
 use Rattle.st_exec.specs.declared.step.Step.TheVariants.{Plain, Interrupt, Waits}
 use Rattle.st_exec.specs.Transfer.{all_stored, read_in, printed_out}
-use Rattle.st_run.specs.Run.{Signal, Scene, with_due_signals, with_signals_at_rest, with_reader, with_printer, if_due, first_card, cards_after, with_due_orders, with_device, with_order_at_rest, with_wait, interlude, uneventful}
+use Rattle.st_card.specs.declared.control_cards.Signal.{Signal}
+use Rattle.st_run.specs.Run.{Scene, with_due_signals, with_signals_at_rest, with_reader, with_printer, if_due, first_card, cards_after, with_due_orders, with_device, with_order_at_rest, with_wait, interlude, uneventful}
 use Rattle.st_exec.proofs.StepLemmas.{step_made}
 use Rattle.st_back.specs.declared.kept.Kept.{Kept}
 use Rattle.st_back.specs.Between.{AreAlikeAbove}

@@ -15,7 +15,6 @@ use Rattle.st_state.specs.Machine.{opening}
 use Rattle.st_top.specs.Listing.{rows_lines, symbols_lines}
 use Rattle.st_top.specs.Marks.{Marked, unmarked, marked_run, up_to_end, texts_up_to_end, end_card, listed_lines, marked_listing, marked_by, marked_load, marked_output, DifferInDelays}
 use Rattle.st_top.specs.Output.{start_of, loaded_start}
-use Rattle.st_run.specs.Together.{signals_of}
 use Rattle.st_top.specs.declared.command.Command.TheVariants.{Run, Load}
 use Rattle.st_top.proofs.DelayLemmas.{run-same}
 use Rattle.st_top.proofs.PlainEventLemmas.{unmarked-append, unmarked-between}
@@ -70,7 +69,7 @@ listing-same job other a b h =
 -- the start of a run of an image, with the signals that are asked for and these cards
 abbrev scene_with : Asked → List ℕ → ℕ → List (List ℕ) → Scene
 scene_with asked image start cards =
-    record { machine = opening image start; signals = signals_of asked.signals; cards = cards }
+    record { machine = opening image start; signals = asked.signals; cards = cards }
 
 abbrev lines_with : Asked → List ℕ → ℕ → List (List ℕ) → List (List ℕ)
 lines_with asked image start cards = unmarked (marked_run asked (scene_with asked image start cards))

@@ -1,48 +1,47 @@
 -- Signals and cards that come between two steps.
 use Rattle.std.proofs.Common.{◌≡◌, ℕ, List, [], ◌∷◌, true, false, nat_le, length, refl, sym, ◌∙◌, ap, arith, if◌then◌else◌}
 use Rattle.std.specs.Prelude.{Option, None, Some, MatchOption}
-use Rattle.st_card.specs.declared.control_cards.Signal.{Signal as SignalCard}
+use Rattle.st_card.specs.declared.control_cards.Signal.{Signal}
 use Rattle.st_state.specs.Machine.{Machine}
 use Rattle.st_state.specs.Interrupts.{signalled}
 use Rattle.st_exec.specs.Step.{rests}
 use Rattle.st_run.specs.Run.{Scene, with_due_signals, with_signals_at_rest, first_card, cards_after}
-use Rattle.st_run.specs.Together.{signals_of}
 
 -- ---- signals
 
 -- the scene in which these signals are still to come
-abbrev pub left_with : Machine → List SignalCard → List (List ℕ) → Scene
-left_with m rest cards = record { machine = m; signals = signals_of rest; cards = cards }
+abbrev pub left_with : Machine → List Signal → List (List ℕ) → Scene
+left_with m rest cards = record { machine = m; signals = rest; cards = cards }
 
-pub due-none : (m : Machine) (rest : List SignalCard) (cards : List (List ℕ)) → length rest ≡ 0 → with_due_signals m (signals_of rest) cards ≡ left_with m rest cards
+pub due-none : (m : Machine) (rest : List Signal) (cards : List (List ℕ)) → length rest ≡ 0 → with_due_signals m rest cards ≡ left_with m rest cards
 due-none m [] cards h = refl
 due-none m (x ∷ xs) cards h = absurd (omega arith)
 
-pub due-stops : (m : Machine) (rest xs : List SignalCard) (x : SignalCard) (cards : List (List ℕ)) → rest ≡ x ∷ xs → nat_le x.count m.done ≡ false → with_due_signals m (signals_of rest) cards ≡ left_with m rest cards
+pub due-stops : (m : Machine) (rest xs : List Signal) (x : Signal) (cards : List (List ℕ)) → rest ≡ x ∷ xs → nat_le x.count m.done ≡ false → with_due_signals m rest cards ≡ left_with m rest cards
 due-stops m rest xs x cards e h =
-    ap (λ zs. with_due_signals m (signals_of zs) cards) e
-    ∙ (ap (λ b. if b then with_due_signals (signalled m x.indicator) (signals_of xs) cards else left_with m (x ∷ xs) cards) h
+    ap (λ zs. with_due_signals m zs cards) e
+    ∙ (ap (λ b. if b then with_due_signals (signalled m x.indicator) xs cards else left_with m (x ∷ xs) cards) h
     ∙ ap (λ zs. left_with m zs cards) (sym e))
 
-pub due-goes : (m : Machine) (rest xs : List SignalCard) (x : SignalCard) (cards : List (List ℕ)) → rest ≡ x ∷ xs → nat_le x.count m.done ≡ true → with_due_signals m (signals_of rest) cards ≡ with_due_signals (signalled m x.indicator) (signals_of xs) cards
+pub due-goes : (m : Machine) (rest xs : List Signal) (x : Signal) (cards : List (List ℕ)) → rest ≡ x ∷ xs → nat_le x.count m.done ≡ true → with_due_signals m rest cards ≡ with_due_signals (signalled m x.indicator) xs cards
 due-goes m rest xs x cards e h =
-    ap (λ zs. with_due_signals m (signals_of zs) cards) e
-    ∙ ap (λ b. if b then with_due_signals (signalled m x.indicator) (signals_of xs) cards else left_with m (x ∷ xs) cards) h
+    ap (λ zs. with_due_signals m zs cards) e
+    ∙ ap (λ b. if b then with_due_signals (signalled m x.indicator) xs cards else left_with m (x ∷ xs) cards) h
 
-pub rest-none : (m : Machine) (rest : List SignalCard) (cards : List (List ℕ)) → length rest ≡ 0 → with_signals_at_rest m (signals_of rest) cards ≡ left_with m rest cards
+pub rest-none : (m : Machine) (rest : List Signal) (cards : List (List ℕ)) → length rest ≡ 0 → with_signals_at_rest m rest cards ≡ left_with m rest cards
 rest-none m [] cards h = refl
 rest-none m (x ∷ xs) cards h = absurd (omega arith)
 
-pub rest-stops : (m : Machine) (rest xs : List SignalCard) (x : SignalCard) (cards : List (List ℕ)) → rest ≡ x ∷ xs → rests m ≡ false → with_signals_at_rest m (signals_of rest) cards ≡ left_with m rest cards
+pub rest-stops : (m : Machine) (rest xs : List Signal) (x : Signal) (cards : List (List ℕ)) → rest ≡ x ∷ xs → rests m ≡ false → with_signals_at_rest m rest cards ≡ left_with m rest cards
 rest-stops m rest xs x cards e h =
-    ap (λ zs. with_signals_at_rest m (signals_of zs) cards) e
-    ∙ (ap (λ b. if b then with_signals_at_rest (signalled m x.indicator) (signals_of xs) cards else left_with m (x ∷ xs) cards) h
+    ap (λ zs. with_signals_at_rest m zs cards) e
+    ∙ (ap (λ b. if b then with_signals_at_rest (signalled m x.indicator) xs cards else left_with m (x ∷ xs) cards) h
     ∙ ap (λ zs. left_with m zs cards) (sym e))
 
-pub rest-goes : (m : Machine) (rest xs : List SignalCard) (x : SignalCard) (cards : List (List ℕ)) → rest ≡ x ∷ xs → rests m ≡ true → with_signals_at_rest m (signals_of rest) cards ≡ with_signals_at_rest (signalled m x.indicator) (signals_of xs) cards
+pub rest-goes : (m : Machine) (rest xs : List Signal) (x : Signal) (cards : List (List ℕ)) → rest ≡ x ∷ xs → rests m ≡ true → with_signals_at_rest m rest cards ≡ with_signals_at_rest (signalled m x.indicator) xs cards
 rest-goes m rest xs x cards e h =
-    ap (λ zs. with_signals_at_rest m (signals_of zs) cards) e
-    ∙ ap (λ b. if b then with_signals_at_rest (signalled m x.indicator) (signals_of xs) cards else left_with m (x ∷ xs) cards) h
+    ap (λ zs. with_signals_at_rest m zs cards) e
+    ∙ ap (λ b. if b then with_signals_at_rest (signalled m x.indicator) xs cards else left_with m (x ∷ xs) cards) h
 
 -- ---- cards
 

@@ -4,7 +4,8 @@ use Rattle.std.specs.Prelude.{Result, Ok, Err, IfOk}
 use Rattle.st_exch.proofs.CardLemmas.{cards-size, cards-below}
 use Rattle.st_card.specs.Controls.{Asked}
 use Rattle.st_state.specs.Machine.{Machine, IsMachine, opening}
-use Rattle.st_run.specs.Run.{Signal, Scene}
+use Rattle.st_card.specs.declared.control_cards.Signal.{Signal}
+use Rattle.st_run.specs.Run.{Scene}
 use Rattle.st_exch.specs.Reader.{reader_cards}
 use Rattle.st_run.specs.Scenes.{IsCard, IsScene}
 use Rattle.st_run.specs.TimedRun.{timed_run}

@@ -10,7 +10,7 @@ use Rattle.st_io.specs.Lines.{text}
 use Rattle.st_io.proofs.Writing.{wrote_at_moment}
 use Rattle.st_card.specs.Controls.{Asked, is_in_range}
 use Rattle.st_card.specs.declared.limits.TheConstants.{MOST_DELAY}
-use Rattle.st_card.specs.declared.control_cards.Signal.{Signal as SignalCard}
+use Rattle.st_card.specs.declared.control_cards.Signal.{Signal}
 use Rattle.st_state.specs.Machine.{opening}
 use Rattle.st_state.proofs.Kept.{is_machine-opening}
 use Rattle.st_report.specs.Line.{levels_line}
@@ -18,7 +18,6 @@ use Rattle.st_run.specs.Scenes.{IsCard, IsScene}
 use Rattle.st_sweep.specs.Sweep.{without_cards}
 use Rattle.st_sweep.specs.SideBySide.{swept}
 use Rattle.st_sweep.specs.declared.sweeping.Swept.{Swept}
-use Rattle.st_run.specs.Together.{signals_of}
 use Rattle.st_top.specs.Sweep.{levels_lines, sweep_lines, sweep_start, sweep_of}
 use Rattle.st_top.specs.Output.{output_of_sweep}
 use Rattle.st_top.specs.Answers.{WroteAll, Writes}
@@ -41,14 +40,14 @@ delays_last ds es limits same =
     let x = slice_index_or ds k d in leb-true 1 x (and_parts (nat_le 1 x) (nat_le x MOST_DELAY) (limits k d lt)).0)
 
 -- what is swept is what is asked for
-pub swept_is : {E : Type 0} (r : Result Swept E) (image : List ℕ) (start : ℕ) (asked : Asked) (ds : List ℕ) (budget : ℕ) (xs : List SignalCard)
-    → IfOk r (λ s. s ≡ swept ds budget (without_cards (opening image start) (signals_of xs)))
+pub swept_is : {E : Type 0} (r : Result Swept E) (image : List ℕ) (start : ℕ) (asked : Asked) (ds : List ℕ) (budget : ℕ) (xs : List Signal)
+    → IfOk r (λ s. s ≡ swept ds budget (without_cards (opening image start) xs))
     → ds ≡ asked.delays → budget ≡ asked.budget → xs ≡ asked.signals → IfOk r (λ s. s ≡ sweep_of image start asked)
 unfolding sweep_of
 swept_is (Ok s) image start asked ds budget xs e delays many signals =
-    e ∙ (ap (λ (es : List ℕ). swept es budget (without_cards (opening image start) (signals_of xs))) delays
-    ∙ (ap (λ (n : ℕ). swept asked.delays n (without_cards (opening image start) (signals_of xs))) many
-    ∙ ap (λ (ys : List SignalCard). swept asked.delays asked.budget (without_cards (opening image start) (signals_of ys))) signals))
+    e ∙ (ap (λ (es : List ℕ). swept es budget (without_cards (opening image start) xs)) delays
+    ∙ (ap (λ (n : ℕ). swept asked.delays n (without_cards (opening image start) xs)) many
+    ∙ ap (λ (ys : List Signal). swept asked.delays asked.budget (without_cards (opening image start) ys)) signals))
 swept_is (Err x) image start asked ds budget xs e delays many signals = tt
 
 -- its start is a scene

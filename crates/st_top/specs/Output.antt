@@ -9,7 +9,6 @@ use Rattle.st_exch.specs.Reader.{reader_cards}
 use Rattle.st_run.specs.Run.{Scene}
 use Rattle.st_io.specs.Event.{Event, at_moment}
 use Rattle.st_report.specs.Line.{fault_line}
-use Rattle.st_run.specs.Together.{signals_of}
 use Rattle.st_top.specs.Listing.{front}
 use Rattle.st_top.specs.StepsBack.{end_of, run_report}
 use Rattle.st_top.specs.Sweep.{sweep_lines, sweep_of}
@@ -43,7 +42,7 @@ refused r = lines_alone Refused (fault_line r.card (name_of r.fault) ∷ [])
 abbrev pub scene_of : List ℕ → ℕ → Asked → List ℕ → Scene
 scene_of image start asked job = record {
   machine = opening image start;
-  signals = signals_of asked.signals;
+  signals = asked.signals;
   cards = reader_cards job;
 }
 
@@ -92,7 +91,7 @@ assembled_by (Err r) = refused r
 
 -- the start of the run of a program that is loaded; the reader is empty
 abbrev pub loaded_start : Program → Scene
-loaded_start p = record { machine = opening p.words p.start; signals = signals_of p.controls.signals; cards = [] }
+loaded_start p = record { machine = opening p.words p.start; signals = p.controls.signals; cards = [] }
 
 -- the output of `load`, by what an object text gives: the program, or the number of the line that is refused
 abbrev pub loaded_by : Result Program ℕ → Output

@@ -7,7 +7,6 @@ use Rattle.st_report.specs.Line.{levels_line, calm_line}
 use Rattle.st_sweep.specs.Sweep.{without_cards}
 use Rattle.st_sweep.specs.SideBySide.{swept}
 use Rattle.st_sweep.specs.declared.sweeping.Swept.{Swept}
-use Rattle.st_run.specs.Together.{signals_of}
 
 -- the lines of machines with n levels, n + 1 levels and so on, by their ticks
 unfoldable pub levels_lines : ℕ → List ℕ → List (List ℕ)
@@ -20,7 +19,7 @@ sweep_lines s = levels_lines 1 s.ticks ++ calm_line s.calm ∷ []
 
 -- the start of the runs of a sweep: the reader is empty
 abbrev pub sweep_start : List ℕ → ℕ → Asked → Scene
-sweep_start image start asked = without_cards (opening image start) (signals_of asked.signals)
+sweep_start image start asked = without_cards (opening image start) asked.signals
 
 -- what a sweep tells of an image, a start and what is asked for
 unfoldable pub sweep_of : List ℕ → ℕ → Asked → Swept

@@ -20,13 +20,12 @@ impl<'a> Model for Scene<'a> {
     ghost use Rattle.std.specs.List.{AllPass};
     ghost use Rattle.st_card.specs.Limits.{is_signal};
     ghost use Rattle.st_run.specs.Run as run;
-    ghost use Rattle.st_run.specs.Together.{signals_of};
 
     ghost Value = { run.Scene };
 
     ghost view = { λ c. record {
       machine = c.machine;
-      signals = signals_of c.signals.now;
+      signals = c.signals.now;
       cards = c.cards;
     } };
 
@@ -36,14 +35,13 @@ impl<'a> Model for Scene<'a> {
 impl<'a> Scene<'a> {
     ghost use Rattle.std.specs.List.{AllPass};
     ghost use Rattle.st_card.specs.Limits.{is_signal};
-    ghost use Rattle.st_run.specs.Together.{signals_of};
 
     /// A run at its start.
     pub fn new(machine: State, signals: &'a [Signal], cards: Hopper) -> Scene<'a>
         requires { AllPass is_signal signals.now }
         ensures { result ≡ record {
           machine = machine;
-          signals = signals_of signals.now;
+          signals = signals.now;
           cards = cards;
         } }
     {

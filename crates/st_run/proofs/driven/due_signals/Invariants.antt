@@ -3,7 +3,6 @@ use Rattle.std.specs.List.{AllPass}
 use Rattle.st_card.specs.Limits.{is_signal}
 use Rattle.st_run.specs.Run.{with_due_signals}
 use Rattle.st_ahead.specs.Calls.{MaySignal}
-use Rattle.st_run.specs.Together.{signals_of}
 use Rattle.st_run.proofs.driven.due_signals.Given as goal
 
 abbrev pub invariant-signals : goal.invariant-signals
@@ -11,8 +10,8 @@ invariant-signals g l = record {
   passes : AllPass is_signal l.rest;
   turn : MaySignal l.machine;
   machine : l.machine ≡ record l.fn.machine { state = l.machine.state };
-  came : (cards : List (List ℕ)) → with_due_signals l.machine.state (signals_of l.rest) cards
-      ≡ with_due_signals l.fn.machine.state (signals_of l.signals) cards;
+  came : (cards : List (List ℕ)) → with_due_signals l.machine.state l.rest cards
+      ≡ with_due_signals l.fn.machine.state l.signals cards;
 }
 
 abbrev pub decreases-signals : goal.decreases-signals

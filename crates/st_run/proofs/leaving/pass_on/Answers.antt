@@ -1,6 +1,5 @@
 use Rattle.std.proofs.Common.{sym, ◌∙◌, ap}
 use Rattle.st_state.specs.Machine.{Machine}
-use Rattle.st_run.specs.Together.{signals_of}
 use Rattle.st_run.specs.Between.{signal_due}
 use Rattle.st_run.proofs.QuietLemmas.{passed-decided, passed-parts}
 use Rattle.st_run.proofs.leaving.pass_on.Goals as goal
@@ -8,17 +7,17 @@ use Rattle.st_run.proofs.leaving.pass_on.Goals as goal
 pub returns-clause-decided : goal.returns-clause-decided
 returns-clause-decided g c passed =
     passed-decided c.args.left c.args.driven.now c.driven.inside.machine c.settle.new.self _ _ c.driven.view_is c.requires c.if-left-eq0.false
-    (ap (λ (s : Machine). signal_due s.done (signals_of c.driven.inside.signals.now)) (sym c.state.ensures) ∙ sym c.signal_is_due.ensures ∙ c.if-signal_is_due.false)
+    (ap (λ (s : Machine). signal_due s.done c.driven.inside.signals.now) (sym c.state.ensures) ∙ sym c.signal_is_due.ensures ∙ c.if-signal_is_due.false)
     (c.is_quiet.ensures c.if-not-is_quiet.false) c.settle.ensures.after
 
 pub returns-clause-delays : goal.returns-clause-delays
 returns-clause-delays g c =
     (passed-parts c.args.left c.args.driven.now c.driven.inside.machine c.settle.new.self _ _ c.driven.view_is c.requires c.if-left-eq0.false
-    (ap (λ (s : Machine). signal_due s.done (signals_of c.driven.inside.signals.now)) (sym c.state.ensures) ∙ sym c.signal_is_due.ensures ∙ c.if-signal_is_due.false)
+    (ap (λ (s : Machine). signal_due s.done c.driven.inside.signals.now) (sym c.state.ensures) ∙ sym c.signal_is_due.ensures ∙ c.if-signal_is_due.false)
     (c.is_quiet.ensures c.if-not-is_quiet.false) c.settle.ensures.after).delays
 
 pub returns-clause-levels : goal.returns-clause-levels
 returns-clause-levels g c =
     (passed-parts c.args.left c.args.driven.now c.driven.inside.machine c.settle.new.self _ _ c.driven.view_is c.requires c.if-left-eq0.false
-    (ap (λ (s : Machine). signal_due s.done (signals_of c.driven.inside.signals.now)) (sym c.state.ensures) ∙ sym c.signal_is_due.ensures ∙ c.if-signal_is_due.false)
+    (ap (λ (s : Machine). signal_due s.done c.driven.inside.signals.now) (sym c.state.ensures) ∙ sym c.signal_is_due.ensures ∙ c.if-signal_is_due.false)
     (c.is_quiet.ensures c.if-not-is_quiet.false) c.settle.ensures.after).levels

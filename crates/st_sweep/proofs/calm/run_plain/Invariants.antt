@@ -2,7 +2,6 @@ use Rattle.std.proofs.Common.{[]}
 use Rattle.std.specs.List.{AllPass}
 use Rattle.st_card.specs.Limits.{is_signal}
 use Rattle.st_run.specs.Run.{run}
-use Rattle.st_run.specs.Together.{signals_of}
 use Rattle.st_sweep.specs.Calm.{is_calm_behind}
 use Rattle.st_sweep.specs.Sweep.{without_cards}
 use Rattle.st_sweep.proofs.PlainRun.{IsSoFar}
@@ -10,10 +9,10 @@ use Rattle.st_sweep.proofs.calm.run_plain.Given as goal
 
 abbrev pub invariant-entries : goal.invariant-entries
 invariant-entries l =
-    let c = without_cards l.fn.state (signals_of l.signals) in
+    let c = without_cards l.fn.state l.signals in
     record {
       passes : AllPass is_signal l.rest;
-      so_far : IsSoFar (is_calm_behind [] l.budget c) (run l.budget c).last.done l.calm l.left l.state (signals_of l.rest) l.written;
+      so_far : IsSoFar (is_calm_behind [] l.budget c) (run l.budget c).last.done l.calm l.left l.state l.rest l.written;
     }
 
 abbrev pub decreases-entries : goal.decreases-entries

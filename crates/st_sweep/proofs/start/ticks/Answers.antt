@@ -1,5 +1,4 @@
 use Rattle.std.proofs.Common.{sym, ◌∙◌, ap}
-use Rattle.st_run.specs.Together.{signals_of}
 use Rattle.st_sweep.specs.Starts.{ticks_from}
 use Rattle.st_sweep.proofs.ToldTicks.{told-whole, last_told-next, last_told-end}
 use Rattle.st_sweep.proofs.start.ticks.Goals as goal
@@ -7,8 +6,8 @@ use Rattle.st_sweep.proofs.start.ticks.Goals as goal
 pub run-init : goal.run-init
 run-init g c = record {
   same =
-      told-whole _ g.row.N c.args.budget _ (signals_of c.args.signals.now) _ _ c.new-run.ensures c.empty.ensures
-      ∙ ap (λ s. ticks_from s g.row.N c.args.budget (signals_of c.args.signals.now)) c.start.view_is;
+      told-whole _ g.row.N c.args.budget _ c.args.signals.now _ _ c.new-run.ensures c.empty.ensures
+      ∙ ap (λ s. ticks_from s g.row.N c.args.budget c.args.signals.now) c.start.view_is;
 }
 
 pub run-preserved : goal.run-preserved

@@ -1,12 +1,11 @@
 use Rattle.std.proofs.Common.{◌≡◌, length}
-use Rattle.st_run.specs.Together.{signals_of}
 use Rattle.st_sweep.specs.Starts.{ticks_from}
 use Rattle.st_sweep.proofs.ToldTicks.{last_told}
 use Rattle.st_sweep.proofs.start.ticks.Given as goal
 
 abbrev pub invariant-run : goal.invariant-run
 invariant-run g l = record {
-  same : last_told l.tick l.run.rest ≡ ticks_from l.fn.start g.row.N l.budget (signals_of l.signals);
+  same : last_told l.tick l.run.rest ≡ ticks_from l.fn.start g.row.N l.budget l.signals;
 }
 
 abbrev pub decreases-run : goal.decreases-run

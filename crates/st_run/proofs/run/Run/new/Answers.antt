@@ -3,7 +3,7 @@ use Rattle.st_run.specs.Run.{Scene, with_due_signals}
 use Rattle.st_rows.proofs.Within.{AreDelays-list}
 use Rattle.st_ahead.specs.Overlap.{Overlap}
 use Rattle.st_run.specs.Scenes.{IsScene}
-use Rattle.st_run.specs.Together.{Together, with_scene, signals_of}
+use Rattle.st_run.specs.Together.{Together, with_scene}
 use Rattle.st_run.specs.Telling.{Waiting, IsRun, rest_of}
 use Rattle.st_run.specs.declared.turn.Turn.TheVariants as turns
 use Rattle.st_run.proofs.StartLemmas.{IsIdle, start-run, start-told, none}
@@ -12,7 +12,7 @@ use Rattle.st_run.proofs.run.Run.new.Goals as goal
 pub invariant_of-result : goal.invariant_of-result
 invariant_of-result g c =
     let r = c.requires in
-    let scene : Scene = record { machine = c.args.state; signals = signals_of c.args.signals.now; cards = c.args.cards } in
+    let scene : Scene = record { machine = c.args.state; signals = c.args.signals.now; cards = c.args.cards } in
     let idle : IsIdle c.args.state = record { enabled = r.enabled; waiting = r.waiting; reader = r.reader; printer = r.printer } in
     let is : IsScene scene = record { machine = c.shape.ensures; cards = r.cards } in
     let same = c.take_due_signals.ensures
@@ -26,7 +26,7 @@ invariant_of-result g c =
 pub returns : goal.returns
 returns g c =
     let r = c.requires in
-    let scene : Scene = record { machine = c.args.state; signals = signals_of c.args.signals.now; cards = c.args.cards } in
+    let scene : Scene = record { machine = c.args.state; signals = c.args.signals.now; cards = c.args.cards } in
     let idle : IsIdle c.args.state = record { enabled = r.enabled; waiting = r.waiting; reader = r.reader; printer = r.printer } in
     let is : IsScene scene = record { machine = c.shape.ensures; cards = r.cards } in
     let same = c.take_due_signals.ensures
