@@ -84,7 +84,7 @@ impl Model for Controls {
 impl Controls {
     /// Controls that ask for nothing.
     pub fn new(alloc: Global) -> Controls
-        ensures nothing { result ≡ spec.nothing }
+        ensures nothing { result ≡ spec.nothing_asked }
         ensures limits { IsWithinLimits result }
     {
         Controls {

@@ -32,7 +32,7 @@ fn count_filled(symbols: &Symbols, before: u64, word: u64) -> u32
 #[tactic(auto, unfolding(crate::specs::Deck::cards_of_word))]
 fn count_placed(symbols: &Symbols, before: u64, word: u64) -> u32
     requires { symbols.now ≡ [] }
-    ensures count { result ≡ length (spec.placed 0 before word) }
+    ensures count { result ≡ length (spec.cards_of_word 0 before word) }
     ensures few { result ≤ 3 }
 {
     if word == 0 {

@@ -85,7 +85,7 @@ fn push_placed(
 ) -> Result<(), AllocError>
     requires { symbols.now ≡ [] }
     ensures { OnOk result (deck.new.items
-        ≡ deck.old.items ++ spec.deck_of (spec.placed w before word)) }
+        ≡ deck.old.items ++ spec.deck_of (spec.cards_of_word w before word)) }
 {
     if word == 0 {
         return Ok(());

@@ -255,7 +255,7 @@ fn end_wait<const N: usize>(driven: &mut Driven<N>) -> Option<ArrayString<64>>
 // printed.
 fn come<const N: usize>(driven: &mut Driven<N>) -> (bool, Option<ArrayString<64>>)
     requires { MayServe driven.old.machine }
-    ensures came { Came (run.settled (scene_of driven.old)) (option_map (λ x. x.bytes) result.1)
+    ensures came { Came (run.interlude (scene_of driven.old)) (option_map (λ x. x.bytes) result.1)
         false result.0 driven.old driven.new }
     ensures over { result.0 ≡ (has_card (moment_of driven.old) || has_waited (moment_of driven.old)) }
 {

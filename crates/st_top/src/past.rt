@@ -180,7 +180,7 @@ fn end_wait(scene: &mut Scene, steps: &mut Back)
 // What comes between two steps: signals and orders that are due, and what ends a wait. Nothing is printed.
 fn settle(scene: &mut Scene, steps: &mut Back)
     requires { IsReady (scene.old, steps.old) }
-    ensures { IsMoved (scene.old, steps.old) (scene.new, steps.new) (run.settled scene.old).scene }
+    ensures { IsMoved (scene.old, steps.old) (scene.new, steps.new) (run.interlude scene.old).scene }
 {
     move_by_due_signals(scene, steps);
     serve_due(scene, steps);
