@@ -3,13 +3,14 @@ use Rattle.std.proofs.Common.{◌≡◌, ◌≢◌, ℕ, zero, suc, ◌/◌, ◌
 use Rattle.std.proofs.lemmas.Bool.{eqb-true}
 use Rattle.std.proofs.lemmas.Bool.Decides.{nat_tests}
 use Rattle.st_format.specs.declared.instruction.Decoded.{Decoded}
-use Rattle.st_format.specs.Formats.{decoded}
+use Rattle.st_format.specs.Formats.{decoded, instruction_of}
+use Rattle.st_prep.specs.declared.entries.Place.{Place}
 use Rattle.st_prep.specs.declared.entries.Fetched.{Fetched}
 use Rattle.st_prep.specs.declared.entries.Fetching.{Fetching}
 use Rattle.st_prep.specs.declared.entries.Fetching.TheVariants.{Next, Found as FoundAll}
 use Rattle.st_prep.specs.declared.fetching.Found.{Found}
 use Rattle.st_prep.specs.declared.fetching.Part.TheVariants.{Has}
-use Rattle.st_prep.specs.Reading.{Reading, Finds, Reads, left_after, given, given_by, half_of, no_instr, Use, with_second, with_first, read_after, with_target}
+use Rattle.st_prep.specs.Reading.{Reading, Finds, Reads, left_after, given, given_by, half_of, no_instr, Use, with_second, with_first, read_after, with_target, instruction_at, is_execute, own_use, reading, plain, allowed_found}
 
 abbrev pub of : Reading → List ℕ → Fetching
 of r contents = given (left_after r contents)
@@ -108,6 +109,15 @@ pub other-found : (e : Bool) (r : Reading) (f : Fetched) (cs : List ℕ) → e �
 unfolding left_after given
 other-found true r f cs h = cc
 other-found false r f cs h = refl
+
+-- what is not EX and may be fetched is all that is fetched, where the first word tells all of it
+pub known-found : (x : List ℕ) (b : ℕ) (en : Bool) (place : Place) (c first second : ℕ)
+    → ((k : Use) → of (instruction_at false b en place.address k) (c ∷ []) ≡ of (k (allowed_found first second)) [])
+    → is_execute (instruction_of first second) ≡ false
+    → of (reading x b en place) (c ∷ []) ≡ FoundAll (plain (decoded first second))
+unfolding reading own_use
+known-found x b en place c first second found h =
+    found (own_use x b en) ∙ other-found (is_execute (instruction_of first second)) _ _ [] h
 
 pub target-given : (e : Bool) (r : Reading) (f : Fetched) (cs : List ℕ) → e ≡ true
     → of (if e then r else Finds f) cs ≡ of r cs

@@ -1,5 +1,5 @@
 //! How an entry is fetched, one instruction word after another.
-ghost use Rattle.std.specs.Prelude.{◌≡◌, ℕ, ◌+◌, ◌/◌, ◌<◌, ◌≤◌, ◌^◌, Bool, true, false, None, IfSome, length, drop, slice_index};
+ghost use Rattle.std.specs.Prelude.{◌≡◌, ℕ, ◌+◌, ◌/◌, ◌<◌, ◌≤◌, ◌^◌, Bool, true, false, None, IfSome, [], ◌∷◌, length, drop, slice_index};
 ghost use Rattle.st_bits.specs.Storage.{words_of_storage};
 ghost use Rattle.st_state.specs.Machine.{word};
 ghost use Rattle.st_state.specs.Boundary.{forbidden_by};
@@ -299,6 +299,60 @@ pub fn halves_at(h: u32, state: &State) -> Option<(u32, u32)>
             None => None,
         },
         None => None,
+    }
+}
+
+// The second half-word of the instruction at the half-word address `h`, whose first word has this content, where it stands in
+// that word too.
+#[inline(always)]
+fn second_inside(h: u32, content: u64) -> Option<u32>
+    requires { h < 2 ^ 19 }
+    ensures { IfSome result (λ second. ((h + 1) / 2 ≡ h / 2) × (second ≡ half_by content (h + 1))) }
+{
+    if (h + 1) / 2 == h / 2 {
+        Some(half_of(content, h + 1))
+    } else {
+        None
+    }
+}
+
+// The half-words of the instruction at the half-word address `h`, where they all stand in its first word, which has this content
+// and may be fetched. Where there is only one, 0 stands for the second.
+#[inline(always)]
+#[tactic(auto, unfolding(crate::specs::Reading::with_first))]
+fn halves_inside(h: u32, content: u64, state: &State) -> Option<(u32, u32)>
+    requires address { h < 2 ^ 19 }
+    requires allowed { forbidden_by (word state.now 3) state.now.enabled Access.Fetch (h / 2)
+        ≡ None }
+    ensures { IfSome result (λ r. (k : Use) → given (left_after (with_first_of false (word state.now 3)
+        state.now.enabled h content k) []) ≡ given (left_after (k (allowed_found r.0 r.1)) [])) }
+{
+    let first = half_of(content, h);
+    if length_in_halves(first) == 2 {
+        match second_inside(h, content) {
+            Some(second) => Some((first, second)),
+            None => None,
+        }
+    } else {
+        Some((first, 0))
+    }
+}
+
+/// The half-words of the instruction at the half-word address `h`, below 2^19, where the content of its first word tells all of it
+/// and that word may be fetched. Where there is only one, 0 stands for the second.
+#[inline(always)]
+#[tactic(auto, unfolding(crate::specs::Reading::instruction_at))]
+pub fn halves_known(h: u32, content: u64, state: &State) -> Option<(u32, u32)>
+    requires { h < 2 ^ 19 }
+    ensures { IfSome result (λ r. (k : Use) → given (left_after (instruction_at false (word state.now 3)
+        state.now.enabled h k) (content ∷ [])) ≡ given (left_after (k (allowed_found r.0 r.1)) [])) }
+{
+    match state.may(Access::Fetch, h / 2) {
+        Some(_) => None,
+        None => match halves_inside(h, content, state) {
+            Some((first, second)) => Some((first, second)),
+            None => None,
+        },
     }
 }
 

@@ -14,7 +14,7 @@ mod preparation;
 mod runs;
 
 pub use entries::{Fetched, Fetching, IndexChange, Needs, Place, Prepared, Words};
-pub use fetching::{fetch, fetch_on, index_words, place_of};
+pub use fetching::{fetch, fetch_on, halves_known, index_words, place_of};
 pub use laws::{
     entries_read_36_words_at_most, entries_with_a_target_are_alone,
     index_side_words_change_index_words_alone, indicators_are_not_seen,
