@@ -1,5 +1,5 @@
 -- What is given by the contents so far, one instruction after the other.
-use Rattle.std.proofs.Common.{◌≡◌, ◌≢◌, ℕ, zero, suc, ◌/◌, ◌≤◌, Bool, true, false, ◌==◌, if◌then◌else◌, List, [], ◌∷◌, length, get_or, drop, Option, None, Some, refl, ◌∙◌, ap, arith}
+use Rattle.std.proofs.Common.{◌≡◌, ◌≢◌, ℕ, zero, suc, ◌/◌, ◌≤◌, Bool, true, false, ◌==◌, if◌then◌else◌, List, [], ◌∷◌, length, get_or, drop, Option, None, Some, refl, sym, ◌∙◌, ap, arith}
 use Rattle.std.proofs.lemmas.Bool.{eqb-true}
 use Rattle.std.proofs.lemmas.Bool.Decides.{nat_tests}
 use Rattle.st_format.specs.declared.instruction.Decoded.{Decoded}
@@ -102,6 +102,34 @@ second-has None t first h v content k cs e other some =
     ∙ ap (of (k (record { decoded = decoded first (half_of (get_or cs 1 0) h); fault = None }))) (rest-rest cs)
 second-has (Some j) t first h v content k cs e other some = cc
 
+-- what is found by the contents does not look at the rest of them
+pub found-of : (r : Reading) (f : Fetched) (cs : List ℕ) → r ≡ Finds f → of r cs ≡ FoundAll f
+unfolding left_after given
+found-of r f cs e = ap (λ r. given (left_after r cs)) e
+
+-- the same, where the second half-word is the one that is used
+pub found-second : (r : Fetching) (first made second : ℕ) (k : Use) (f : Fetched) (cs : List ℕ)
+    → r ≡ of (k (record { decoded = decoded first made; fault = None })) cs → second ≡ made
+    → k (record { decoded = decoded first second; fault = None }) ≡ Finds f → r ≡ FoundAll f
+found-second r first made second k f cs is same found =
+    is
+    ∙ ap (λ x. of (k (record { decoded = decoded first x; fault = None })) cs) (sym same)
+    ∙ found-of (k (record { decoded = decoded first second; fault = None })) f cs found
+
+found-first : (two : Bool) (r q : Reading) (f : Fetched) (cs : List ℕ) → two ≡ false → q ≡ Finds f → of (if two then r else q) cs ≡ FoundAll f
+found-first true r q f cs h found = cc
+found-first false r q f cs h found = found-of q f cs found
+
+-- an instruction of one half-word
+pub found-short : (b : ℕ) (en : Bool) (h content first : ℕ) (k : Use) (f : Fetched) (cs : List ℕ) → first ≡ half_of content h
+    → ((decoded first 0).halves == 2) ≡ false → k (record { decoded = decoded first 0; fault = None }) ≡ Finds f
+    → of (with_first false b en h content k) cs ≡ FoundAll f
+unfolding with_first
+found-short b en h content first k f cs same short found =
+    found-first ((decoded (half_of content h) 0).halves == 2) _ _ f cs
+    (ap (λ x. (decoded x 0).halves == 2) (sym same) ∙ short)
+    (ap (λ x. k (record { decoded = decoded x 0; fault = None })) (sym same) ∙ found)
+
 -- ---- the target of EX
 
 pub other-found : (e : Bool) (r : Reading) (f : Fetched) (cs : List ℕ) → e ≡ false
@@ -110,14 +138,18 @@ unfolding left_after given
 other-found true r f cs h = cc
 other-found false r f cs h = refl
 
--- what is not EX and may be fetched is all that is fetched, where the first word tells all of it
-pub known-found : (x : List ℕ) (b : ℕ) (en : Bool) (place : Place) (c first second : ℕ)
-    → ((k : Use) → of (instruction_at false b en place.address k) (c ∷ []) ≡ of (k (allowed_found first second)) [])
+chosen-found : (e : Bool) (r : Reading) (f : Fetched) → e ≡ false → (if e then r else Finds f) ≡ Finds f
+chosen-found true r f h = cc
+chosen-found false r f h = refl
+
+-- what is not EX and may be fetched is all that is fetched, where the contents tell all of it
+pub known-found : (x : List ℕ) (b : ℕ) (en : Bool) (place : Place) (cs : List ℕ) (first second : ℕ)
+    → ((k : Use) (f : Fetched) → k (allowed_found first second) ≡ Finds f → of (instruction_at false b en place.address k) cs ≡ FoundAll f)
     → is_execute (instruction_of first second) ≡ false
-    → of (reading x b en place) (c ∷ []) ≡ FoundAll (plain (decoded first second))
+    → of (reading x b en place) cs ≡ FoundAll (plain (decoded first second))
 unfolding reading own_use
-known-found x b en place c first second found h =
-    found (own_use x b en) ∙ other-found (is_execute (instruction_of first second)) _ _ [] h
+known-found x b en place cs first second found h =
+    found (own_use x b en) (plain (decoded first second)) (chosen-found (is_execute (instruction_of first second)) _ _ h)
 
 pub target-given : (e : Bool) (r : Reading) (f : Fetched) (cs : List ℕ) → e ≡ true
     → of (if e then r else Finds f) cs ≡ of r cs
@@ -135,6 +167,9 @@ is_none n h = eqb-true n 0 h
 pub is_some : (n : ℕ) → (n == 0) ≡ false → 1 ≤ n
 is_some zero h = cc
 is_some (suc n) h = omega arith
+
+pub same_test : (a b : ℕ) → a ≡ b → (a == b) ≡ true
+same_test a b h = grind (arith, nat_tests, h)
 
 pub differs : (a b : ℕ) → a ≢ b → (a == b) ≡ false
 differs a b h = grind (arith, nat_tests, h)

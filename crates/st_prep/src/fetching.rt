@@ -1,11 +1,13 @@
 //! How an entry is fetched, one instruction word after another.
-ghost use Rattle.std.specs.Prelude.{◌≡◌, ℕ, ◌+◌, ◌/◌, ◌<◌, ◌≤◌, ◌^◌, Bool, true, false, None, IfSome, [], ◌∷◌, length, drop, slice_index};
+ghost use Rattle.std.specs.Prelude.{◌≡◌, ℕ, ◌+◌, ◌/◌, ◌<◌, ◌≤◌, ◌^◌, Bool, true, false, None, IfSome, length, drop, slice_index};
 ghost use Rattle.st_bits.specs.Storage.{words_of_storage};
 ghost use Rattle.st_state.specs.Machine.{word};
 ghost use Rattle.st_state.specs.Boundary.{forbidden_by};
 ghost use Rattle.st_state.specs.declared.protection.Access.{Access};
 ghost use Rattle.st_prep.specs.Fetch.{index_words as index_words_of, place_of as place_by, address_by, fetched as fetched_at};
-ghost use Rattle.st_prep.specs.Reading.{Use, outcome, left_after, given, half_of as half_by, no_instr as no_instr_of, with_second as with_second_of, with_first as with_first_of, instruction_at, is_execute as is_execute_of, with_target as with_target_of, own_use, reading, given_by, allowed_found};
+ghost use Rattle.st_prep.specs.declared.entries.Fetched.{Fetched as FetchedOf};
+ghost use Rattle.st_prep.specs.declared.entries.Fetching.TheVariants.{Found as FoundAll};
+ghost use Rattle.st_prep.specs.Reading.{Use, Finds, outcome, left_after, given, half_of as half_by, no_instr as no_instr_of, with_second as with_second_of, with_first as with_first_of, instruction_at, is_execute as is_execute_of, with_target as with_target_of, own_use, reading, given_by, allowed_found};
 ghost use Rattle.st_prep.specs.Ranges.{HasFields, IsPlace, IsPart, IsFound, IsFetched, IsFetching};
 
 use crate::addresses::effective_address;
@@ -302,34 +304,45 @@ pub fn halves_at(h: u32, state: &State) -> Option<(u32, u32)>
     }
 }
 
-// The second half-word of the instruction at the half-word address `h`, whose first word has this content, where it stands in
-// that word too.
+// The second half-word of the instruction at the half-word address `h`, where the contents have it and it may be fetched.
 #[inline(always)]
-fn second_inside(h: u32, content: u64) -> Option<u32>
-    requires { h < 2 ^ 19 }
-    ensures { IfSome result (λ second. ((h + 1) / 2 ≡ h / 2) × (second ≡ half_by content (h + 1))) }
+fn second_known(h: u32, contents: &[u64], state: &State) -> Option<u32>
+    requires address { h < 2 ^ 19 }
+    requires some { 1 ≤ length contents.now }
+    requires allowed { forbidden_by (word state.now 3) state.now.enabled Access.Fetch (h / 2)
+        ≡ None }
+    ensures { IfSome result (λ second. (first : ℕ) (k : Use) (f : FetchedOf) →
+        k (allowed_found first second) ≡ Finds f → given (left_after (with_second_of
+        (forbidden_by (word state.now 3) state.now.enabled Access.Fetch ((h + 1) / 2)) false first
+        (h + 1) (h / 2) (slice_index contents.now 0) k) (drop 1 contents.now)) ≡ FoundAll f) }
 {
     if (h + 1) / 2 == h / 2 {
-        Some(half_of(content, h + 1))
-    } else {
-        None
+        return Some(half_of(contents[0], h + 1));
+    }
+    if contents.len() < 2 {
+        return None;
+    }
+    match state.may(Access::Fetch, (h + 1) / 2) {
+        Some(_) => None,
+        None => Some(half_of(contents[1], h + 1)),
     }
 }
 
-// The half-words of the instruction at the half-word address `h`, where they all stand in its first word, which has this content
-// and may be fetched. Where there is only one, 0 stands for the second.
+// The half-words of the instruction at the half-word address `h`, whose first word may be fetched, as `halves_known` gives them.
 #[inline(always)]
 #[tactic(auto, unfolding(crate::specs::Reading::with_first))]
-fn halves_inside(h: u32, content: u64, state: &State) -> Option<(u32, u32)>
+fn halves_of(h: u32, contents: &[u64], state: &State) -> Option<(u32, u32)>
     requires address { h < 2 ^ 19 }
+    requires some { 1 ≤ length contents.now }
     requires allowed { forbidden_by (word state.now 3) state.now.enabled Access.Fetch (h / 2)
         ≡ None }
-    ensures { IfSome result (λ r. (k : Use) → given (left_after (with_first_of false (word state.now 3)
-        state.now.enabled h content k) []) ≡ given (left_after (k (allowed_found r.0 r.1)) [])) }
+    ensures { IfSome result (λ r. (k : Use) (f : FetchedOf) →
+        k (allowed_found r.0 r.1) ≡ Finds f → given (left_after (with_first_of false (word state.now 3)
+        state.now.enabled h (slice_index contents.now 0) k) (drop 1 contents.now)) ≡ FoundAll f) }
 {
-    let first = half_of(content, h);
+    let first = half_of(contents[0], h);
     if length_in_halves(first) == 2 {
-        match second_inside(h, content) {
+        match second_known(h, contents, state) {
             Some(second) => Some((first, second)),
             None => None,
         }
@@ -338,18 +351,20 @@ fn halves_inside(h: u32, content: u64, state: &State) -> Option<(u32, u32)>
     }
 }
 
-/// The half-words of the instruction at the half-word address `h`, below 2^19, where the content of its first word tells all of it
-/// and that word may be fetched. Where there is only one, 0 stands for the second.
+/// The half-words of the instruction at the half-word address `h`, below 2^19, where the contents of its words, of which there is
+/// one at least, tell all of it, and the words may be fetched. Where there is only one, 0 stands for the second.
 #[inline(always)]
 #[tactic(auto, unfolding(crate::specs::Reading::instruction_at))]
-pub fn halves_known(h: u32, content: u64, state: &State) -> Option<(u32, u32)>
-    requires { h < 2 ^ 19 }
-    ensures { IfSome result (λ r. (k : Use) → given (left_after (instruction_at false (word state.now 3)
-        state.now.enabled h k) (content ∷ [])) ≡ given (left_after (k (allowed_found r.0 r.1)) [])) }
+pub fn halves_known(h: u32, contents: &[u64], state: &State) -> Option<(u32, u32)>
+    requires address { h < 2 ^ 19 }
+    requires some { 1 ≤ length contents.now }
+    ensures { IfSome result (λ r. (k : Use) (f : FetchedOf) →
+        k (allowed_found r.0 r.1) ≡ Finds f → given (left_after (instruction_at false (word state.now 3)
+        state.now.enabled h k) contents.now) ≡ FoundAll f) }
 {
     match state.may(Access::Fetch, h / 2) {
         Some(_) => None,
-        None => match halves_inside(h, content, state) {
+        None => match halves_of(h, contents, state) {
             Some((first, second)) => Some((first, second)),
             None => None,
         },
