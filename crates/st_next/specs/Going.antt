@@ -1,7 +1,8 @@
 -- How the entry that is prepared next goes on, and what it takes for granted.
 use Rattle.std.specs.Prelude.{ℕ, ◌≡◌, ◌+◌, ◌-◌, ◌^◌, ◌≤◌, ◌<◌, true, ◌&&◌, if◌then◌else◌, List, ◌++◌, All, Option, IfSome, is_none, option_map}
 use Rattle.st_state.specs.Machine.{Machine}
-use Rattle.st_prep.specs.Plan.{Sight, needs, prepared}
+use Rattle.st_prep.specs.declared.entries.Fetched.{Fetched}
+use Rattle.st_prep.specs.Plan.{Sight, seen, needs, prepared}
 use Rattle.st_rows.specs.Asked.{Read, asked}
 use Rattle.st_rows.specs.Ranges.{IsTight, IsFetchingWithin, ArePastWithin}
 use Rattle.st_rows.specs.Rows.{wanted_from, tick_a, bus_a, tick_p}
@@ -58,6 +59,12 @@ entry_seen own target v =
       serial = p.serial;
       follows = is_none v.place.table && is_none v.fetched.fault;
     }
+
+-- an entry of which this is fetched, prepared as far as it goes without its index-side word
+abbrev pub prepared_as : Fetched → List ℕ → Machine → Next → Next
+prepared_as fd x s next =
+    let v = seen next.place fd x s in
+    record next { fetched = fd; needs = needs v; prepared = prepared v (option_map (λ w. 0) (needs v).index_read) }
 
 -- an entry of which the words are there is planned, of which so much is seen
 pub record IsPlannedAs (ds : List ℕ) (n : ℕ) (f : Front) (v : Sight) (before after : Next) : Type 0 where

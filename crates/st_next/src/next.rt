@@ -5,8 +5,10 @@ ghost use Rattle.st_fetch.specs.Planned.{tick_of};
 ghost use Rattle.st_state.specs.Machine.{Machine, word};
 ghost use Rattle.st_prep.specs.Fetch.{place_of as place_by};
 ghost use Rattle.st_prep.specs.Plan.{seen, plan as plan_of, prepared as prepared_of, needs as needs_of};
-ghost use Rattle.st_prep.specs.Ranges.{IsPlace, IsFetched, IsFetching, IsPrepared, IsNeeds};
-ghost use Rattle.st_prep.specs.Reading.{reading, left_after, given as given_of};
+ghost use Rattle.st_prep.specs.Ranges.{HasFields, IsPlace, IsFetched, IsFetching, IsPrepared};
+ghost use Rattle.st_prep.specs.Reading.{reading, left_after, given as given_of, plain, is_execute};
+ghost use Rattle.st_prep.specs.declared.entries.Fetching.TheVariants.{Found as FoundAll};
+ghost use Rattle.st_format.specs.Formats.{decoded, instruction_of, spelled_as};
 ghost use Rattle.st_rows.specs.Asked.{word_asked, side_asked};
 ghost use Rattle.st_rows.specs.declared.front.Front.{Front as FrontAt};
 ghost use Rattle.st_rows.specs.Ranges.{IsEntry};
@@ -16,15 +18,16 @@ ghost use Rattle.st_segment.specs.Entries.{above_registers as above_registers_of
 ghost use Rattle.st_next.specs.Words.{words_alone, words_so_far, with_word as with_word_of};
 ghost use Rattle.st_next.specs.Known.{IsBefore};
 ghost use Rattle.st_next.specs.Progress.{IsKnown, IsReady, IsNext, Rests, wanted_next, reads_so_far};
-ghost use Rattle.st_next.specs.Going.{IsFront, IsEarly, GoesOn, AreAskedMore, known_count, entry_seen, IsPlannedAs};
+ghost use Rattle.st_next.specs.Going.{IsFront, IsEarly, GoesOn, AreAskedMore, known_count, entry_seen, prepared_as, IsPlannedAs};
 
 use st_banks::Delays;
 use st_bits::register::FIRST_STORAGE_WORD;
-use st_format::{Decoded, Instr};
+use st_bits::HalfOp;
+use st_format::{Decoded, Format, FullOp, decode_as, format_of};
 use st_port::Port;
 use st_prep::{
-    Fetched, Fetching as Given, Needs, Place, Prepared, Words, fetch_on, prepare_in,
-    prepare_without_side, side_word,
+    Fetched, Fetching as Given, Needs, Place, Prepared, Words, fetch_on, halves_known,
+    prepare_in, prepare_without_side, side_word,
 };
 use st_rows::{Entry, Fetching, Formed, Front, Run, Runs};
 use st_state::State;
@@ -65,6 +68,14 @@ pub struct Outlook<'a> {
     pub front: &'a Front,
     /// The index words that run ahead.
     pub x: &'a [u64; 16],
+}
+
+// An instruction of which the half-words and the format are known.
+#[derive(Clone, Copy)]
+struct Spelled {
+    format: Format,
+    first: u32,
+    second: u32,
 }
 
 impl Next {
@@ -326,6 +337,41 @@ impl Next {
             ≤ length port.old.reads + known_count self.new }
         ensures planned { self.new.planned ≡ true → outlook.now.tick < self.new.formed.a }
     {
+        match self.spelled(state) {
+            Some(spelled) => {
+                self.plan_spelled(spelled, outlook, state, delays, port);
+                true
+            }
+            None => self.go_on_by_words(outlook, state, delays, port),
+        }
+    }
+
+    // The same, whatever its words are.
+    fn go_on_by_words(
+        &mut self,
+        outlook: &Outlook,
+        state: &State,
+        delays: &Delays,
+        port: &mut Port,
+    ) -> bool
+        requires known { IsKnown delays.now outlook.now.levels outlook.now.tick
+            outlook.now.front.now outlook.now.x.now state.now self.old }
+        requires front { IsFront outlook.now.levels outlook.now.front.now }
+        requires unplanned { self.old.planned ≡ false }
+        requires due { wanted_next outlook.now.front.now self.old ≤ outlook.now.tick }
+        requires room { length port.old.reads + 5 ≤ 40 + known_count self.old }
+        ensures next { GoesOn delays.now outlook.now.levels outlook.now.tick outlook.now.front.now
+            outlook.now.x.now state.now self.old self.new
+            (if result then outlook.now.tick else outlook.now.tick + 1) }
+        ensures reads { AreAskedMore delays.now outlook.now.tick outlook.now.front.now
+            self.old self.new port.old.reads port.new.reads }
+        ensures bus { port.new.bus ≡ port.old.bus }
+        ensures more { result ≡ true → known_count self.new ≡ known_count self.old + 1 }
+        ensures most { known_count self.old ≤ 4 }
+        ensures few { length port.new.reads + known_count self.old
+            ≤ length port.old.reads + known_count self.new }
+        ensures planned { self.new.planned ≡ true → outlook.now.tick < self.new.formed.a }
+    {
         delays.shape();
         match self.given(outlook.x, state) {
             Given::Next {
@@ -343,14 +389,81 @@ impl Next {
                 true
             }
             Given::Found(fetched) => {
-                self.plan(fetched, outlook, state, delays, port);
+                self.plan_found(fetched, outlook, state, delays, port);
                 true
             }
         }
     }
 
+    // The instruction with its format, where its words tell all of it and it is not EX. Its words are its own.
+    #[inline(always)]
+    fn spelled(&self, state: &State) -> Option<Spelled>
+        requires place { IsPlace self.now.place }
+        requires words { IsEntry (words_alone self.now.own self.now.target) }
+        ensures found { IfSome result (λ r. (x : List ℕ) → given_of (left_after
+            (reading x (word state.now 3) state.now.enabled self.now.place)
+            (map (word state.now) (words_of_run self.now.own ++ words_of_run self.now.target)))
+            ≡ FoundAll (plain (decoded r.first r.second))) }
+        ensures format { IfSome result (λ r. spelled_as r.format r.first r.second
+            ≡ instruction_of r.first r.second) }
+    {
+        let halves = self.halves(state)?;
+        spelled_unless_execute(halves.0, halves.1)
+    }
+
+    // The half-words of the instruction, where its words tell all of it. They are its own.
+    #[inline(always)]
+    fn halves(&self, state: &State) -> Option<(u32, u32)>
+        requires place { IsPlace self.now.place }
+        requires words { IsEntry (words_alone self.now.own self.now.target) }
+        ensures { IfSome result (λ r. (x : List ℕ) → is_execute (instruction_of r.0 r.1) ≡ false →
+            given_of (left_after (reading x (word state.now 3) state.now.enabled self.now.place)
+            (map (word state.now) (words_of_run self.now.own ++ words_of_run self.now.target)))
+            ≡ FoundAll (plain (decoded r.0 r.1))) }
+    {
+        let so_far = self.own.len + self.target.len;
+        if so_far == 1 {
+            return halves_known(self.place.address, &[state.word(self.word_at(0))], state);
+        }
+        if so_far == 2 {
+            let contents = [state.word(self.word_at(0)), state.word(self.word_at(1))];
+            return halves_known(self.place.address, &contents, state);
+        }
+        None
+    }
+
+    // Plans the entry, which is this instruction.
+    fn plan_spelled(
+        &mut self,
+        spelled: Spelled,
+        outlook: &Outlook,
+        state: &State,
+        delays: &Delays,
+        port: &mut Port,
+    )
+        requires place { IsPlace self.old.place }
+        requires format { spelled_as spelled.format spelled.first spelled.second
+            ≡ instruction_of spelled.first spelled.second }
+        requires front { IsFront outlook.now.levels outlook.now.front.now }
+        requires entry { IsEntry (entry_seen self.old.own self.old.target (seen self.old.place
+            (plain (decoded spelled.first spelled.second)) outlook.now.x.now state.now)) }
+        requires words { self.old.words
+            ≡ words_so_far delays.now outlook.now.front.now self.old.own self.old.target }
+        requires few { length port.old.reads < 40 }
+        ensures next { IsPlannedAs delays.now outlook.now.levels outlook.now.front.now
+            (seen self.old.place (plain (decoded spelled.first spelled.second)) outlook.now.x.now state.now)
+            self.old self.new }
+        ensures reads { port.new.reads ≡ port.old.reads
+            ++ side_asked outlook.now.front.now.past self.new.entry.side self.new.formed.a }
+        ensures bus { port.new.bus ≡ port.old.bus }
+    {
+        self.prepare_spelled(spelled, outlook.x, state);
+        self.plan(outlook, state, delays, port);
+    }
+
     // Plans the entry, of which this is fetched.
-    fn plan(
+    #[inline(never)]
+    fn plan_found(
         &mut self,
         fetched: Fetched,
         outlook: &Outlook,
@@ -374,7 +487,86 @@ impl Next {
     {
         self.fetched = fetched;
         self.prepared.place = self.place;
-        self.needs = prepare_as(&mut self.prepared, &self.fetched, outlook.x, state);
+        self.needs = prepare_without_side(&mut self.prepared, &self.fetched, outlook.x, state);
+        self.plan(outlook, state, delays, port);
+    }
+
+    // Prepares the entry, which is this instruction, as far as it goes without its index-side word. What follows knows the format of
+    // a frequent instruction, so that it is told apart once.
+    #[inline(always)]
+    fn prepare_spelled(&mut self, spelled: Spelled, x: &[u64; 16], state: &State)
+        requires place { IsPlace self.old.place }
+        requires format { spelled_as spelled.format spelled.first spelled.second
+            ≡ instruction_of spelled.first spelled.second }
+        ensures { self.new ≡ prepared_as (plain (decoded spelled.first spelled.second)) x.now state.now self.old }
+    {
+        let Spelled {
+            format,
+            first,
+            second,
+        } = spelled;
+        match format {
+            Format::Index(op) => {
+                self.prepare_own(decode_as(Format::Index(op), first, second), x, state)
+            }
+            Format::Branch(op) => {
+                self.prepare_own(decode_as(Format::Branch(op), first, second), x, state)
+            }
+            Format::Whole(FullOp::Variable(op)) => {
+                let format = Format::Whole(FullOp::Variable(op));
+                self.prepare_own(decode_as(format, first, second), x, state)
+            }
+            _ => self.prepare_seldom(decode_as(format, first, second), x, state),
+        }
+    }
+
+    // The same of an instruction that is not frequent.
+    #[inline(never)]
+    fn prepare_seldom(&mut self, own: Decoded, x: &[u64; 16], state: &State)
+        requires place { IsPlace self.old.place }
+        requires fields { HasFields own.instr }
+        ensures { self.new ≡ prepared_as (plain own) x.now state.now self.old }
+    {
+        self.prepare_own(own, x, state);
+    }
+
+    // The same of any instruction.
+    #[inline(always)]
+    fn prepare_own(&mut self, own: Decoded, x: &[u64; 16], state: &State)
+        requires place { IsPlace self.old.place }
+        requires fields { HasFields own.instr }
+        ensures { self.new ≡ prepared_as (plain own) x.now state.now self.old }
+    {
+        let fetched = Fetched {
+            instr: own,
+            target: None,
+            fault: None,
+        };
+        self.prepared.place = self.place;
+        self.needs = prepare_without_side(&mut self.prepared, &fetched, x, state);
+        self.fetched = fetched;
+    }
+
+    // Plans the entry, which is prepared as far as it goes without its index-side word.
+    #[inline(always)]
+    fn plan(&mut self, outlook: &Outlook, state: &State, delays: &Delays, port: &mut Port)
+        requires front { IsFront outlook.now.levels outlook.now.front.now }
+        requires needed { self.old.needs
+            ≡ needs_of (seen self.old.place self.old.fetched outlook.now.x.now state.now) }
+        requires ready { let v = seen self.old.place self.old.fetched outlook.now.x.now state.now in
+            self.old.prepared ≡ prepared_of v (option_map (λ w. 0) (needs_of v).index_read) }
+        requires entry { IsEntry (entry_seen self.old.own self.old.target
+            (seen self.old.place self.old.fetched outlook.now.x.now state.now)) }
+        requires words { self.old.words
+            ≡ words_so_far delays.now outlook.now.front.now self.old.own self.old.target }
+        requires few { length port.old.reads < 40 }
+        ensures next { IsPlannedAs delays.now outlook.now.levels outlook.now.front.now
+            (seen self.old.place self.old.fetched outlook.now.x.now state.now) self.old self.new }
+        ensures reads { port.new.reads ≡ port.old.reads
+            ++ side_asked outlook.now.front.now.past self.new.entry.side self.new.formed.a }
+        ensures bus { port.new.bus ≡ port.old.bus }
+    {
+        let _ = state;
         self.entry = entry_of(
             self.own,
             self.target,
@@ -389,98 +581,23 @@ impl Next {
     }
 }
 
-// Prepares an entry as far as it goes without its index-side word. What follows knows the form of a frequent instruction, so that it is told
-// apart once.
+// The instruction that two half-words spell, with its format, unless it is EX.
 #[inline(always)]
-fn prepare_as(p: &mut Prepared, fetched: &Fetched, x: &[u64; 16], state: &State) -> Needs
-    requires place { IsPlace p.old.place }
-    requires fetched { IsFetched fetched.now }
-    ensures value { let v = seen p.old.place fetched.now x.now state.now in
-        p.new ≡ prepared_of v (option_map (λ w. 0) (needs_of v).index_read) }
-    ensures needs { result ≡ needs_of (seen p.old.place fetched.now x.now state.now) }
-    ensures place { p.new.place ≡ p.old.place }
-    ensures ranges { IsPrepared p.new }
-    ensures shape { IsNeeds result }
+#[tactic(auto, unfolding(st_prep::specs::Reading::is_execute))]
+fn spelled_unless_execute(first: u32, second: u32) -> Option<Spelled>
+    ensures same { IfSome result (λ r. (r.first ≡ first) × (r.second ≡ second)) }
+    ensures format { IfSome result (λ r. spelled_as r.format first second ≡ instruction_of first second) }
+    ensures plain { IfSome result (λ r. is_execute (instruction_of first second) ≡ false) }
 {
-    if fetched.target.is_some() {
-        return prepare_any(p, fetched, x, state);
+    let format = format_of(first, second);
+    match format {
+        Format::Index(HalfOp::Ex) => None,
+        _ => Some(Spelled {
+            format,
+            first,
+            second,
+        }),
     }
-    if fetched.fault.is_some() {
-        return prepare_any(p, fetched, x, state);
-    }
-    let halves = fetched.instr.halves;
-    match fetched.instr.instr {
-        Instr::Half { op, address, j, i } => {
-            let instr = Instr::Half { op, address, j, i };
-            prepare_own(p, Decoded { instr, halves }, x, state)
-        }
-        Instr::Branch { op, address, i } => {
-            let instr = Instr::Branch { op, address, i };
-            prepare_own(p, Decoded { instr, halves }, x, state)
-        }
-        Instr::Vfl {
-            op,
-            decimal,
-            unsigned,
-            negated,
-            p: form,
-            length,
-            byte,
-            offset,
-            address,
-            i,
-        } => {
-            let instr = Instr::Vfl {
-                op,
-                decimal,
-                unsigned,
-                negated,
-                p: form,
-                length,
-                byte,
-                offset,
-                address,
-                i,
-            };
-            prepare_own(p, Decoded { instr, halves }, x, state)
-        }
-        _ => prepare_any(p, fetched, x, state),
-    }
-}
-
-// The same of any entry.
-#[inline(never)]
-fn prepare_any(p: &mut Prepared, fetched: &Fetched, x: &[u64; 16], state: &State) -> Needs
-    requires place { IsPlace p.old.place }
-    requires fetched { IsFetched fetched.now }
-    ensures value { let v = seen p.old.place fetched.now x.now state.now in
-        p.new ≡ prepared_of v (option_map (λ w. 0) (needs_of v).index_read) }
-    ensures needs { result ≡ needs_of (seen p.old.place fetched.now x.now state.now) }
-    ensures place { p.new.place ≡ p.old.place }
-    ensures ranges { IsPrepared p.new }
-    ensures shape { IsNeeds result }
-{
-    prepare_without_side(p, fetched, x, state)
-}
-
-// The same of an own instruction whose words may be fetched, and which has no target.
-#[inline(always)]
-fn prepare_own(p: &mut Prepared, own: Decoded, x: &[u64; 16], state: &State) -> Needs
-    requires place { IsPlace p.old.place }
-    requires fetched { IsFetched (record { instr = own; target = None; fault = None }) }
-    ensures value { let v = seen p.old.place (record { instr = own; target = None; fault = None }) x.now state.now in
-        p.new ≡ prepared_of v (option_map (λ w. 0) (needs_of v).index_read) }
-    ensures needs { result ≡ needs_of (seen p.old.place (record { instr = own; target = None; fault = None }) x.now state.now) }
-    ensures place { p.new.place ≡ p.old.place }
-    ensures ranges { IsPrepared p.new }
-    ensures shape { IsNeeds result }
-{
-    let fetched = Fetched {
-        instr: own,
-        target: None,
-        fault: None,
-    };
-    prepare_without_side(p, &fetched, x, state)
 }
 
 // An entry with these instruction words as the timetable sees it.

@@ -3,7 +3,7 @@ use Rattle.st_prep.specs.declared.entries.Fetching.TheVariants.{Next}
 use Rattle.st_rows.proofs.Within.{AreDelays-list}
 use Rattle.st_next.proofs.Steps.{own-goes, target-goes, target-waits, plan-goes}
 use Rattle.st_next.proofs.Asking.{known-words, known-early, known-place, known-seen, own-asks, target-asks, plan-asks, plan-late, more-word, more-side, count-most, count-own, count-target, count-plan}
-use Rattle.st_next.proofs.next.Next.go_on.Goals as goal
+use Rattle.st_next.proofs.next.Next.go_on_by_words.Goals as goal
 
 pub given-requires-clause-place : goal.given-requires-clause-place
 given-requires-clause-place c = known-place _ _ _ _ _ _ _ c.requires.unplanned c.requires.due c.requires.known
@@ -41,15 +41,15 @@ ask_own-requires-clause-few c =
     let most = count-most c.args.self.now c.requires.unplanned (known-words _ _ _ _ _ _ _ c.requires.unplanned c.requires.due c.requires.known) in
     omega (arith, most, c.requires.room)
 
-pub plan-requires-clause-place : goal.plan-requires-clause-place
-plan-requires-clause-place c = known-place _ _ _ _ _ _ _ c.requires.unplanned c.requires.due c.requires.known
+pub plan_found-requires-clause-place : goal.plan_found-requires-clause-place
+plan_found-requires-clause-place c = known-place _ _ _ _ _ _ _ c.requires.unplanned c.requires.due c.requires.known
 
-pub plan-requires-clause-entry : goal.plan-requires-clause-entry
-plan-requires-clause-entry c =
+pub plan_found-requires-clause-entry : goal.plan_found-requires-clause-entry
+plan_found-requires-clause-entry c =
     known-seen _ _ _ _ _ _ _ c.requires.unplanned c.requires.due c.requires.known _ refl _ (sym c.in-Found.ensures.value)
 
-pub plan-requires-clause-few : goal.plan-requires-clause-few
-plan-requires-clause-few c =
+pub plan_found-requires-clause-few : goal.plan_found-requires-clause-few
+plan_found-requires-clause-few c =
     let most = count-most c.args.self.now c.requires.unplanned (known-words _ _ _ _ _ _ _ c.requires.unplanned c.requires.due c.requires.known) in
     omega (arith, most, c.requires.room)
 
@@ -89,26 +89,26 @@ returns-in-Next-default-false-clause-few c =
 
 pub returns-in-Found-clause-next : goal.returns-in-Found-clause-next
 returns-in-Found-clause-next c =
-    plan-goes _ _ _ _ _ _ _ c.requires.unplanned c.requires.due _ refl _ _ _ (sym c.in-Found.ensures.value) c.plan.ensures.next
+    plan-goes _ _ _ _ _ _ _ c.requires.unplanned c.requires.due _ refl _ _ _ (sym c.in-Found.ensures.value) c.plan_found.ensures.next
 
 pub returns-in-Found-clause-reads : goal.returns-in-Found-clause-reads
 returns-in-Found-clause-reads c =
     plan-asks _ _ _ _ _ _ _ c.requires.unplanned c.requires.due c.requires.known _ refl _ (sym c.in-Found.ensures.value) _ _ _
-    c.plan.ensures.next c.plan.ensures.reads
+    c.plan_found.ensures.next c.plan_found.ensures.reads
 
 pub returns-in-Found-clause-more : goal.returns-in-Found-clause-more
 returns-in-Found-clause-more c done =
-    count-plan c.args.self.now c.plan.new.self c.requires.unplanned c.plan.ensures.next.own c.plan.ensures.next.target c.plan.ensures.next.planned
+    count-plan c.args.self.now c.plan_found.new.self c.requires.unplanned c.plan_found.ensures.next.own c.plan_found.ensures.next.target c.plan_found.ensures.next.planned
 
 pub returns-in-Found-clause-few : goal.returns-in-Found-clause-few
 returns-in-Found-clause-few c =
     let more =
-    count-plan c.args.self.now c.plan.new.self c.requires.unplanned c.plan.ensures.next.own c.plan.ensures.next.target c.plan.ensures.next.planned in
-    omega (arith, more, more-side _ _ _ _ _ c.plan.ensures.reads)
+    count-plan c.args.self.now c.plan_found.new.self c.requires.unplanned c.plan_found.ensures.next.own c.plan_found.ensures.next.target c.plan_found.ensures.next.planned in
+    omega (arith, more, more-side _ _ _ _ _ c.plan_found.ensures.reads)
 
 pub returns-in-Found-clause-planned : goal.returns-in-Found-clause-planned
 returns-in-Found-clause-planned c planned =
-    plan-late _ _ _ _ _ _ _ c.requires.unplanned c.requires.due c.requires.known _ refl _ (sym c.in-Found.ensures.value) _ c.plan.ensures.next
+    plan-late _ _ _ _ _ _ _ c.requires.unplanned c.requires.due c.requires.known _ refl _ (sym c.in-Found.ensures.value) _ c.plan_found.ensures.next
 
 pub returns-then-outlook-clause-most : goal.returns-then-outlook-clause-most
 returns-then-outlook-clause-most c = count-most c.args.self.now c.requires.unplanned (known-words _ _ _ _ _ _ _ c.requires.unplanned c.requires.due c.requires.known)
