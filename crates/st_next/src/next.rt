@@ -38,7 +38,7 @@ pub struct Next {
     pub own: Run,
     /// Those of the target of EX.
     pub target: Run,
-    /// The bus behind them, their answers, and which writers of them are awaited.
+    /// The bus behind them, their answers, and which writers of them are awaited. The bus of an entry that is planned is behind its index-side word.
     pub words: Fetching,
     /// Whether all of it is known but its index-side word; what follows is said of such an entry alone.
     pub planned: bool,
@@ -50,7 +50,7 @@ pub struct Next {
     pub prepared: Prepared,
     /// The same as the timetable sees it.
     pub entry: Entry,
-    /// When its address is formed and when it is prepared, and the bus after its index-side word.
+    /// When its address is formed and when it is prepared.
     pub formed: Formed,
 }
 
@@ -105,7 +105,7 @@ impl Next {
         self.place = place;
         self.own = Run::default();
         self.target = Run::default();
-        self.words = Fetching::new(front.bus);
+        self.words.restart(&front.bus);
         self.planned = false;
     }
 
@@ -375,7 +375,8 @@ impl Next {
         self.fetched = fetched;
         self.prepared.place = self.place;
         self.needs = prepare_as(&mut self.prepared, &self.fetched, outlook.x, state);
-        self.entry = entry_of(
+        show_entry(
+            &mut self.entry,
             self.own,
             self.target,
             &self.needs,
@@ -383,7 +384,7 @@ impl Next {
             &self.fetched,
         );
         let front = outlook.front;
-        self.formed = front.form(delays, outlook.levels, &self.entry, self.words);
+        self.formed = front.form(delays, outlook.levels, &self.entry, &mut self.words);
         self.planned = true;
         port.ask_side(&front.past, self.entry.side, self.formed.a);
     }
@@ -483,9 +484,16 @@ fn prepare_own(p: &mut Prepared, own: Decoded, x: &[u64; 16], state: &State) -> 
     prepare_without_side(p, &fetched, x, state)
 }
 
-// An entry with these instruction words as the timetable sees it.
-fn entry_of(own: Run, target: Run, needs: &Needs, prepared: &Prepared, fetched: &Fetched) -> Entry
-    ensures { result ≡ record {
+// The entry becomes that with these instruction words, as the timetable sees it.
+fn show_entry(
+    entry: &mut Entry,
+    own: Run,
+    target: Run,
+    needs: &Needs,
+    prepared: &Prepared,
+    fetched: &Fetched,
+)
+    ensures { entry.new ≡ record {
       own = own;
       target = target;
       side = side_to_read_of needs.now.index_read;
@@ -496,16 +504,14 @@ fn entry_of(own: Run, target: Run, needs: &Needs, prepared: &Prepared, fetched: 
       follows = is_none prepared.now.place.table && is_none fetched.now.fault;
     } }
 {
-    Entry {
-        own,
-        target,
-        side: side_to_read(needs.index_read),
-        reads: words_to_read(prepared.reads),
-        writes: words_to_write(prepared.writes),
-        cost: prepared.cost,
-        serial: prepared.serial,
-        follows: prepared.place.table.is_none() && fetched.fault.is_none(),
-    }
+    entry.own = own;
+    entry.target = target;
+    entry.side = side_to_read(needs.index_read);
+    entry.reads = words_to_read(prepared.reads);
+    entry.writes = words_to_write(prepared.writes);
+    entry.cost = prepared.cost;
+    entry.serial = prepared.serial;
+    entry.follows = prepared.place.table.is_none() && fetched.fault.is_none();
 }
 
 // A run with one word more.
