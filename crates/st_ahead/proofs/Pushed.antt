@@ -140,7 +140,7 @@ module _ (ds : List ℕ) (n now : ℕ) (t : Option ℕ) (s : Machine) (f : Front
 
   way-pushed : IsGoing ds n now (now + 1) t s f v → BecomesLevel ds n now t s f v → v.next.planned ≡ true → v.next.formed.p ≡ now
       → count w ≡ suc (count v) → reads_so_far ds w.front w.next ≡ [] → w.port.bus ≡ v.port.bus
-      → w.port.reads ≡ v.port.reads ++ (runs_asked v.front.past v.next.entry.reads now ++ following_asked ds v.next.formed.bus v.next.entry now)
+      → w.port.reads ≡ v.port.reads ++ (runs_asked v.front.past v.next.entry.reads now ++ following_asked ds v.next.words.bus v.next.entry now)
       → IsOnTheWay ds now (asked_ahead ds n (count w) t s f ++ reads_so_far ds w.front w.next) f.bus w.port
   way-pushed is becomes planned due counted none bus reads =
       let x = v.next.entry in
@@ -149,7 +149,7 @@ module _ (ds : List ℕ) (n now : ℕ) (t : Option ℕ) (s : Machine) (f : Front
       let all : IsPlanned ds n k u v.front v.next = subst (λ (b : Bool). IsPlannedIf b ds n k u v.front v.next) planned becomes.is_next.planned in
       let added = prepared_asked ds n v.front x in
       let tick : tick_p ds n v.front x ≡ now = sym becomes.tick ∙ due in
-      let own = data-asked ds n now v.front x v.next.formed.bus becomes.bus (sym tick) in
+      let own = data-asked ds n now v.front x v.next.words.bus becomes.bus (sym tick) in
       let formed : reads_so_far ds v.front v.next ≡ formed_asked ds v.front x =
       reads-formed ds n k u v.front v.next all planned ∙ ap (formed_asked ds v.front) (sym becomes.same) in
       let parts : asked ds n v.front x ≡ reads_so_far ds v.front v.next ++ added =
@@ -178,7 +178,7 @@ module _ (ds : List ℕ) (n now : ℕ) (t : Option ℕ) (s : Machine) (f : Front
       → w.next.words ≡ record { bus = w.front.bus; answered = 0; awaited = 0 }
       → reads_so_far ds w.front w.next ≡ [] → known_count w.next ≡ 0
       → w.port.bus ≡ v.port.bus
-      → w.port.reads ≡ v.port.reads ++ (runs_asked v.front.past v.next.entry.reads now ++ following_asked ds v.next.formed.bus v.next.entry now)
+      → w.port.reads ≡ v.port.reads ++ (runs_asked v.front.past v.next.entry.reads now ++ following_asked ds v.next.words.bus v.next.entry now)
       → length w.port.reads ≤ 34
       → ((plan u k).serial ≡ false → (guesses (suc (count v)) t s).ic ≡ (plan u k).following)
       → IsGoing ds n now now t s f w

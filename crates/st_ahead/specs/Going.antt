@@ -48,7 +48,7 @@ pub record BecomesLevel (ds : List ℕ) (n now : ℕ) (t : Option ℕ) (s : Mach
   pub same : v.next.entry ≡ entry (table_behind (count v) t) (guesses (count v) t s)
   pub range : IsEntry v.next.entry
   pub address : v.next.formed.a ≡ tick_a ds v.front v.next.entry
-  pub bus : v.next.formed.bus ≡ bus_a ds v.front v.next.entry
+  pub bus : v.next.words.bus ≡ bus_a ds v.front v.next.entry
   pub tick : v.next.formed.p ≡ tick_p ds n v.front v.next.entry
   pub alone : v.next.entry.serial ≡ true → guesses (count v) t s ≡ s
   pub room : count v < n

@@ -90,20 +90,25 @@ impl<const N: usize> Look<N> {
         completions_are_bounded();
         delays.shape();
         let _few = self.levels.len();
-        let filled = self
-            .front
-            .fill(delays, N, &self.next.entry, &self.next.formed);
         ask_data(
             &mut self.port,
             &self.front.past,
             &self.next.entry,
-            &self.next.formed.bus,
+            &self.next.words.bus,
             now,
         );
         self.next.prepare(self.levels.index(), state);
+        let filled = self.front.fill(
+            delays,
+            N,
+            &self.next.entry,
+            self.next.formed,
+            &mut self.next.words,
+        );
         self.levels
             .push(&self.next.prepared, &self.front, &filled, state);
-        self.front.pass(&self.next.entry, &filled);
+        self.front
+            .pass(&self.next.entry, &filled.row, &self.next.words.bus);
         let place = place_behind(&self.next.prepared);
         self.next.restart(place, &self.front);
     }

@@ -10,12 +10,14 @@ use Rattle.st_rows.specs.Ranges.{AreDelays}
 use Rattle.st_rows.specs.Rows.{row, after, fills}
 use Rattle.st_rows.specs.declared.front.Front.{Front}
 use Rattle.st_rows.specs.declared.front.Filled.{Filled}
+use Rattle.st_ring.specs.Levels.{prepared_at}
 use Rattle.st_ring.specs.declared.level.Level.{Level}
 use Rattle.st_segment.specs.Entries.{entry}
 use Rattle.st_segment.specs.Guesses.{guesses, table_behind, split_words}
 use Rattle.st_segment.specs.Alone.{RunAhead}
 use Rattle.st_segment.proofs.IndexLemmas.{split-change, index-split}
 use Rattle.st_levels.specs.Levels.{LevelsView, IsLevel, AreLevels, AreAhead}
+use Rattle.st_levels.specs.Rotated.{planned}
 use Rattle.st_levels.specs.Slots.{slot_of, register_in}
 use Rattle.st_levels.specs.declared.plans.Plan.{Plan}
 use Rattle.st_levels.proofs.LevelLemmas.{levels-append}
@@ -23,15 +25,7 @@ use Rattle.st_levels.proofs.SlotLemmas.{fill-late, register-slot}
 
 -- what is pushed
 abbrev pub pushed_level : Prepared → Filled → Machine → Level
-pushed_level p filled m = record {
-  prepared = p;
-  p = filled.row.p;
-  r = filled.row.p;
-  have = register_in p m 0 ∷ register_in p m 1 ∷ [];
-}
-
-abbrev pub pushed_plan : Front → Filled → Plan
-pushed_plan g filled = record { front = g; r = filled.row.r; c = filled.row.c; fills = filled.fills }
+pushed_level p filled m = prepared_at p filled.row.p (register_in p m 0 ∷ register_in p m 1 ∷ [])
 
 module _ (ds : List ℕ) (n tick most : ℕ) (k : Option ℕ) (u m : Machine) (last : Front) (p : Prepared) (g : Front) (filled : Filled)
     (are : AreDelays most ds) (ranges : IsPrepared p) (front : g ≡ last) (form : p ≡ plan u k)
@@ -50,7 +44,7 @@ module _ (ds : List ℕ) (n tick most : ℕ) (k : Option ℕ) (u m : Machine) (l
       ∙ register-slot (fills ds n last (entry k u)) (plan u k) m u tick i own entry-alone
       (λ inside above. rw here (fill-late ds n k u last most i are inside few above))
 
-  pub pushed-level : IsLevel ds n tick k u last (pushed_level p filled m) (pushed_plan g filled)
+  pub pushed-level : IsLevel ds n tick k u last (pushed_level p filled m) (planned g filled)
   pushed-level = record {
     prepared = form;
     p = ap (λ r. r.p) numbers;

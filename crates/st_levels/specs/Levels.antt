@@ -35,7 +35,7 @@ pub record IsLevel (ds : List ℕ) (n tick : ℕ) (t : Option ℕ) (s : Machine)
   pub prepared : level.prepared ≡ plan s t
   pub p : level.p ≡ (row ds n f (entry t s)).p
   pub have : level.have ≡ have_of ds n tick t s f
-  pub front : q.front ≡ f
+  pub front : q.front.value ≡ f
   pub r : q.r ≡ (row ds n f (entry t s)).r
   pub c : q.c ≡ (row ds n f (entry t s)).c
   pub fills : q.fills ≡ fills ds n f (entry t s)
@@ -67,7 +67,7 @@ is_due (q ∷ qs) now = q.c == now
 -- the front of the oldest entry that is not done, given that behind the levels
 abbrev pub oldest_front : List Plan → Front → Front
 oldest_front [] last = last
-oldest_front (q ∷ qs) last = q.front
+oldest_front (q ∷ qs) last = q.front.value
 
 -- the operand words of a level are in its slots, as they stand in the state s; T and SWAP take theirs from storage
 pub record HasOperands (s : Machine) (level : Level) : Type 0 where

@@ -13,6 +13,7 @@ ghost use Rattle.st_segment.specs.Entries.{entry};
 ghost use Rattle.st_segment.specs.Guesses.{guesses, table_behind};
 ghost use Rattle.st_segment.specs.Alone.{RunAhead};
 ghost use Rattle.st_levels.specs.Levels.{LevelsView, AreSound, AreAhead, AreNotDone, HasOperands, IsOldestReady, IsCompleted, is_due as is_due_of};
+ghost use Rattle.st_levels.specs.Rotated.{planned};
 ghost use Rattle.st_levels.specs.Slots.{register_in};
 
 use crate::filling::fill_all;
@@ -39,7 +40,7 @@ pub struct Completed {
 }
 
 /// The levels of a machine with N levels, 1 to 8, and the index words that run ahead of the state.
-#[derive(Debug, Drop)]
+#[derive(Drop)]
 pub struct Levels<const N: usize> {
     ring: SpecRing<N>,
     plans: Plans,
@@ -123,12 +124,7 @@ impl<const N: usize> Levels<N> {
           r = filled.now.row.p;
           have = register_in prepared.now state.now 0 ∷ register_in prepared.now state.now 1 ∷ [];
         }) ∷ [] }
-        ensures plans { self.new.plans ≡ self.old.plans ++ (record {
-          front = front.now;
-          r = filled.now.row.r;
-          c = filled.now.row.c;
-          fills = filled.now.fills;
-        }) ∷ [] }
+        ensures plans { self.new.plans ≡ self.old.plans ++ planned front.now filled.now ∷ [] }
         ensures index { self.new.x ≡ words_after self.old.x prepared.now.index }
         ensures not_done { (now : ℕ) → AreNotDone now self.old → now < filled.now.row.c →
             AreNotDone now self.new }
@@ -147,18 +143,9 @@ impl<const N: usize> Levels<N> {
             AreAhead ds n tick t s f (after ds n last (entry i u)) self.new }
     {
         change(&mut self.x, prepared.index);
-        self.ring.push(Level {
-            prepared: *prepared,
-            p: filled.row.p,
-            r: filled.row.p,
-            have: registers(prepared, state),
-        });
-        self.plans.push(Plan {
-            front: *front,
-            r: filled.row.r,
-            c: filled.row.c,
-            fills: filled.fills,
-        });
+        self.ring
+            .push(prepared, filled.row.p, registers(prepared, state));
+        self.plans.push(front, filled);
     }
 
     /// Whether the oldest level is done at this tick.

@@ -1,17 +1,19 @@
 //! The planned rows of the levels, oldest first.
 ghost use Rattle.std.specs.Prelude.{◌≡◌, ◌+◌, ◌<◌, ◌≤◌, [], ◌∷◌, ◌++◌, length, drop, slice_get, Some};
+ghost use Rattle.st_levels.specs.Rotated.{planned};
 
-use st_rows::Front;
+use st_rows::{Filled, Front};
 use std::marker::Model;
+use std::snapshot::Snapshot;
 
 // How many levels there can be.
 const SLOTS: usize = 8;
 
 /// The planned row of a level.
-#[derive(Clone, Copy, Debug, Default, PartialEq, Eq)]
+#[derive(Drop)]
 pub struct Plan {
-    /// The front that the row was computed from.
-    pub front: Front,
+    /// The front that the row was computed from, which clauses alone read.
+    pub front: Snapshot<Front>,
     /// When the operands of the level are there.
     pub r: u64,
     /// When it is done.
@@ -21,7 +23,7 @@ pub struct Plan {
 }
 
 /// The planned rows of at most eight levels. Contracts see their list, oldest first.
-#[derive(Debug, Drop)]
+#[derive(Drop)]
 pub struct Plans {
     slots: [Plan; SLOTS],
     head: usize,
@@ -47,7 +49,16 @@ impl Plans {
         ensures { result ≡ [] }
     {
         Plans {
-            slots: [Plan::default(); SLOTS],
+            slots: [
+                no_plan(),
+                no_plan(),
+                no_plan(),
+                no_plan(),
+                no_plan(),
+                no_plan(),
+                no_plan(),
+                no_plan(),
+            ],
             head: 0,
             len: 0,
         }
@@ -61,13 +72,14 @@ impl Plans {
         self.len
     }
 
-    /// Appends a row, which is the youngest then. There is room.
-    pub fn push(&mut self, row: Plan)
+    /// Appends the row of an entry behind `front`, whose operands are there as `filled` says; it is the youngest then. There is room.
+    pub fn push(&mut self, front: &Front, filled: &Filled)
         requires { length self.old < 8 }
-        ensures rows { self.new ≡ self.old ++ row ∷ [] }
+        ensures rows { self.new ≡ self.old ++ planned front.now filled.now ∷ [] }
         ensures len { length self.new ≡ length self.old + 1 }
     {
-        self.slots[(self.head + self.len) % SLOTS] = row;
+        let at = (self.head + self.len) % SLOTS;
+        plan_into(&mut self.slots[at], front, filled);
         self.len += 1;
     }
 
@@ -95,4 +107,24 @@ impl Plans {
     {
         self.len = 0;
     }
+}
+
+// What stands in a slot without a row.
+fn no_plan() -> Plan {
+    Plan {
+        front: Snapshot::of(&Front::default()),
+        r: 0,
+        c: 0,
+        fills: [0; 2],
+    }
+}
+
+// The slot becomes the row of an entry behind `front`, whose operands are there as `filled` says.
+fn plan_into(slot: &mut Plan, front: &Front, filled: &Filled)
+    ensures { slot.new ≡ planned front.now filled.now }
+{
+    slot.front = Snapshot::of(front);
+    slot.r = filled.row.r;
+    slot.c = filled.row.c;
+    slot.fills = filled.fills;
 }

@@ -95,7 +95,7 @@ module _ (ds : List ℕ) (n now : ℕ) (f : Front) (x : List ℕ) (s : Machine) 
   known-words = words-entry before.own before.target (entry k.table k.state) k.is_next.read_on.first known-entry
 
   pub known-early : AreDelays 255 ds → IsFront n f → IsEarly f before.words
-  known-early are is = words-early ds n f before.own before.target before.words are is known-words k.is_next.read_on.words
+  known-early are is = words-early ds n f before.own before.target before.words are is known-words (k.is_next.read_on.words un)
 
   pub known-place : IsPlace before.place
   unfolding sight
@@ -122,7 +122,7 @@ module _ (ds : List ℕ) (n now : ℕ) (f : Front) (x : List ℕ) (s : Machine) 
           added = read_of ds f.past (wanted_from f) before.words w;
           so_far =
               reads-none ds f there un ∙ own-asked ds f before.own before.target w it.none place
-              ∙ ap (λ s. asked_so_far ds f before.own before.target ++ read_of ds f.past (wanted_from f) s w) (sym k.is_next.read_on.words)
+              ∙ ap (λ s. asked_so_far ds f before.own before.target ++ read_of ds f.past (wanted_from f) s w) (sym (k.is_next.read_on.words un))
               ∙ ap (λ reads. reads ++ read_of ds f.past (wanted_from f) before.words w) (sym (reads-none ds f before un));
           asked = asked;
           late = read-late ds f.past (wanted_from f) (tick_of before.words.bus.held.words w) now w (want_of ds f.past (wanted_from f) before.words) (own-want w it k.rests);
@@ -149,7 +149,7 @@ module _ (ds : List ℕ) (n now : ℕ) (f : Front) (x : List ℕ) (s : Machine) 
           added = read_of ds f.past waits before.words w;
           so_far =
               reads-none ds f there un ∙ target-asked ds f before.own before.target w place
-              ∙ ap (λ s. asked_so_far ds f before.own before.target ++ read_of ds f.past waits s w) (sym k.is_next.read_on.words)
+              ∙ ap (λ s. asked_so_far ds f before.own before.target ++ read_of ds f.past waits s w) (sym (k.is_next.read_on.words un))
               ∙ ap (λ reads. reads ++ read_of ds f.past waits before.words w) (sym (reads-none ds f before un));
           asked = asked;
           late = read-late ds f.past waits (tick_of before.words.bus.held.words w) now w (want_of ds f.past waits before.words) (target-want k.rests);

@@ -35,10 +35,10 @@ module _ (ds : List ℕ) (m : ℕ) (t : Option ℕ) (u : Machine) (f : Front) (n
   e = entry t u
 
   same-answered : next.words.answered ≡ (words_so_far ds f next.own next.target).answered
-  same-answered = ap (λ (s : Fetching). s.answered) read.words
+  same-answered = ap (λ (s : Fetching). s.answered) (read.words un)
 
   same-awaited : next.words.awaited ≡ (words_so_far ds f next.own next.target).awaited
-  same-awaited = ap (λ (s : Fetching). s.awaited) read.words
+  same-awaited = ap (λ (s : Fetching). s.awaited) (read.words un)
 
   after-words : m ≤ max (max (max (wanted_from f) (if e.serial || f.serial then f.c else 0)) next.words.answered) next.words.awaited → m < tick_a ds f e
   unfolding tick_a addressed
@@ -65,7 +65,7 @@ module _ (ds : List ℕ) (m : ℕ) (t : Option ℕ) (u : Machine) (f : Front) (n
   left-waits zero none late =
       let start : Fetching = record { bus = f.bus; answered = 0; awaited = 0 } in
       let own = fetch_words ds f.past start (wanted_from f) next.own.first next.own.len in
-      let words : next.words ≡ own = read.words ∙ fetch-none ds f.past (max (wanted_from f) f.c) own next.target.first next.target.len none in
+      let words : next.words ≡ own = read.words un ∙ fetch-none ds f.past (max (wanted_from f) f.c) own next.target.first next.target.len none in
       left_none ds f next.own next.target e read.first m none
       (omega (arith, late, waits-none f next.target none, ap (λ (s : Fetching). s.answered) words, ap (λ (s : Fetching). s.awaited) words))
   left-waits (suc n) some late =

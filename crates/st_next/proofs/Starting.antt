@@ -38,7 +38,7 @@ new-next ds n t u f next place own target words un = record {
       target_start = rw target (nothing-start (entry t u).target);
       all_own = λ some. absurd (omega (arith, some, ap (λ (r : Run). r.len) target));
     };
-    words = rw (own, target) (words ∙ sym (nothing-fetched ds f));
+    words = λ none. rw (own, target) (words ∙ sym (nothing-fetched ds f));
   };
   planned = planned-none next.planned ds n t u f next un;
 }

@@ -19,7 +19,7 @@ use Rattle.st_segment.specs.Alone.{words_of_run}
 use Rattle.st_segment.specs.Entries.{reading_at, entry, side_to_read, words_to_read, words_to_write}
 use Rattle.st_segment.proofs.EntryRanges.{entry-ranges}
 use Rattle.st_segment.proofs.KnownEarly.{known-early}
-use Rattle.st_next.specs.Words.{with_word, words_so_far}
+use Rattle.st_next.specs.Words.{with_word}
 use Rattle.st_next.specs.Known.{IsBefore}
 use Rattle.st_next.specs.Progress.{IsReadOn, IsPlanned, IsPlannedIf, Rests, Planned, Waits, Target, wanted_next}
 use Rattle.st_next.specs.Going.{GoesOn, IsPlannedAs, entry_seen}
@@ -102,7 +102,7 @@ module _ (ds : List ℕ) (n now : ℕ) (f : Front) (x : List ℕ) (s : Machine) 
         let words = words-entry before.own before.target (entry t u) read.first (entry-ranges t u is.machine table) in
         given-same (reading x (word s 3) s.enabled before.place) (reading_at t u) cs (contents_of t u before.own before.target)
         (reading-same now f.past x s u t before.place is read.place)
-        (contents ∙ contents-same ds now f x s u before.own before.target is words (omega (arith, due, ap (λ (w : Fetching). w.awaited) read.words)))
+        (contents ∙ contents-same ds now f x s u before.own before.target is words (omega (arith, due, ap (λ (w : Fetching). w.awaited) (read.words un))))
 
     pub comes-own : (w : ℕ) → what ≡ GivenWord w false → IsNextOwn before.own before.target (entry t u) w
     comes-own w e = gives-own t u before.own before.target w read.first (sym there ∙ e)
@@ -131,7 +131,7 @@ module _ (ds : List ℕ) (n now : ℕ) (f : Front) (x : List ℕ) (s : Machine) 
   own-read t u w read is = record {
     place = read.place;
     first = own-more before.own before.target (entry t u) w read.first is;
-    words = ap (λ (s : Fetching). fetch_word ds f.past s w (wanted_from f)) read.words
+    words = λ none. ap (λ (s : Fetching). fetch_word ds f.past s w (wanted_from f)) (read.words un)
         ∙ sym (own-fetched ds f before.own before.target w is.none (word-behind before.own (entry t u).own w read.first.own_start is.place));
   }
 
@@ -161,7 +161,7 @@ module _ (ds : List ℕ) (n now : ℕ) (f : Front) (x : List ℕ) (s : Machine) 
   target-read t u w read is = record {
     place = read.place;
     first = target-more before.own before.target (entry t u) w read.first is;
-    words = ap (λ (s : Fetching). fetch_word ds f.past s w (max (wanted_from f) f.c)) read.words
+    words = λ none. ap (λ (s : Fetching). fetch_word ds f.past s w (max (wanted_from f) f.c)) (read.words un)
         ∙ sym (target-fetched ds f before.own before.target w (word-behind before.target (entry t u).target w read.first.target_start is.place));
   }
 
@@ -197,7 +197,7 @@ module _ (ds : List ℕ) (n now : ℕ) (f : Front) (x : List ℕ) (s : Machine) 
             read_on = record {
               place = made.place ∙ next.read_on.place;
               first = rw (made.own, made.target) next.read_on.first;
-              words = made.words ∙ next.read_on.words ∙ ap (λ r. words_so_far ds f r before.target) (sym made.own) ∙ ap (λ r. words_so_far ds f after.own r) (sym made.target);
+              words = λ none. absurd (cc (none, made.planned));
             };
             planned = planned-some after.planned ds n t u f after made.planned (record {
               all = record { own = made.own ∙ it.0.own_all; target = made.target ∙ it.0.target_all; found = made.found ∙ it.1 };

@@ -1,6 +1,6 @@
 -- The reads so far are the first ones of the entry.
 use Rattle.std.specs.Prelude.{All}
-use Rattle.std.proofs.Common.{◌≡◌, ℕ, ◌≤◌, ◌<◌, Bool, true, false, if◌then◌else◌, List, ◌++◌, append_assoc, Option, refl, sym, ◌∙◌, ap, arith}
+use Rattle.std.proofs.Common.{◌≡◌, ℕ, ◌≤◌, ◌<◌, Bool, true, false, List, ◌++◌, append_assoc, Option, refl, sym, ◌∙◌, ap, arith}
 use Rattle.std.proofs.lemmas.List.Elements.{All-append}
 use Rattle.st_state.specs.Machine.{Machine}
 use Rattle.st_rows.specs.Asked.{Read, asked, served, side_asked, following_asked, fetches_asked}
@@ -95,7 +95,7 @@ module _ (ds : List ℕ) (n : ℕ) (t : Option ℕ) (u : Machine) (f : Front) (n
             (each-following (IsLate next.formed.p) ds (operands ds n f e).bus e (tick_p ds n f e) (λ follows v least most. p));
       }
 
-  served-planned : served ds (reads_so_far ds f next) f.bus ≡ next.formed.bus
+  served-planned : served ds (reads_so_far ds f next) f.bus ≡ next.words.bus
   unfolding bus_a
   served-planned =
       let side = side_asked f.past e.side (tick_a ds f e) in
@@ -108,13 +108,13 @@ served-resting : (ds : List ℕ) (n : ℕ) (t : Option ℕ) (u : Machine) (f : F
     → served ds (reads_so_far ds f next) f.bus ≡ next.words.bus
 served-resting ds n t u f next is un =
     ap (λ reads. served ds reads f.bus) (reads-none ds f next un) ∙ served-fetches ds f (words_alone next.own next.target)
-    ∙ ap (λ (s : Fetching). s.bus) (sym is.read_on.words)
+    ∙ ap (λ (s : Fetching). s.bus) (sym (is.read_on.words un))
 
 served-by : (b : Bool) (ds : List ℕ) (n : ℕ) (t : Option ℕ) (u : Machine) (f : Front) (next : Next) → next.planned ≡ b → IsNext ds n t u f next
-    → served ds (reads_so_far ds f next) f.bus ≡ (if b then next.formed.bus else next.words.bus)
+    → served ds (reads_so_far ds f next) f.bus ≡ next.words.bus
 served-by true ds n t u f next e is = served-planned ds n t u f next is e
 served-by false ds n t u f next e is = served-resting ds n t u f next is e
 
 pub served-so-far : (ds : List ℕ) (n : ℕ) (t : Option ℕ) (u : Machine) (f : Front) (next : Next) → IsNext ds n t u f next
-    → served ds (reads_so_far ds f next) f.bus ≡ (if next.planned then next.formed.bus else next.words.bus)
+    → served ds (reads_so_far ds f next) f.bus ≡ next.words.bus
 served-so-far ds n t u f next is = served-by next.planned ds n t u f next refl is

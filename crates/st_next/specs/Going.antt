@@ -71,14 +71,13 @@ pub record IsPlannedAs (ds : List ℕ) (n : ℕ) (f : Front) (v : Sight) (before
   pub place : after.place ≡ before.place
   pub own : after.own ≡ before.own
   pub target : after.target ≡ before.target
-  pub words : after.words ≡ before.words
   pub planned : after.planned ≡ true
   pub found : after.fetched ≡ v.fetched
   pub needed : after.needs ≡ needs v
   pub ready : after.prepared ≡ prepared v (option_map (λ w. 0) (needs v).index_read)
   pub entry : after.entry ≡ entry_seen before.own before.target v
   pub address : after.formed.a ≡ tick_a ds f (entry_seen before.own before.target v)
-  pub bus : after.formed.bus ≡ bus_a ds f (entry_seen before.own before.target v)
+  pub bus : after.words.bus ≡ bus_a ds f (entry_seen before.own before.target v)
   pub tick : after.formed.p ≡ tick_p ds n f (entry_seen before.own before.target v)
 
 -- the reads so far are the first ones of the entry, and those that are left are wanted at a tick or later

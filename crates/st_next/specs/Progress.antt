@@ -14,11 +14,11 @@ use Rattle.st_next.specs.declared.next.Next.{Next}
 
 -- ---- the entry that is prepared next: t says whether it is a table instruction, u is the state before it, and f the front
 
--- so many of its words are asked for
+-- so many of its words are asked for, and the bus is behind them until the entry is planned
 pub record IsReadOn (ds : List ℕ) (t : Option ℕ) (u : Machine) (f : Front) (next : Next) : Type 0 where
   pub place : next.place ≡ place_of u t
   pub first : AreFirst next.own next.target (entry_of t u)
-  pub words : next.words ≡ words_so_far ds f next.own next.target
+  pub words : next.planned ≡ false → next.words ≡ words_so_far ds f next.own next.target
 
 -- these are all of them, and this is what is fetched
 pub record IsFound (t : Option ℕ) (u : Machine) (next : Next) : Type 0 where
@@ -34,7 +34,7 @@ pub record IsPlanned (ds : List ℕ) (n : ℕ) (t : Option ℕ) (u : Machine) (f
       ≡ prepared_of (sight u (place_of u t)) (option_map (λ w. 0) (needs_of (sight u (place_of u t))).index_read)
   pub entry : next.entry ≡ entry_of t u
   pub address : next.formed.a ≡ tick_a ds f (entry_of t u)
-  pub bus : next.formed.bus ≡ bus_a ds f (entry_of t u)
+  pub bus : next.words.bus ≡ bus_a ds f (entry_of t u)
   pub tick : next.formed.p ≡ tick_p ds n f (entry_of t u)
 
 -- the entry is planned, where the mark says so

@@ -32,8 +32,7 @@ pub fn reads_so_far_come_first()
 /// planned.
 pub fn reads_so_far_give_the_bus()
     ensures { (ds : List ℕ) (n : ℕ) (t : Option ℕ) (u : Machine) (f : Front) (next : Next) →
-        IsNext ds n t u f next → served ds (reads_so_far ds f next) f.bus
-        ≡ (if next.planned then next.formed.bus else next.words.bus) }
+        IsNext ds n t u f next → served ds (reads_so_far ds f next) f.bus ≡ next.words.bus }
 {}
 
 /// The address of an entry that rests before a tick and is not planned yet is formed later than that, so that no entry is planned too

@@ -22,12 +22,11 @@ ghost use Rattle.st_next.specs.Going.{IsFront, IsEarly, GoesOn, AreAskedMore, kn
 
 use st_banks::Delays;
 use st_bits::register::FIRST_STORAGE_WORD;
-use st_bits::HalfOp;
 use st_format::{Decoded, Format, FullOp, decode_as, format_of};
 use st_port::Port;
 use st_prep::{
     Fetched, Fetching as Given, Needs, Place, Prepared, Words, fetch_on, halves_known,
-    prepare_in, prepare_without_side, side_word,
+    is_execute_format, prepare_in, prepare_without_side, side_word,
 };
 use st_rows::{Entry, Fetching, Formed, Front, Run, Runs};
 use st_state::State;
@@ -41,7 +40,7 @@ pub struct Next {
     pub own: Run,
     /// Those of the target of EX.
     pub target: Run,
-    /// The bus behind them, their answers, and which writers of them are awaited.
+    /// The bus behind them, their answers, and which writers of them are awaited. The bus of an entry that is planned is behind its index-side word.
     pub words: Fetching,
     /// Whether all of it is known but its index-side word; what follows is said of such an entry alone.
     pub planned: bool,
@@ -53,7 +52,7 @@ pub struct Next {
     pub prepared: Prepared,
     /// The same as the timetable sees it.
     pub entry: Entry,
-    /// When its address is formed and when it is prepared, and the bus after its index-side word.
+    /// When its address is formed and when it is prepared.
     pub formed: Formed,
 }
 
@@ -116,7 +115,7 @@ impl Next {
         self.place = place;
         self.own = Run::default();
         self.target = Run::default();
-        self.words = Fetching::new(front.bus);
+        self.words.restart(&front.bus);
         self.planned = false;
     }
 
@@ -498,7 +497,9 @@ impl Next {
         requires place { IsPlace self.old.place }
         requires format { spelled_as spelled.format spelled.first spelled.second
             ≡ instruction_of spelled.first spelled.second }
-        ensures { self.new ≡ prepared_as (plain (decoded spelled.first spelled.second)) x.now state.now self.old }
+        ensures value { self.new ≡ prepared_as (plain (decoded spelled.first spelled.second)) x.now
+            state.now self.old }
+        ensures place { self.new.prepared.place ≡ self.old.place }
     {
         let Spelled {
             format,
@@ -525,7 +526,8 @@ impl Next {
     fn prepare_seldom(&mut self, own: Decoded, x: &[u64; 16], state: &State)
         requires place { IsPlace self.old.place }
         requires fields { HasFields own.instr }
-        ensures { self.new ≡ prepared_as (plain own) x.now state.now self.old }
+        ensures value { self.new ≡ prepared_as (plain own) x.now state.now self.old }
+        ensures place { self.new.prepared.place ≡ self.old.place }
     {
         self.prepare_own(own, x, state);
     }
@@ -535,7 +537,8 @@ impl Next {
     fn prepare_own(&mut self, own: Decoded, x: &[u64; 16], state: &State)
         requires place { IsPlace self.old.place }
         requires fields { HasFields own.instr }
-        ensures { self.new ≡ prepared_as (plain own) x.now state.now self.old }
+        ensures value { self.new ≡ prepared_as (plain own) x.now state.now self.old }
+        ensures place { self.new.prepared.place ≡ self.old.place }
     {
         let fetched = Fetched {
             instr: own,
@@ -555,6 +558,7 @@ impl Next {
             ≡ needs_of (seen self.old.place self.old.fetched outlook.now.x.now state.now) }
         requires ready { let v = seen self.old.place self.old.fetched outlook.now.x.now state.now in
             self.old.prepared ≡ prepared_of v (option_map (λ w. 0) (needs_of v).index_read) }
+        requires place { self.old.prepared.place ≡ self.old.place }
         requires entry { IsEntry (entry_seen self.old.own self.old.target
             (seen self.old.place self.old.fetched outlook.now.x.now state.now)) }
         requires words { self.old.words
@@ -567,7 +571,8 @@ impl Next {
         ensures bus { port.new.bus ≡ port.old.bus }
     {
         let _ = state;
-        self.entry = entry_of(
+        show_entry(
+            &mut self.entry,
             self.own,
             self.target,
             &self.needs,
@@ -575,7 +580,7 @@ impl Next {
             &self.fetched,
         );
         let front = outlook.front;
-        self.formed = front.form(delays, outlook.levels, &self.entry, self.words);
+        self.formed = front.form(delays, outlook.levels, &self.entry, &mut self.words);
         self.planned = true;
         port.ask_side(&front.past, self.entry.side, self.formed.a);
     }
@@ -583,26 +588,32 @@ impl Next {
 
 // The instruction that two half-words spell, with its format, unless it is EX.
 #[inline(always)]
-#[tactic(auto, unfolding(st_prep::specs::Reading::is_execute))]
 fn spelled_unless_execute(first: u32, second: u32) -> Option<Spelled>
     ensures same { IfSome result (λ r. (r.first ≡ first) × (r.second ≡ second)) }
     ensures format { IfSome result (λ r. spelled_as r.format first second ≡ instruction_of first second) }
     ensures plain { IfSome result (λ r. is_execute (instruction_of first second) ≡ false) }
 {
     let format = format_of(first, second);
-    match format {
-        Format::Index(HalfOp::Ex) => None,
-        _ => Some(Spelled {
-            format,
-            first,
-            second,
-        }),
+    if is_execute_format(format) {
+        return None;
     }
+    Some(Spelled {
+        format,
+        first,
+        second,
+    })
 }
 
-// An entry with these instruction words as the timetable sees it.
-fn entry_of(own: Run, target: Run, needs: &Needs, prepared: &Prepared, fetched: &Fetched) -> Entry
-    ensures { result ≡ record {
+// The entry becomes that with these instruction words, as the timetable sees it.
+fn show_entry(
+    entry: &mut Entry,
+    own: Run,
+    target: Run,
+    needs: &Needs,
+    prepared: &Prepared,
+    fetched: &Fetched,
+)
+    ensures { entry.new ≡ record {
       own = own;
       target = target;
       side = side_to_read_of needs.now.index_read;
@@ -613,16 +624,14 @@ fn entry_of(own: Run, target: Run, needs: &Needs, prepared: &Prepared, fetched: 
       follows = is_none prepared.now.place.table && is_none fetched.now.fault;
     } }
 {
-    Entry {
-        own,
-        target,
-        side: side_to_read(needs.index_read),
-        reads: words_to_read(prepared.reads),
-        writes: words_to_write(prepared.writes),
-        cost: prepared.cost,
-        serial: prepared.serial,
-        follows: prepared.place.table.is_none() && fetched.fault.is_none(),
-    }
+    entry.own = own;
+    entry.target = target;
+    entry.side = side_to_read(needs.index_read);
+    entry.reads = words_to_read(prepared.reads);
+    entry.writes = words_to_write(prepared.writes);
+    entry.cost = prepared.cost;
+    entry.serial = prepared.serial;
+    entry.follows = prepared.place.table.is_none() && fetched.fault.is_none();
 }
 
 // A run with one word more.

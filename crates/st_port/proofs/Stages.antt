@@ -1,9 +1,9 @@
 -- The reads of an entry in their parts, and the bus behind each.
 use Rattle.std.proofs.Common.{◌≡◌, ℕ, ◌+◌, ◌≤◌, List, ◌++◌, refl, ap, ◌∙◌, append_assoc, arith}
 use Rattle.st_rows.specs.Asked.{Read, side_asked, operands_asked, following_asked, fetches_asked, asked, served}
+use Rattle.st_rows.specs.BusTimes.{Reading}
 use Rattle.st_rows.specs.Rows.{read_words, operands_read, bus_followed, tick_a, bus_a, tick_p, prepared, operands, after}
 use Rattle.st_rows.specs.declared.entry.Entry.{Entry}
-use Rattle.st_rows.specs.declared.reading.Reading.{Reading}
 use Rattle.st_rows.specs.declared.front.Front.{Front}
 use Rattle.st_rows.proofs.Served.{served-append, served-operands, follow_if}
 use Rattle.st_port.specs.Parts.{runs_asked, data_of}

@@ -22,7 +22,9 @@ pub use laws::{
     plans_depend_on_what_is_read,
 };
 pub use overlap_laws::{operands_are_few, orders_are_not_seen};
-pub use preparation::{look, plan, plan_in, prepare, prepare_in, prepare_without_side, side_word};
+pub use preparation::{
+    is_execute_format, look, plan, plan_in, prepare, prepare_in, prepare_without_side, side_word,
+};
 pub use runs::reads_field;
 
 #[cfg(test)]

@@ -416,10 +416,10 @@ fn fill_other(x: &[u64; 16], state: &State, p: &mut Prepared)
     fill_fetched(&fetch_all(&p.place, x, state), x, state, p);
 }
 
-// Whether an instruction of this format is EX.
+/// Whether an instruction of this format is EX.
 #[inline(always)]
 #[tactic(auto, unfolding(crate::specs::Reading::is_execute))]
-fn is_execute_format(format: Format) -> bool
+pub fn is_execute_format(format: Format) -> bool
     ensures { (first second : ℕ) → result ≡ is_execute_of (spelled_as format first second) }
 {
     match format {

@@ -1,6 +1,11 @@
 -- Levels of the look-ahead.
-use Rattle.std.specs.Prelude.{ℕ, ◌<◌, max, slice_set, Some, IfSome}
+use Rattle.std.specs.Prelude.{ℕ, ◌<◌, max, List, slice_set, Option, Some, IfSome}
+use Rattle.st_prep.specs.declared.entries.Prepared.{Prepared}
 use Rattle.st_ring.specs.declared.level.Level.{Level}
+
+-- the level of an entry at the tick at which it is prepared, with the operand words that are there by then
+abbrev pub prepared_at : Prepared → ℕ → List (Option ℕ) → Level
+prepared_at entry p have = record { prepared = entry; p = p; r = p; have = have }
 
 -- the index word that a level changes is one of sixteen
 abbrev pub HasNumber : Level → Type 0

@@ -1,6 +1,6 @@
 //! A level of the look-ahead.
 ghost use Rattle.std.specs.Prelude.{◌≡◌, ◌<◌};
-ghost use Rattle.st_ring.specs.Levels.{filled as filled_of};
+ghost use Rattle.st_ring.specs.Levels.{filled as filled_of, prepared_at};
 
 use st_prep::Prepared;
 
@@ -17,12 +17,21 @@ pub struct Level {
     pub have: [Option<u64>; 2],
 }
 
-// The level with an operand word that came at a tick.
-pub(crate) fn filled(mut level: Level, slot: u8, word: u64, tick: u64) -> Level
+// The level becomes that of an entry that is prepared at the tick `p`, with these operand words.
+pub(crate) fn begin(level: &mut Level, prepared: &Prepared, p: u64, have: [Option<u64>; 2])
+    ensures { level.new ≡ prepared_at prepared.now p have }
+{
+    level.prepared = *prepared;
+    level.p = p;
+    level.r = p;
+    level.have = have;
+}
+
+// An operand word comes into the level at a tick.
+pub(crate) fn put_word(level: &mut Level, slot: u8, word: u64, tick: u64)
     requires { slot < 2 }
-    ensures { result ≡ filled_of level slot word tick }
+    ensures { level.new ≡ filled_of level.old slot word tick }
 {
     level.have[slot as usize] = Some(word);
     level.r = level.r.max(tick);
-    level
 }

@@ -1,11 +1,11 @@
 //! The levels of the look-ahead, oldest first.
 ghost use Rattle.std.specs.Prelude.{◌≡◌, ℕ, ◌+◌, ◌<◌, ◌≤◌, List, [], ◌∷◌, ◌++◌, length, drop, slice_get, slice_set, MatchOption, IfSome, Some};
 ghost use Rattle.st_ring.specs.declared.level.Level.{Level as Row};
-ghost use Rattle.st_ring.specs.Levels.{HasNumber, filled as filled_of};
+ghost use Rattle.st_ring.specs.Levels.{HasNumber, filled as filled_of, prepared_at};
 ghost use Rattle.st_ring.specs.Unwinding.{made, Kept, put_back as put_back_of, unwound};
 
-use crate::level::{Level, filled};
-use st_prep::IndexChange;
+use crate::level::{Level, begin, put_word};
+use st_prep::{IndexChange, Prepared};
 use std::marker::Model;
 
 // How many levels there can be.
@@ -54,15 +54,16 @@ impl<const N: usize> SpecRing<N> {
         self.len
     }
 
-    /// Appends a level, which is the youngest then. There is room, and the number of an index word that it
-    /// changes is below 16.
-    pub fn push(&mut self, level: Level)
+    /// Appends the level of an entry that is prepared at the tick `p`, with the operand words that are there by then; it
+    /// is the youngest then. There is room, and the number of an index word that it changes is below 16.
+    pub fn push(&mut self, prepared: &Prepared, p: u64, have: [Option<u64>; 2])
         requires room { length self.old < N }
-        requires number { HasNumber level }
-        ensures levels { self.new ≡ self.old ++ level ∷ [] }
+        requires number { IfSome prepared.now.index (λ c. c.number < 16) }
+        ensures levels { self.new ≡ self.old ++ prepared_at prepared.now p have ∷ [] }
         ensures len { length self.new ≡ length self.old + 1 }
     {
-        self.slots[(self.head + self.len) % SLOTS] = level;
+        let at = (self.head + self.len) % SLOTS;
+        begin(&mut self.slots[at], prepared, p, have);
         self.len += 1;
     }
 
@@ -98,12 +99,12 @@ impl<const N: usize> SpecRing<N> {
     }
 
     /// Level k, counted from the oldest, which is 0. There is one.
-    pub fn get(&self, k: usize) -> Level
+    pub fn get(&self, k: usize) -> &Level
         requires { k < length self.now }
-        ensures level { slice_get self.now k ≡ Some result }
-        ensures number { HasNumber result }
+        ensures level { slice_get self.now k ≡ Some result.now }
+        ensures number { HasNumber result.now }
     {
-        self.slots[(self.head + k) % SLOTS]
+        &self.slots[(self.head + k) % SLOTS]
     }
 
     /// Puts an operand word that came at a tick into a slot, 0 or 1, of level k, counted from the oldest. Its
@@ -116,7 +117,7 @@ impl<const N: usize> SpecRing<N> {
         ensures len { length self.new ≡ length self.old }
     {
         let at = (self.head + k) % SLOTS;
-        self.slots[at] = filled(self.slots[at], slot, word, tick);
+        put_word(&mut self.slots[at], slot, word, tick);
     }
 
     /// Puts the index words that the levels replaced back into `x`, that of the youngest level first; leaves no

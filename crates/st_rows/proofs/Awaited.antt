@@ -1,14 +1,13 @@
 -- The writers of all instruction words of an entry are awaited.
 use Rattle.std.proofs.Common.{◌≡◌, ℕ, zero, suc, true, false, ◌+◌, ◌<◌, ◌≤◌, max, List, refl, arith}
 use Rattle.std.specs.Prelude.{Bool, if◌then◌else◌}
-use Rattle.st_rows.specs.BusTimes.{after_read, answer_at}
+use Rattle.st_rows.specs.BusTimes.{Reading, after_read, answer_at}
 use Rattle.st_rows.specs.Entries.{latest_done}
 use Rattle.st_rows.specs.Rows.{fetch_word, fetch_words, wanted_from, fetched, is_forwarded, read_word, read_words, operands_read, tick_p, bus_a, operands}
 use Rattle.st_rows.specs.declared.past.Past.{Past}
 use Rattle.st_rows.specs.declared.entry.Entry.{Entry}
 use Rattle.st_rows.specs.declared.fetching.Fetching.{Fetching}
 use Rattle.st_rows.specs.declared.front.Front.{Front}
-use Rattle.st_rows.specs.declared.reading.Reading.{Reading}
 
 module _ (ds : List ℕ) (past : List Past) (from : ℕ) where
   awaited-later : (s : Fetching) (w n : ℕ) → s.awaited ≤ (fetch_words ds past s from w n).awaited

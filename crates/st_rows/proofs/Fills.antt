@@ -2,7 +2,7 @@
 use Rattle.std.specs.Prelude.{if◌then◌else◌, nat_lt, Bool}
 use Rattle.std.proofs.Common.{◌≡◌, ℕ, zero, suc, ◌+◌, ◌<◌, ◌≤◌, max, true, false, List, get_or, refl, ap, ◌∙◌, arith}
 use Rattle.std.proofs.lemmas.Bool.{ltb-true, lt-ltb}
-use Rattle.st_rows.specs.BusTimes.{accept_at, after_read, answer_at}
+use Rattle.st_rows.specs.BusTimes.{Reading, accept_at, after_read, answer_at}
 use Rattle.st_rows.specs.Entries.{latest_done}
 use Rattle.st_rows.specs.Ranges.{AreDelays, ArePastWithin, IsTight}
 use Rattle.st_rows.specs.Rows.{is_forwarded, read_word, read_words, operands_read, fill_at, fill_if, fills_of, fills, tick_p, bus_a, operands}
@@ -10,7 +10,6 @@ use Rattle.st_rows.specs.declared.bus.Bus.{Bus}
 use Rattle.st_rows.specs.declared.entry.Run.{Run}
 use Rattle.st_rows.specs.declared.entry.Entry.{Entry}
 use Rattle.st_rows.specs.declared.past.Past.{Past}
-use Rattle.st_rows.specs.declared.reading.Reading.{Reading}
 use Rattle.st_rows.specs.declared.front.Front.{Front}
 use Rattle.st_rows.proofs.Awaited.{ready-later}
 use Rattle.st_rows.proofs.Within.{delay-bounds, latest-within}

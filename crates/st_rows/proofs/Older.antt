@@ -4,7 +4,7 @@ use Rattle.std.proofs.Common.{◌≡◌, ℕ, zero, suc, ◌+◌, ◌-◌, ◌<�
 use Rattle.std.proofs.lemmas.Bool.{cases_Bool, cases_lt, ltb-true}
 use Rattle.std.proofs.lemmas.List.{get_or-take}
 use Rattle.std.proofs.lemmas.List.Elements.{All-from_get_or}
-use Rattle.st_rows.specs.BusTimes.{after_read, answer_at, requested, answer_of}
+use Rattle.st_rows.specs.BusTimes.{Reading, after_read, answer_at, requested, answer_of}
 use Rattle.st_rows.specs.Entries.{is_among, latest_done, no_words}
 use Rattle.st_rows.specs.Levels.{AreInOrder, AreOlderDone, kept}
 use Rattle.st_rows.specs.Rows.{fetch_word, fetch_words, wanted_from, fetched, addressed, bus_sided, side_there, done_before, prepared, read_word, read_words, operands_read, tick_a, bus_a, tick_y, tick_p, operands, tick_c, row, after}
@@ -13,7 +13,6 @@ use Rattle.st_rows.specs.declared.entry.Runs.{Runs}
 use Rattle.st_rows.specs.declared.entry.Entry.{Entry}
 use Rattle.st_rows.specs.declared.past.Past.{Past}
 use Rattle.st_rows.specs.declared.fetching.Fetching.{Fetching}
-use Rattle.st_rows.specs.declared.reading.Reading.{Reading}
 use Rattle.st_rows.specs.declared.front.Front.{Front}
 use Rattle.st_rows.proofs.Within.{latest-within}
 use Rattle.st_rows.proofs.Sooner.{take-beyond}

@@ -5,14 +5,13 @@ use Rattle.std.proofs.lemmas.Bool.{cases_Bool, ltb-true}
 use Rattle.st_bits.specs.Storage.{words_of_storage}
 use Rattle.st_fetch.specs.Planned.{tick_of}
 use Rattle.st_rows.specs.Asked.{Read, word_asked, words_asked, data_asked, side_asked, operands_asked, inside_asked, following_asked, fetches_asked, asked, after_one, served, made_before, side_count, own_reads}
-use Rattle.st_rows.specs.BusTimes.{accept_at, answer_at, after_read, requested_if, requested}
+use Rattle.st_rows.specs.BusTimes.{Reading, accept_at, answer_at, after_read, requested_if, requested}
 use Rattle.st_rows.specs.Ranges.{AreDelays, IsNear}
 use Rattle.st_rows.specs.Rows.{fetch_word, fetch_words, wanted_from, fetched, is_forwarded, bus_sided, read_word, read_words, operands_read, request_inside, bus_followed, tick_a, bus_a, tick_p, operands, after}
 use Rattle.st_rows.specs.declared.bus.Bus.{Bus}
 use Rattle.st_rows.specs.declared.entry.Entry.{Entry}
 use Rattle.st_rows.specs.declared.past.Past.{Past}
 use Rattle.st_rows.specs.declared.fetching.Fetching.{Fetching}
-use Rattle.st_rows.specs.declared.reading.Reading.{Reading}
 use Rattle.st_rows.specs.declared.front.Front.{Front}
 use Rattle.st_rows.proofs.Tight.{near-read, near-requested_if}
 

@@ -13,7 +13,7 @@ use Rattle.st_banks.specs.Bank.{bank_of, last_of}
 use Rattle.st_banks.specs.Delay.{delay}
 use Rattle.st_fetch.specs.Planned.{tick_of}
 use Rattle.st_fetch.specs.declared.fetched.Fetched.{Fetched}
-use Rattle.st_rows.specs.BusTimes.{accept_at, answer_at, after_read, requested_if, answer_if, requested, answer_of}
+use Rattle.st_rows.specs.BusTimes.{Reading, accept_at, answer_at, after_read, requested_if, answer_if, requested, answer_of}
 use Rattle.st_rows.specs.Entries.{is_in, is_among, latest_done, no_words}
 use Rattle.st_rows.specs.Levels.{AreEqual, IsHeldSooner, IsBusSooner, IsPastSooner, IsFrontSooner, IsRowSooner, AreInOrder, IsUnwritten, IsCalm, AreCalm, AreCovered, rows}
 use Rattle.st_rows.specs.Rows.{fetch_word, fetch_words, wanted_from, fetched, addressed, is_forwarded, bus_sided, side_there, prepared, read_word, read_words, operands_read, request_inside, bus_followed, tick_a, bus_a, tick_y, tick_p, operands, tick_c, opening, row, after}
@@ -22,7 +22,6 @@ use Rattle.st_rows.specs.declared.entry.Runs.{Runs}
 use Rattle.st_rows.specs.declared.entry.Entry.{Entry}
 use Rattle.st_rows.specs.declared.past.Past.{Past}
 use Rattle.st_rows.specs.declared.fetching.Fetching.{Fetching}
-use Rattle.st_rows.specs.declared.reading.Reading.{Reading}
 use Rattle.st_rows.specs.declared.front.Front.{Front}
 use Rattle.st_rows.specs.Ranges.{ArePastWithin}
 use Rattle.st_rows.proofs.Within.{past-weaker}

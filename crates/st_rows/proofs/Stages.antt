@@ -4,7 +4,7 @@ use Rattle.std.specs.Prelude.{◌||◌, if◌then◌else◌}
 use Rattle.std.proofs.Math.Nat.{max-le, mul-le-mul_right}
 use Rattle.std.proofs.lemmas.List.Elements.{All-head, All-tail, All-weaker}
 use Rattle.st_fetch.specs.declared.fetched.Fetched.{Fetched}
-use Rattle.st_rows.specs.BusTimes.{answer_at, after_read}
+use Rattle.st_rows.specs.BusTimes.{Reading, answer_at, after_read}
 use Rattle.st_rows.specs.Entries.{latest_done, no_words}
 use Rattle.st_rows.specs.Ranges.{AreDelays, IsBusWithin, IsFetchingWithin, IsReadingWithin, ArePastWithin, IsTight, IsEntry}
 use Rattle.st_rows.specs.Rows.{fetch_words, wanted_from, fetched, addressed, is_forwarded, bus_sided, side_there, prepared, read_words, operands_read, tick_a, bus_a, tick_y, tick_p, operands, tick_c}
@@ -13,7 +13,6 @@ use Rattle.st_rows.specs.declared.entry.Runs.{Runs}
 use Rattle.st_rows.specs.declared.entry.Entry.{Entry}
 use Rattle.st_rows.specs.declared.past.Past.{Past}
 use Rattle.st_rows.specs.declared.fetching.Fetching.{Fetching}
-use Rattle.st_rows.specs.declared.reading.Reading.{Reading}
 use Rattle.st_rows.specs.declared.front.Front.{Front}
 use Rattle.st_rows.proofs.Within.{latest-within, bus-weaker, past-weaker, fetching-weaker, reading-weaker, answer-within, read-within, fetch_words-within, read_words-within}
 

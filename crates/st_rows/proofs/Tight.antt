@@ -7,7 +7,7 @@ use Rattle.st_bits.specs.Storage.{words_of_storage}
 use Rattle.st_banks.specs.Bank.{bank_of}
 use Rattle.st_fetch.specs.Planned.{tick_of}
 use Rattle.st_fetch.specs.declared.fetched.Fetched.{Fetched}
-use Rattle.st_rows.specs.BusTimes.{accept_at, answer_at, after_read, requested_if, answer_if, requested, answer_of}
+use Rattle.st_rows.specs.BusTimes.{Reading, accept_at, answer_at, after_read, requested_if, answer_if, requested, answer_of}
 use Rattle.st_rows.specs.Entries.{latest_done}
 use Rattle.st_rows.specs.Ranges.{AreDelays, IsNear, IsTight, IsEntry}
 use Rattle.st_rows.specs.Rows.{fetch_word, fetch_words, wanted_from, fetched, addressed, is_forwarded, bus_sided, side_there, prepared, read_word, read_words, operands_read, request_inside, bus_followed, tick_a, bus_a, tick_y, tick_p, operands, tick_c, after}
@@ -15,7 +15,6 @@ use Rattle.st_rows.specs.declared.bus.Bus.{Bus}
 use Rattle.st_rows.specs.declared.entry.Entry.{Entry}
 use Rattle.st_rows.specs.declared.past.Past.{Past}
 use Rattle.st_rows.specs.declared.fetching.Fetching.{Fetching}
-use Rattle.st_rows.specs.declared.reading.Reading.{Reading}
 use Rattle.st_rows.specs.declared.front.Front.{Front}
 use Rattle.st_rows.proofs.Within.{at-within, delay-bounds, past-weaker}
 

@@ -1,9 +1,9 @@
 -- One turn of a loop over the words of a run.
 use Rattle.std.proofs.Common.{◌≡◌, ℕ, zero, suc, ◌+◌, ◌-◌, ◌≤◌, List, refl, arith}
+use Rattle.st_rows.specs.BusTimes.{Reading}
 use Rattle.st_rows.specs.Rows.{fetch_word, fetch_words, read_word, read_words}
 use Rattle.st_rows.specs.declared.past.Past.{Past}
 use Rattle.st_rows.specs.declared.fetching.Fetching.{Fetching}
-use Rattle.st_rows.specs.declared.reading.Reading.{Reading}
 
 module _ (ds : List ℕ) (past : List Past) (w tick : ℕ) where
   pub fetch-turn : (s t : Fetching) (n : ℕ) → t ≡ fetch_word ds past s w tick → 1 ≤ n

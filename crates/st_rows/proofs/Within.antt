@@ -9,14 +9,13 @@ use Rattle.st_banks.specs.Bank.{bank_of}
 use Rattle.st_banks.specs.Delay.{IsDelayList, delay}
 use Rattle.st_fetch.specs.Planned.{tick_of}
 use Rattle.st_fetch.specs.declared.fetched.Fetched.{Fetched}
-use Rattle.st_rows.specs.BusTimes.{accept_at, answer_at, after_read, requested_if, answer_if, requested, answer_of}
+use Rattle.st_rows.specs.BusTimes.{Reading, accept_at, answer_at, after_read, requested_if, answer_if, requested, answer_of}
 use Rattle.st_rows.specs.Entries.{is_among, latest_done}
 use Rattle.st_rows.specs.Ranges.{AreDelays, IsBusWithin, IsFetchingWithin, IsReadingWithin, ArePastWithin}
 use Rattle.st_rows.specs.Rows.{fetch_word, fetch_words, request_inside, is_forwarded, read_word, read_words}
 use Rattle.st_rows.specs.declared.bus.Bus.{Bus}
 use Rattle.st_rows.specs.declared.past.Past.{Past}
 use Rattle.st_rows.specs.declared.fetching.Fetching.{Fetching}
-use Rattle.st_rows.specs.declared.reading.Reading.{Reading}
 
 -- the delays of the banks are at most 255
 pub AreDelays-list : (ds : List ℕ) → IsDelayList ds → AreDelays 255 ds

@@ -6,6 +6,12 @@ use Rattle.st_banks.specs.declared.answers.LastAnswers.{LastAnswers}
 use Rattle.st_fetch.specs.Planned.{unasked, tick_of, asked_for}
 use Rattle.st_rows.specs.declared.bus.Bus.{Bus}
 
+-- how far the operand words of an entry are read: the bus after the words so far, and the latest of their answers and of the tick at which the entry
+-- was prepared
+pub record Reading : Type 0 where
+  pub bus : Bus
+  pub answered : ℕ
+
 -- the bus of a segment that starts at the tick: no word is held
 abbrev pub no_reads : LastAnswers → ℕ → Bus
 no_reads banks start = record { banks = banks; free = start; held = record { words = replicate 4 unasked } }

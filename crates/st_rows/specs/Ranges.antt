@@ -1,13 +1,13 @@
 -- What holds of the numbers of entries, buses and fronts.
 use Rattle.std.specs.Prelude.{ℕ, ◌≡◌, ◌+◌, ◌*◌, ◌≤◌, ◌<◌, true, List, length, All, IfSome}
 use Rattle.st_bits.specs.Storage.{words_of_storage}
+use Rattle.st_rows.specs.BusTimes.{Reading}
 use Rattle.st_rows.specs.declared.bus.Bus.{Bus}
 use Rattle.st_rows.specs.declared.entry.Run.{Run}
 use Rattle.st_rows.specs.declared.entry.Entry.{Entry}
 use Rattle.st_rows.specs.declared.fetching.Fetching.{Fetching}
 use Rattle.st_rows.specs.declared.front.Front.{Front}
 use Rattle.st_rows.specs.declared.past.Past.{Past}
-use Rattle.st_rows.specs.declared.reading.Reading.{Reading}
 
 -- the words of a run lie in storage, above the registers
 pub record IsReadable (run : Run) : Type 0 where

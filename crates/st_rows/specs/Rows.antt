@@ -3,7 +3,7 @@
 use Rattle.std.specs.Prelude.{ℕ, zero, suc, ◌+◌, ◌-◌, max, Bool, false, ◌||◌, nat_lt, if◌then◌else◌, List, [], ◌∷◌, get_or, take, replicate, Option, None, Some}
 use Rattle.st_bits.specs.Storage.{words_of_storage}
 use Rattle.st_banks.specs.declared.answers.LastAnswers.{LastAnswers}
-use Rattle.st_rows.specs.BusTimes.{no_reads, after_read, answer_at, requested, answer_of}
+use Rattle.st_rows.specs.BusTimes.{Reading, no_reads, after_read, answer_at, requested, answer_of}
 use Rattle.st_rows.specs.Entries.{no_words, latest_done}
 use Rattle.st_rows.specs.declared.bus.Bus.{Bus}
 use Rattle.st_rows.specs.declared.entry.Run.{Run}
@@ -11,7 +11,6 @@ use Rattle.st_rows.specs.declared.entry.Runs.{Runs}
 use Rattle.st_rows.specs.declared.entry.Entry.{Entry}
 use Rattle.st_rows.specs.declared.past.Past.{Past}
 use Rattle.st_rows.specs.declared.fetching.Fetching.{Fetching}
-use Rattle.st_rows.specs.declared.reading.Reading.{Reading}
 use Rattle.st_rows.specs.declared.front.Front.{Front}
 use Rattle.st_rows.specs.declared.front.Row.{Row}
 
@@ -86,6 +85,10 @@ unfoldable pub prepared : ℕ → List Past → ℕ → ℕ → ℕ
 prepared n past a y = max (max a y) (done_before n past) + 1
 
 -- ---- operands: each is read, or comes from its latest writer at that one's completion
+
+-- what is read behind the instruction words goes on with their bus
+abbrev pub reading_of : Fetching → Reading
+reading_of s = record { bus = s.bus; answered = s.answered }
 
 -- the word w, wanted at preparation
 unfoldable pub read_word : List ℕ → List Past → Reading → ℕ → ℕ → Reading

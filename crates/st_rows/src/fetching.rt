@@ -8,12 +8,13 @@ use crate::entry::Run;
 use crate::past::{Past, latest_done};
 use st_banks::Delays;
 
-/// How far the instruction words of an entry are fetched.
+/// How far the words of an entry are read: its instruction words, and behind them the others.
 #[derive(Clone, Copy, Debug, Default, PartialEq, Eq)]
 pub struct Fetching {
     /// The bus after the words so far.
     pub bus: Bus,
-    /// The latest of their answers, 0 before the first one.
+    /// The latest of the answers of instruction words, 0 before the first one. Once operands are read it is the latest of theirs and of the tick at
+    /// which the entry was prepared.
     pub answered: u64,
     /// The latest completion of an entry that writes one of them, 0 where none does.
     pub awaited: u64,
@@ -29,6 +30,15 @@ impl Fetching {
             answered: 0,
             awaited: 0,
         }
+    }
+
+    /// No word is fetched yet.
+    pub fn restart(&mut self, bus: &Bus)
+        ensures { self.new ≡ record { bus = bus.now; answered = 0; awaited = 0 } }
+    {
+        self.bus = *bus;
+        self.answered = 0;
+        self.awaited = 0;
     }
 
     /// Fetches the next instruction word, which is wanted from `from` on.

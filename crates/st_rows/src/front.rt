@@ -2,14 +2,13 @@
 ghost use Rattle.std.specs.Prelude.{◌≡◌, ◌+◌, ◌*◌, ◌-◌, ◌<◌, ◌≤◌, ◌^◌, ℕ, max, All, List};
 ghost use Rattle.st_rows.specs.BusTimes.{requested};
 ghost use Rattle.st_rows.specs.Rows.{opening, wanted_from, fetched, addressed, bus_sided, side_there, prepared as prepared_of};
-ghost use Rattle.st_rows.specs.Rows.{operands_read, read_words, request_inside as request_inside_of, bus_followed, tick_a, bus_a, tick_p, row as row_of, after, fills_of, fills as fills_of_entry};
+ghost use Rattle.st_rows.specs.Rows.{reading_of, operands_read, read_words, request_inside as request_inside_of, bus_followed, tick_a, bus_a, tick_p, row as row_of, after, fills_of, fills as fills_of_entry};
 ghost use Rattle.st_rows.specs.Ranges.{IsEntry, IsTight, IsBusWithin, IsFetchingWithin, IsReadingWithin, ArePastWithin, IsReadable};
 
 use crate::bus::Bus;
 use crate::entry::{Entry, Run};
 use crate::fetching::Fetching;
 use crate::past::{Past, latest_done, put_newest};
-use crate::reading::Reading;
 use st_banks::{Delays, LastAnswers};
 
 // The number of words of storage.
@@ -46,8 +45,6 @@ pub struct Front {
 /// An entry whose address is formed.
 #[derive(Clone, Copy, Debug, Default, PartialEq, Eq)]
 pub struct Formed {
-    /// The bus after its index-side word.
-    pub bus: Bus,
     /// When its address is formed.
     pub a: u64,
     /// When it is prepared.
@@ -57,8 +54,6 @@ pub struct Formed {
 /// An entry whose operands are there.
 #[derive(Clone, Copy, Debug, Default, PartialEq, Eq)]
 pub struct Filled {
-    /// The bus after all its reads.
-    pub bus: Bus,
     /// Its ticks.
     pub row: Row,
     /// When the first two words of its first run of operands are there, 0 where the run has no such word.
@@ -110,11 +105,11 @@ impl Front {
 
     // The tick at which the address of the next entry is formed.
     #[tactic(auto, unfolding(crate::specs::Rows::addressed))]
-    fn address(&self, entry: &Entry, words: Fetching) -> u64
+    fn address(&self, entry: &Entry, words: &Fetching) -> u64
         requires tight { IsTight 255 self.now }
         requires early { self.now.c ≤ 2 ^ 63 + 2 ^ 20 }
-        requires room { IsFetchingWithin (self.now.c + 1791) words }
-        ensures value { result ≡ addressed self.now entry.now words.answered words.awaited }
+        requires room { IsFetchingWithin (self.now.c + 1791) words.now }
+        ensures value { result ≡ addressed self.now entry.now words.now.answered words.now.awaited }
         ensures bound { result ≤ self.now.c + 1792 }
     {
         let alone = if entry.serial || self.serial {
@@ -126,24 +121,29 @@ impl Front {
         (there + 1).max(self.bus.free)
     }
 
-    /// The address of the next entry is formed, whose instruction words are fetched, and its index-side word is asked for; `levels`
+    /// The address of the next entry is formed, whose instruction words are fetched, and its index-side word is asked for behind them; `levels`
     /// are those of the machine, 1 to 8.
-    pub fn form(&self, delays: &Delays, levels: usize, entry: &Entry, words: Fetching) -> Formed
+    pub fn form(
+        &self,
+        delays: &Delays,
+        levels: usize,
+        entry: &Entry,
+        words: &mut Fetching,
+    ) -> Formed
         requires entry { IsEntry entry.now }
         requires tight { IsTight 255 self.now }
         requires early { self.now.c ≤ 2 ^ 63 + 2 ^ 20 }
         requires levels { (1 ≤ levels) × (levels ≤ 8) }
-        requires words { words ≡ fetched delays.now self.now entry.now }
+        requires words { words.old ≡ fetched delays.now self.now entry.now }
         ensures address { result.a ≡ tick_a delays.now self.now entry.now }
-        ensures bus { result.bus ≡ bus_a delays.now self.now entry.now }
+        ensures bus { words.new.bus ≡ bus_a delays.now self.now entry.now }
         ensures tick { result.p ≡ tick_p delays.now levels self.now entry.now }
     {
         delays.shape();
         let a = self.address(entry, words);
-        let mut bus = words.bus;
-        let y = side(&mut bus, delays, &self.past, entry.side, a);
+        let y = side(&mut words.bus, delays, &self.past, entry.side, a);
         let p = prepared_at(levels, &self.past, a, y);
-        Formed { bus, a, p }
+        Formed { a, p }
     }
 
     /// Goes on behind the next entry, and gives its row; `levels` are those of the machine, 1 to 8.
@@ -173,8 +173,9 @@ impl Front {
         ensures tight { IsTight 255 self.new }
         ensures bound { self.new.c ≤ self.old.c + 16576 }
     {
-        let formed = self.form(delays, levels, entry, words);
-        self.complete(delays, levels, entry, formed).row
+        let mut words = words;
+        let formed = self.form(delays, levels, entry, &mut words);
+        self.complete(delays, levels, entry, formed, &mut words).row
     }
 
     /// The same where the address of the entry is formed already, as `form` says. The result says besides when the first two operand
@@ -185,13 +186,14 @@ impl Front {
         levels: usize,
         entry: &Entry,
         formed: Formed,
+        words: &mut Fetching,
     ) -> Filled
         requires entry { IsEntry entry.now }
         requires tight { IsTight 255 self.old }
         requires early { self.old.c ≤ 2 ^ 63 + 2 ^ 20 }
         requires levels { (1 ≤ levels) × (levels ≤ 8) }
         requires address { formed.a ≡ tick_a delays.now self.old entry.now }
-        requires bus { formed.bus ≡ bus_a delays.now self.old entry.now }
+        requires bus { words.old.bus ≡ bus_a delays.now self.old entry.now }
         requires tick { formed.p ≡ tick_p delays.now levels self.old entry.now }
         ensures value { result.row ≡ row_of delays.now levels self.old entry.now }
         ensures fills { result.fills ≡ fills_of_entry delays.now levels self.old entry.now }
@@ -200,57 +202,59 @@ impl Front {
         ensures bound { self.new.c ≤ self.old.c + 16576 }
     {
         delays.shape();
-        let filled = self.fill(delays, levels, entry, &formed);
-        self.pass(entry, &filled);
+        let filled = self.fill(delays, levels, entry, formed, words);
+        self.pass(entry, &filled.row, &words.bus);
         filled
     }
 
     /// The operand words of the next entry are read, whose address is formed as `form` says, and its following words are asked for; the front
     /// stays before it.
-    pub fn fill(&self, delays: &Delays, levels: usize, entry: &Entry, formed: &Formed) -> Filled
+    pub fn fill(
+        &self,
+        delays: &Delays,
+        levels: usize,
+        entry: &Entry,
+        formed: Formed,
+        words: &mut Fetching,
+    ) -> Filled
         requires entry { IsEntry entry.now }
         requires tight { IsTight 255 self.now }
         requires early { self.now.c ≤ 2 ^ 63 + 2 ^ 20 }
         requires levels { (1 ≤ levels) × (levels ≤ 8) }
-        requires address { formed.now.a ≡ tick_a delays.now self.now entry.now }
-        requires bus { formed.now.bus ≡ bus_a delays.now self.now entry.now }
-        requires tick { formed.now.p ≡ tick_p delays.now levels self.now entry.now }
+        requires address { formed.a ≡ tick_a delays.now self.now entry.now }
+        requires bus { words.old.bus ≡ bus_a delays.now self.now entry.now }
+        requires tick { formed.p ≡ tick_p delays.now levels self.now entry.now }
         ensures value { result.row ≡ row_of delays.now levels self.now entry.now }
         ensures fills { result.fills ≡ fills_of_entry delays.now levels self.now entry.now }
-        ensures bus { result.bus ≡ (after delays.now levels self.now entry.now).bus }
+        ensures bus { words.new.bus ≡ (after delays.now levels self.now entry.now).bus }
     {
         delays.shape();
-        let mut operands = Reading {
-            bus: formed.bus,
-            answered: formed.p,
-        };
-        let fills = read_operands(&mut operands, delays, &self.past, entry, formed.p);
-        let c = self.c.max(operands.answered) + u64::from(entry.cost);
-        let row = Row {
-            a: formed.a,
-            p: formed.p,
-            r: operands.answered,
-            c,
-        };
-        let mut bus = operands.bus;
-        follow(&mut bus, delays, entry, formed.p);
-        Filled { bus, row, fills }
+        let Formed { a, p } = formed;
+        words.answered = p;
+        let fills = read_operands(words, delays, &self.past, entry, p);
+        let r = words.answered;
+        let c = self.c.max(r) + u64::from(entry.cost);
+        follow(&mut words.bus, delays, entry, p);
+        Filled {
+            row: Row { a, p, r, c },
+            fills,
+        }
     }
 
-    /// Goes on behind the next entry, whose operands are there as `fill` says.
-    pub fn pass(&mut self, entry: &Entry, filled: &Filled)
-        ensures { (ds : List ℕ) (n : ℕ) → filled.now.row ≡ row_of ds n self.old entry.now →
-            filled.now.bus ≡ (after ds n self.old entry.now).bus →
+    /// Goes on behind the next entry, with its row, and the bus after all its reads.
+    pub fn pass(&mut self, entry: &Entry, row: &Row, bus: &Bus)
+        ensures { (ds : List ℕ) (n : ℕ) → row.now ≡ row_of ds n self.old entry.now →
+            bus.now ≡ (after ds n self.old entry.now).bus →
             self.new ≡ after ds n self.old entry.now }
     {
-        self.bus = filled.bus;
-        self.p = filled.row.p;
-        self.c = filled.row.c;
+        self.bus = *bus;
+        self.p = row.p;
+        self.c = row.c;
         self.serial = entry.serial;
         put_newest(
             &mut self.past,
             Past {
-                c: filled.row.c,
+                c: row.c,
                 writes: entry.writes,
             },
         );
@@ -293,7 +297,7 @@ fn prepared_at(levels: usize, past: &[Past; 8], a: u64, y: u64) -> u64
 // that has no such word.
 #[tactic(auto, unfolding(crate::specs::Rows::operands_read))]
 fn read_operands(
-    operands: &mut Reading,
+    operands: &mut Fetching,
     delays: &Delays,
     past: &[Past; 8],
     entry: &Entry,
@@ -304,41 +308,48 @@ fn read_operands(
     requires room { IsBusWithin (2 ^ 64 - 2 ^ 17) operands.old.bus }
     requires early { p ≤ 2 ^ 64 - 2 ^ 17 }
     requires start { operands.old.answered ≡ p }
-    ensures value { operands.new ≡ operands_read delays.now past.now operands.old.bus entry.now.reads p }
+    ensures value { reading_of operands.new ≡ operands_read delays.now past.now operands.old.bus entry.now.reads p }
     ensures fills { result ≡ fills_of delays.now past.now operands.old.bus entry.now.reads.one p }
 {
     delays.shape();
     let fills = read_run(operands, delays, past, entry.reads.one, p);
-    operands.words(delays, past, entry.reads.two, p);
+    operands.read_on(delays, past, entry.reads.two, p);
     fills
 }
 
 // The words of a run of operands are read. The result says when the first two are there, 0 where there is no such word.
 #[tactic(auto, unfolding(crate::specs::Rows::fills_of))]
-fn read_run(operands: &mut Reading, delays: &Delays, past: &[Past; 8], run: Run, p: u64) -> [u64; 2]
+fn read_run(
+    operands: &mut Fetching,
+    delays: &Delays,
+    past: &[Past; 8],
+    run: Run,
+    p: u64,
+) -> [u64; 2]
     requires words { IsReadable run }
     requires few { run.len ≤ 16 }
     requires before { ArePastWithin (2 ^ 64 - 2 ^ 17) past.now }
-    requires room { IsReadingWithin (2 ^ 64 - 2 ^ 17) operands.old }
+    requires room { IsReadingWithin (2 ^ 64 - 2 ^ 17) (reading_of operands.old) }
     requires early { p ≤ 2 ^ 64 - 2 ^ 17 }
     requires start { operands.old.answered ≡ p }
-    ensures value { operands.new ≡ read_words delays.now past.now operands.old p run.first run.len }
+    ensures value { reading_of operands.new ≡
+        read_words delays.now past.now (reading_of operands.old) p run.first run.len }
     ensures fills { result ≡ fills_of delays.now past.now operands.old.bus run p }
 {
     delays.shape();
     if run.len == 0 {
         return [0, 0];
     }
-    let first = operands.word(delays, past, run.first, p);
+    let first = operands.read(delays, past, run.first, p);
     if run.len == 1 {
         return [first, 0];
     }
-    let second = operands.word(delays, past, run.first + 1, p);
+    let second = operands.read(delays, past, run.first + 1, p);
     let behind = Run {
         first: run.first + 2,
         len: run.len - 2,
     };
-    operands.words(delays, past, behind, p);
+    operands.read_on(delays, past, behind, p);
     [first, second]
 }
 

@@ -21,7 +21,6 @@ pub use laws::{
     rows_are_in_order, rows_make_their_reads,
 };
 pub use past::{Past, latest_done};
-pub use reading::Reading;
 
 #[cfg(test)]
 mod tests;

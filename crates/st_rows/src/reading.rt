@@ -1,32 +1,23 @@
 //! The operand words of an entry, read one after another.
 ghost use Rattle.std.specs.Prelude.{◌≡◌, ◌+◌, ◌*◌, ◌-◌, ◌<◌, ◌≤◌, ◌^◌, All};
-ghost use Rattle.st_rows.specs.Rows.{read_word, read_words, fill_at};
+ghost use Rattle.st_rows.specs.Rows.{reading_of, read_word, read_words, fill_at};
 ghost use Rattle.st_rows.specs.Ranges.{IsReadingWithin, ArePastWithin, IsReadable};
 
-use crate::bus::Bus;
 use crate::entry::Run;
+use crate::fetching::Fetching;
 use crate::past::{Past, latest_done};
 use st_banks::Delays;
 
-/// How far the operand words of an entry are read.
-#[derive(Clone, Copy, Debug, Default, PartialEq, Eq)]
-pub struct Reading {
-    /// The bus after the words so far.
-    pub bus: Bus,
-    /// The latest of the answers so far and of the tick at which the entry was prepared.
-    pub answered: u64,
-}
-
-impl Reading {
-    /// Reads the next operand word of an entry that is prepared at `p`, unless an earlier entry writes it that is done later. The
-    /// result is the tick at which the word is there.
+impl Fetching {
+    // Reads the next operand word of an entry that is prepared at `p`, unless an earlier entry writes it that is done later. The
+    // result is the tick at which the word is there.
     #[tactic(auto, unfolding(crate::specs::Rows::read_word, crate::specs::Rows::fill_at))]
-    pub fn word(&mut self, delays: &Delays, past: &[Past; 8], w: u32, p: u64) -> u64
-        requires room { IsReadingWithin (2 ^ 64 - 512) self.old }
+    pub(crate) fn read(&mut self, delays: &Delays, past: &[Past; 8], w: u32, p: u64) -> u64
+        requires room { IsReadingWithin (2 ^ 64 - 512) (reading_of self.old) }
         requires before { ArePastWithin (2 ^ 64 - 512) past.now }
         requires early { p ≤ 2 ^ 64 - 512 }
         ensures value { result ≡ fill_at delays.now past.now self.old.bus w p }
-        ensures after { self.new ≡ read_word delays.now past.now self.old w p }
+        ensures after { reading_of self.new ≡ read_word delays.now past.now (reading_of self.old) w p }
     {
         let done = latest_done(past, w);
         if done > p {
@@ -37,21 +28,22 @@ impl Reading {
         answer
     }
 
-    /// Reads the next operand words.
+    // Reads the next operand words.
     #[tactic(auto, unfolding(crate::specs::Rows::read_words))]
-    pub fn words(&mut self, delays: &Delays, past: &[Past; 8], run: Run, p: u64)
-        requires room { IsReadingWithin (2 ^ 64 - 2 ^ 16) self.old }
+    pub(crate) fn read_on(&mut self, delays: &Delays, past: &[Past; 8], run: Run, p: u64)
+        requires room { IsReadingWithin (2 ^ 64 - 2 ^ 16) (reading_of self.old) }
         requires before { ArePastWithin (2 ^ 64 - 2 ^ 16) past.now }
         requires early { p ≤ 2 ^ 64 - 2 ^ 16 }
         requires words { IsReadable run }
         requires few { run.len ≤ 16 }
-        ensures { self.new ≡ read_words delays.now past.now self.old p run.first run.len }
+        ensures { reading_of self.new
+            ≡ read_words delays.now past.now (reading_of self.old) p run.first run.len }
     {
         delays.shape();
         let mut w = run.first;
         let mut left = run.len;
         'words: while left > 0 {
-            self.word(delays, past, w, p);
+            self.read(delays, past, w, p);
             w += 1;
             left -= 1;
         }

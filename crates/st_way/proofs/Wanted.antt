@@ -7,13 +7,12 @@ use Rattle.st_bits.specs.Storage.{words_of_storage}
 use Rattle.st_fetch.specs.Planned.{tick_of}
 use Rattle.st_fetch.specs.declared.fetched.HeldWords.{HeldWords}
 use Rattle.st_rows.specs.Asked.{Read, word_asked, side_asked, inside_asked, following_asked, fetches_asked, asked, served}
-use Rattle.st_rows.specs.BusTimes.{after_read, answer_at}
+use Rattle.st_rows.specs.BusTimes.{Reading, after_read, answer_at}
 use Rattle.st_rows.specs.Ranges.{AreDelays, IsEntry, IsTight}
 use Rattle.st_rows.specs.Rows.{fetched, is_forwarded, bus_sided, read_word, read_words, operands_read, request_inside, tick_a, bus_a, tick_p, operands, tick_c, addressed, after}
 use Rattle.st_rows.specs.declared.bus.Bus.{Bus}
 use Rattle.st_rows.specs.declared.entry.Entry.{Entry}
 use Rattle.st_rows.specs.declared.past.Past.{Past}
-use Rattle.st_rows.specs.declared.reading.Reading.{Reading}
 use Rattle.st_rows.specs.declared.front.Front.{Front}
 use Rattle.st_rows.proofs.Served.{served-append, served-fetches, served-side, served-asked}
 use Rattle.st_rows.proofs.Tight.{free-a, free-p, free-r, later-r, later-c}

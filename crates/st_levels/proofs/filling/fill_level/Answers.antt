@@ -6,17 +6,17 @@ use Rattle.st_levels.proofs.Edits.{get-set, get-other, same-item}
 use Rattle.st_levels.proofs.filling.fill_level.Goals as goal
 
 pub coming-first-requires-clause-prepared : goal.coming-first-requires-clause-prepared
-coming-first-requires-clause-prepared g c = c.requires.prepared c.get-level.result c.get-level.ensures.level
+coming-first-requires-clause-prepared g c = c.requires.prepared c.get-level.result.now c.get-level.ensures.level
 
 pub coming-second-requires-clause-prepared : goal.coming-second-requires-clause-prepared
-coming-second-requires-clause-prepared g c = c.requires.prepared c.get-level.result c.get-level.ensures.level
+coming-second-requires-clause-prepared g c = c.requires.prepared c.get-level.result.now c.get-level.ensures.level
 
 pub returns-clause-levels : goal.returns-clause-levels
 returns-clause-levels g c = λ level at.
     let k = c.args.k in
     let now = c.args.now in
     let old = c.args.ring.now in
-    let read = c.get-level.result in
+    let read = c.get-level.result.now in
     let once = with_word read 0 c.coming-first.result now in
     let twice = with_word once 1 c.coming-second.result now in
     let same = same-item (slice_get old k) read level c.get-level.ensures.level at in
@@ -34,7 +34,7 @@ returns-clause-others g c = λ i other.
     let k = c.args.k in
     let now = c.args.now in
     let old = c.args.ring.now in
-    let read = c.get-level.result in
+    let read = c.get-level.result.now in
     let once = with_word read 0 c.coming-first.result now in
     let twice = with_word once 1 c.coming-second.result now in
     let first : c.put.new.ring ≡ set old k once = c.put.ensures.levels read c.get-level.ensures.level in

@@ -1,11 +1,11 @@
 use Rattle.std.proofs.Common.{◌≡◌, ℕ, ◌+◌, ◌<◌, ◌≤◌, true, List, refl, sym, subst, ◌∙◌, ap, arith}
 use Rattle.st_prep.specs.Plan.{plan}
-use Rattle.st_rows.specs.Ranges.{IsTight}
-use Rattle.st_rows.specs.Rows.{row, after, fills}
+use Rattle.st_rows.specs.Ranges.{IsEntry, IsTight}
+use Rattle.st_rows.specs.Rows.{row, after, fills, tick_a, bus_a, tick_p}
 use Rattle.st_rows.specs.declared.entry.Entry.{Entry}
 use Rattle.st_rows.specs.declared.front.Front.{Front}
 use Rattle.st_rows.specs.declared.front.Row.{Row}
-use Rattle.st_rows.specs.declared.front.Filled.{Filled}
+use Rattle.st_rows.specs.declared.front.Formed.{Formed}
 use Rattle.st_rows.proofs.Within.{AreDelays-list}
 use Rattle.st_segment.specs.Entries.{entry}
 use Rattle.st_segment.specs.Guesses.{guesses, table_behind}
@@ -17,13 +17,6 @@ use Rattle.st_ahead.specs.Going.{IsGoing}
 use Rattle.st_ahead.proofs.Due.{row-p, after-p}
 use Rattle.st_ahead.proofs.Pushed.{going-pushed}
 use Rattle.st_ahead.proofs.look.Look.push.Goals as goal
-
--- the front behind the entry that is passed, which is the one that was filled
-passed : (ds : List ℕ) (n : ℕ) (f : Front) (x y : Entry) (new : Front) (filled : Filled) → y ≡ x
-    → (filled.row ≡ row ds n f y → filled.bus ≡ (after ds n f y).bus → new ≡ after ds n f y)
-    → filled.row ≡ row ds n f x → filled.bus ≡ (after ds n f x).bus → new ≡ after ds n f x
-passed ds n f x y new filled same by is bus =
-    by (is ∙ ap (row ds n f) (sym same)) (bus ∙ ap (λ e. (after ds n f e).bus) (sym same)) ∙ ap (after ds n f) same
 
 pub prepare-requires-clause-ready : goal.prepare-requires-clause-ready
 prepare-requires-clause-ready g c =
@@ -52,6 +45,76 @@ prepare-requires-clause-ready g c =
       is_next = becomes.is_next;
     }
 
+pub fill-filled-requires-clause-entry : goal.fill-filled-requires-clause-entry
+fill-filled-requires-clause-entry g c =
+    let ds = c.args.delays.now in
+    let n = g.row.N in
+    let now = c.args.now in
+    let t = c.requires.going.table in
+    let s = c.args.state.now in
+    let f = c.requires.going.front in
+    let view : LookView = record { levels = c.self.inside.levels; front = c.self.inside.front; port = c.self.inside.port; next = c.self.inside.next } in
+    let is = subst (λ (w : LookView). IsGoing ds n now (now + 1) t s f w) (sym c.self.view_is) c.requires.going.going in
+    let planned : view.next.planned ≡ true = ap (λ (w : LookView). w.next.planned) c.self.view_is ∙ c.requires.planned in
+    let due : view.next.formed.p ≡ now = ap (λ (w : LookView). w.next.formed.p) c.self.view_is ∙ c.requires.due in
+    let becomes = c.planned_entries_become_levels.ensures ds n now t s f view c.requires.some c.requires.few
+    (AreDelays-list ds c.shape.ensures) (omega (arith, c.len-few.ensures.value, c.len-few.ensures.within)) c.requires.early is planned due in
+    let entry_is : c.prepare.new.self.entry ≡ view.next.entry = ap (λ (next : Next). next.entry) c.prepare.ensures.rest in
+    subst (λ (e : Entry). IsEntry e) (sym entry_is) becomes.range
+
+pub fill-filled-requires-clause-address : goal.fill-filled-requires-clause-address
+fill-filled-requires-clause-address g c =
+    let ds = c.args.delays.now in
+    let n = g.row.N in
+    let now = c.args.now in
+    let t = c.requires.going.table in
+    let s = c.args.state.now in
+    let f = c.requires.going.front in
+    let view : LookView = record { levels = c.self.inside.levels; front = c.self.inside.front; port = c.self.inside.port; next = c.self.inside.next } in
+    let is = subst (λ (w : LookView). IsGoing ds n now (now + 1) t s f w) (sym c.self.view_is) c.requires.going.going in
+    let planned : view.next.planned ≡ true = ap (λ (w : LookView). w.next.planned) c.self.view_is ∙ c.requires.planned in
+    let due : view.next.formed.p ≡ now = ap (λ (w : LookView). w.next.formed.p) c.self.view_is ∙ c.requires.due in
+    let becomes = c.planned_entries_become_levels.ensures ds n now t s f view c.requires.some c.requires.few
+    (AreDelays-list ds c.shape.ensures) (omega (arith, c.len-few.ensures.value, c.len-few.ensures.within)) c.requires.early is planned due in
+    let entry_is : c.prepare.new.self.entry ≡ view.next.entry = ap (λ (next : Next). next.entry) c.prepare.ensures.rest in
+    let formed_is : c.prepare.new.self.formed ≡ view.next.formed = ap (λ (next : Next). next.formed) c.prepare.ensures.rest in
+    ap (λ (x : Formed). x.a) formed_is ∙ becomes.address ∙ ap (tick_a ds view.front) (sym entry_is)
+
+pub fill-filled-requires-clause-bus : goal.fill-filled-requires-clause-bus
+fill-filled-requires-clause-bus g c =
+    let ds = c.args.delays.now in
+    let n = g.row.N in
+    let now = c.args.now in
+    let t = c.requires.going.table in
+    let s = c.args.state.now in
+    let f = c.requires.going.front in
+    let view : LookView = record { levels = c.self.inside.levels; front = c.self.inside.front; port = c.self.inside.port; next = c.self.inside.next } in
+    let is = subst (λ (w : LookView). IsGoing ds n now (now + 1) t s f w) (sym c.self.view_is) c.requires.going.going in
+    let planned : view.next.planned ≡ true = ap (λ (w : LookView). w.next.planned) c.self.view_is ∙ c.requires.planned in
+    let due : view.next.formed.p ≡ now = ap (λ (w : LookView). w.next.formed.p) c.self.view_is ∙ c.requires.due in
+    let becomes = c.planned_entries_become_levels.ensures ds n now t s f view c.requires.some c.requires.few
+    (AreDelays-list ds c.shape.ensures) (omega (arith, c.len-few.ensures.value, c.len-few.ensures.within)) c.requires.early is planned due in
+    let entry_is : c.prepare.new.self.entry ≡ view.next.entry = ap (λ (next : Next). next.entry) c.prepare.ensures.rest in
+    ap (λ (next : Next). next.words.bus) c.prepare.ensures.rest ∙ becomes.bus ∙ ap (bus_a ds view.front) (sym entry_is)
+
+pub fill-filled-requires-clause-tick : goal.fill-filled-requires-clause-tick
+fill-filled-requires-clause-tick g c =
+    let ds = c.args.delays.now in
+    let n = g.row.N in
+    let now = c.args.now in
+    let t = c.requires.going.table in
+    let s = c.args.state.now in
+    let f = c.requires.going.front in
+    let view : LookView = record { levels = c.self.inside.levels; front = c.self.inside.front; port = c.self.inside.port; next = c.self.inside.next } in
+    let is = subst (λ (w : LookView). IsGoing ds n now (now + 1) t s f w) (sym c.self.view_is) c.requires.going.going in
+    let planned : view.next.planned ≡ true = ap (λ (w : LookView). w.next.planned) c.self.view_is ∙ c.requires.planned in
+    let due : view.next.formed.p ≡ now = ap (λ (w : LookView). w.next.formed.p) c.self.view_is ∙ c.requires.due in
+    let becomes = c.planned_entries_become_levels.ensures ds n now t s f view c.requires.some c.requires.few
+    (AreDelays-list ds c.shape.ensures) (omega (arith, c.len-few.ensures.value, c.len-few.ensures.within)) c.requires.early is planned due in
+    let entry_is : c.prepare.new.self.entry ≡ view.next.entry = ap (λ (next : Next). next.entry) c.prepare.ensures.rest in
+    let formed_is : c.prepare.new.self.formed ≡ view.next.formed = ap (λ (next : Next). next.formed) c.prepare.ensures.rest in
+    ap (λ (x : Formed). x.p) formed_is ∙ becomes.tick ∙ ap (tick_p ds n view.front) (sym entry_is)
+
 pub returns-clause-prepared : goal.returns-clause-prepared
 returns-clause-prepared g c =
     let ds = c.args.delays.now in
@@ -67,8 +130,8 @@ returns-clause-prepared g c =
     let becomes = c.planned_entries_become_levels.ensures ds n now t s f view c.requires.some c.requires.few
     (AreDelays-list ds c.shape.ensures) (omega (arith, c.len-few.ensures.value, c.len-few.ensures.within)) c.requires.early is planned due in
     let entry_is : c.prepare.new.self.entry ≡ view.next.entry = ap (λ (next : Next). next.entry) c.prepare.ensures.rest in
-    ap (λ (x : Front). x.p) (passed ds n view.front view.next.entry c.prepare.new.self.entry c.pass.new.self c.fill-filled.result entry_is
-    (c.pass.ensures ds n) c.fill-filled.ensures.value c.fill-filled.ensures.bus) ∙ after-p ds n view.front view.next.entry ∙ sym becomes.tick ∙ due
+    ap (λ (x : Front). x.p) (c.pass.ensures ds n c.fill-filled.ensures.value c.fill-filled.ensures.bus
+    ∙ ap (after ds n view.front) entry_is) ∙ after-p ds n view.front view.next.entry ∙ sym becomes.tick ∙ due
 
 pub returns-clause-going : goal.returns-clause-going
 returns-clause-going g c = λ t f given.
@@ -93,17 +156,18 @@ returns-clause-going g c = λ t f given.
     let before = subst (λ (words : List ℕ). IsBefore now view.front.past words s u) (sym c.index.ensures) becomes.before in
     let plan_is : c.prepare.new.self.prepared ≡ plan u k =
     c.prepare.ensures.value ds n now view.front k u becomes.indicator before becomes.is_next (sym due) serial in
-    let row_is : filled.row ≡ row ds n view.front x = c.fill-filled.ensures.value in
+    let entry_is : c.prepare.new.self.entry ≡ x = ap (λ (next : Next). next.entry) c.prepare.ensures.rest in
+    let row_is : filled.row ≡ row ds n view.front x = c.fill-filled.ensures.value ∙ ap (row ds n view.front) entry_is in
     let p_is : filled.row.p ≡ now = ap (λ (r : Row). r.p) row_is ∙ row-p ds n view.front x ∙ sym becomes.tick ∙ due in
     let ready : (row ds n view.front x).p ≤ (row ds n view.front x).r = c.rows_are_in_order.ensures.ready ds n view.front x in
     let done : (row ds n view.front x).r < (row ds n view.front x).c = (c.rows_are_in_order.ensures.done ds n view.front x becomes.range).0 in
     let late : now < filled.row.c = omega (arith, ready, done, p_is, ap (λ (r : Row). r.p) row_is, ap (λ (r : Row). r.c) row_is) in
     let front : new.front ≡ after ds n view.front x =
-    passed ds n view.front x c.prepare.new.self.entry c.pass.new.self filled (ap (λ (next : Next). next.entry) c.prepare.ensures.rest) (c.pass.ensures ds n) c.fill-filled.ensures.value c.fill-filled.ensures.bus in
+    c.pass.ensures ds n c.fill-filled.ensures.value c.fill-filled.ensures.bus ∙ ap (after ds n view.front) entry_is in
     let tight = subst (λ (h : Front). IsTight 255 h) (sym front) (c.completions_are_bounded.ensures.tight 255 n ds view.front x are becomes.range is.tight) in
     let bound : new.front.c ≤ view.front.c + 16576 = omega (arith, ap (λ (h : Front). h.c) front, c.completions_are_bounded.ensures.bound 255 n ds view.front x are becomes.range is.tight) in
     let pushed = c.push.ensures.ahead ds n now 255 t s f view.front are is.machine is.indicator is.ahead becomes.run refl (sym p_is) plan_is
-    (row_is ∙ ap (row ds n view.front) same) (c.fill-filled.ensures.fills ∙ ap (fills ds n view.front) same) (λ alone. sym (serial alone)) in
+    (row_is ∙ ap (row ds n view.front) same) (c.fill-filled.ensures.fills ∙ ap (fills ds n view.front) (entry_is ∙ same)) (λ alone. sym (serial alone)) in
     let ahead = subst (λ (h : Front). AreAhead ds n now t s f h new.levels) (ap (after ds n view.front) (sym same) ∙ sym front) pushed in
     going-pushed ds n now t s f view new _ c.prepare.new.self.prepared is becomes planned due c.push.ensures.ring p_is
     (c.push.ensures.not_done now is.not_done late) ahead front tight bound plan_is

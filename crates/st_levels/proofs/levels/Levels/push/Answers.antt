@@ -2,11 +2,13 @@ use Rattle.std.proofs.Common.{◌<◌, ◌≡◌, ℕ, Option, List, [], ◌∷�
 use Rattle.std.proofs.lemmas.List.Elements.{All-push}
 use Rattle.st_prep.specs.EarlyChange.{words_after}
 use Rattle.st_prep.specs.Ranges.{IsPrepared}
+use Rattle.st_ring.specs.Levels.{prepared_at}
 use Rattle.st_ring.specs.declared.level.Level.{Level}
 use Rattle.st_segment.specs.Guesses.{guesses, table_behind}
 use Rattle.st_levels.specs.Levels.{LevelsView}
+use Rattle.st_levels.specs.Rotated.{planned}
 use Rattle.st_levels.specs.declared.plans.Plan.{Plan}
-use Rattle.st_levels.proofs.PushLemmas.{pushed_level, pushed_plan, pushed-level, push-ahead}
+use Rattle.st_levels.proofs.PushLemmas.{pushed_level, pushed-level, push-ahead}
 use Rattle.st_levels.proofs.levels.Levels.push.Goals as goal
 
 pub invariant_of-self : goal.invariant_of-self
@@ -32,13 +34,13 @@ returns-clause-ahead g c = λ ds n tick most t s f last are m some h free front 
     let state = c.args.state.now in
     let new : LevelsView = record { ring = c.push.new.self; plans = c.push-2.new.self; x = c.change.new.x } in
     let ring : new.ring ≡ v.ring ++ pushed_level p filled state ∷ [] = c.push.ensures.levels
-    ∙ ap₂ (λ (r : List Level) (have : List (Option ℕ)). r ++ (record { prepared = p; p = filled.row.p; r = filled.row.p; have = have }) ∷ [])
+    ∙ ap₂ (λ (r : List Level) (have : List (Option ℕ)). r ++ prepared_at p filled.row.p have ∷ [])
     (ap (λ (w : LevelsView). w.ring) c.self.view_is) c.registers.ensures in
-    let plans : new.plans ≡ v.plans ++ pushed_plan c.args.front.now filled ∷ [] = c.push-2.ensures.rows
-    ∙ ap (λ (w : LevelsView). w.plans ++ pushed_plan c.args.front.now filled ∷ []) c.self.view_is in
+    let plans : new.plans ≡ v.plans ++ planned c.args.front.now filled ∷ [] = c.push-2.ensures.rows
+    ∙ ap (λ (w : LevelsView). w.plans ++ planned c.args.front.now filled ∷ []) c.self.view_is in
     let x : new.x ≡ words_after v.x p.index = c.change.ensures
     ∙ ap (λ (w : LevelsView). words_after w.x p.index) c.self.view_is in
-    push-ahead ds n tick t s f last v new (pushed_level p filled state) (pushed_plan c.args.front.now filled) p m some h free form
+    push-ahead ds n tick t s f last v new (pushed_level p filled state) (planned c.args.front.now filled) p m some h free form
     (pushed-level ds n tick most i u state last p c.args.front.now filled are c.requires.prepared front form numbers ticks now alone)
     ring plans x
 

@@ -3,4 +3,4 @@ use Rattle.st_next.proofs.next.Next.plan.Goals as goal
 
 pub form-self-requires-clause-words : goal.form-self-requires-clause-words
 unfolding fetched
-form-self-requires-clause-words c = rw c.entry_of-self.ensures c.requires.words
+form-self-requires-clause-words c = rw c.show_entry.ensures c.requires.words

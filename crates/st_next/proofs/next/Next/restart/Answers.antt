@@ -12,7 +12,7 @@ returns-clause-reads c ds =
       place = c.args.place;
       own = c.default-self.result;
       target = c.default-self-2.result;
-      words = c.new-self.result;
+      words = c.restart.new.self;
       planned = false;
     } in
     new-reads ds c.args.front.now next (search rules) (search rules) (search rules)

@@ -18,8 +18,8 @@ returns-clause-levels g c = λ level at.
     let here : get_or q.slots ((q.head + k) % 8) level ≡ level =
     sym (window-get q.head q.slots c.self.invariant.inside eight q.len k level (omega arith) below)
     ∙ (ap (λ (s : List Level). get_or s k level) c.self.view_is ∙ get_or_from_slice_get c.args.self.now k level level at) in
-    window-set q.head q.slots c.self.invariant.inside eight q.len k c.filled.result (omega arith) below
-    ∙ (ap (λ (s : List Level). set s k c.filled.result) c.self.view_is
+    window-set q.head q.slots c.self.invariant.inside eight q.len k c.put_word.new.level (omega arith) below
+    ∙ (ap (λ (s : List Level). set s k c.put_word.new.level) c.self.view_is
     ∙ ap (λ (l : Level). set c.args.self.now k l)
-    (c.filled.ensures ∙ ap (λ (l : Level). filled l c.args.slot c.args.word c.args.tick)
+    (c.put_word.ensures ∙ ap (λ (l : Level). filled l c.args.slot c.args.word c.args.tick)
     (get_or_default q.slots ((q.head + k) % 8) _ level written ∙ here)))

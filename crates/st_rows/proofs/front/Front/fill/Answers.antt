@@ -1,9 +1,19 @@
-use Rattle.std.proofs.Common.{◌+◌, ◌-◌, ◌*◌, ◌^◌, refl, arith}
+use Rattle.std.proofs.Common.{◌≡◌, ℕ, ◌+◌, ◌-◌, ◌*◌, ◌^◌, List, refl, sym, subst, ap, ap₂, ◌∙◌, arith}
+use Rattle.st_rows.specs.BusTimes.{Reading}
 use Rattle.st_rows.specs.Ranges.{IsReadingWithin}
-use Rattle.st_rows.specs.Rows.{operands, tick_c, row, after}
+use Rattle.st_rows.specs.Rows.{reading_of, operands_read, bus_a, tick_p, operands, tick_c, row, after}
+use Rattle.st_rows.specs.declared.bus.Bus.{Bus}
+use Rattle.st_rows.specs.declared.entry.Entry.{Entry}
+use Rattle.st_rows.specs.declared.front.Front.{Front}
 use Rattle.st_rows.proofs.Within.{AreDelays-list, bus-weaker}
 use Rattle.st_rows.proofs.Stages.{bus_a-within, p-within, operands_of-within}
 use Rattle.st_rows.proofs.front.Front.fill.Goals as goal
+
+-- what is read behind the index-side word from preparation on are the operands
+all-read : (ds : List ℕ) (n : ℕ) (f : Front) (e : Entry) (s : Reading) (b : Bus) (p : ℕ) → s ≡ operands_read ds f.past b e.reads p → b ≡ bus_a ds f e
+    → p ≡ tick_p ds n f e → s ≡ operands ds n f e
+unfolding operands
+all-read ds n f e s b p is bus tick = is ∙ ap₂ (λ (x : Bus) (y : ℕ). operands_read ds f.past x e.reads y) bus tick
 
 pub read_operands-fills-requires-clause-room : goal.read_operands-fills-requires-clause-room
 read_operands-fills-requires-clause-room c =
@@ -20,20 +30,22 @@ read_operands-fills-requires-clause-early c =
     (omega (arith, p-within 255 c.args.delays.now are c.args.self.now c.args.entry.now c.requires.entry c.requires.tight c.args.levels))
 
 pub overflow_add-c : goal.overflow_add-c
-unfolding operands
 overflow_add-c c =
+    let reads = all-read c.args.delays.now c.args.levels c.args.self.now c.args.entry.now (reading_of c.read_operands-fills.new.operands)
+    c.args.words.now.bus c.args.formed.p c.read_operands-fills.ensures.value c.requires.bus c.requires.tick in
     let are = AreDelays-list c.args.delays.now c.shape.ensures in
-    let read : IsReadingWithin (c.args.self.now.c + 40 * 255 + 41) c.read_operands-fills.new.operands =
-    rw (c.read_operands-fills.ensures.value, c.requires.bus, c.requires.tick)
+    let read : IsReadingWithin (c.args.self.now.c + 40 * 255 + 41) (reading_of c.read_operands-fills.new.operands) =
+    subst (λ (s : Reading). IsReadingWithin (c.args.self.now.c + 40 * 255 + 41) s) (sym reads)
     (operands_of-within 255 c.args.delays.now are c.args.self.now c.args.entry.now c.requires.entry c.requires.tight c.args.levels) in
     omega (arith, read.answered)
 
 pub follow-requires-clause-room : goal.follow-requires-clause-room
-unfolding operands
 follow-requires-clause-room c =
+    let reads = all-read c.args.delays.now c.args.levels c.args.self.now c.args.entry.now (reading_of c.read_operands-fills.new.operands)
+    c.args.words.now.bus c.args.formed.p c.read_operands-fills.ensures.value c.requires.bus c.requires.tick in
     let f = c.args.self.now in
     let are = AreDelays-list c.args.delays.now c.shape.ensures in
-    rw (c.read_operands-fills.ensures.value, c.requires.bus, c.requires.tick)
+    rw (ap (λ (s : Reading). s.bus) reads)
     (bus-weaker (f.c + 40 * 255 + 41) (2 ^ 64 - 1024) _ (omega arith)
     (operands_of-within 255 c.args.delays.now are f c.args.entry.now c.requires.entry c.requires.tight c.args.levels).bus)
 
@@ -46,9 +58,13 @@ follow-requires-clause-early c =
 pub returns-clause-value : goal.returns-clause-value
 unfolding row operands tick_c
 returns-clause-value c =
-    rw (c.max.ensures, c.from.ensures, c.read_operands-fills.ensures.value, c.requires.bus, c.requires.tick, c.requires.address)
-    refl
+    let reads = all-read c.args.delays.now c.args.levels c.args.self.now c.args.entry.now (reading_of c.read_operands-fills.new.operands)
+    c.args.words.now.bus c.args.formed.p c.read_operands-fills.ensures.value c.requires.bus c.requires.tick in
+    rw (c.max.ensures, c.from.ensures, ap (λ (s : Reading). s.answered) reads, c.requires.tick, c.requires.address) refl
 
 pub returns-clause-bus : goal.returns-clause-bus
-unfolding after operands
-returns-clause-bus c = rw (c.follow.ensures, c.read_operands-fills.ensures.value, c.requires.bus, c.requires.tick) refl
+unfolding after
+returns-clause-bus c =
+    let reads = all-read c.args.delays.now c.args.levels c.args.self.now c.args.entry.now (reading_of c.read_operands-fills.new.operands)
+    c.args.words.now.bus c.args.formed.p c.read_operands-fills.ensures.value c.requires.bus c.requires.tick in
+    rw (c.follow.ensures, ap (λ (s : Reading). s.bus) reads, c.requires.tick) refl

@@ -25,10 +25,10 @@ prepared_at-p-requires-clause-side c =
     let f = c.args.self.now in
     let m = f.c + 1792 in
     let are = AreDelays-list c.args.delays.now c.shape.ensures in
-    let room : IsBusWithin m c.args.words.bus = rw c.requires.words
+    let room : IsBusWithin m c.args.words.now.bus = rw c.requires.words
     (bus-weaker (f.c + 7 * 255 + 6) m _ (omega arith)
     (fetched-within 255 c.args.delays.now are f c.args.entry.now c.requires.entry c.requires.tight).bus) in
-    let late = side-within 255 c.args.delays.now are f.past c.args.words.bus c.args.entry.now.side c.address-a.result m
+    let late = side-within 255 c.args.delays.now are f.past c.args.words.now.bus c.args.entry.now.side c.address-a.result m
     (past-weaker f.c m f.past (omega arith) c.requires.tight.done) room c.address-a.ensures.bound in
     rw c.side-y.ensures.value (omega arith)
 

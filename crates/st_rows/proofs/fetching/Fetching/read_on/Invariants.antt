@@ -1,14 +1,15 @@
 use Rattle.std.proofs.Common.{◌≡◌, ◌+◌, ◌-◌, ◌*◌, ◌^◌, ◌≤◌}
 use Rattle.st_bits.specs.Storage.{words_of_storage}
 use Rattle.st_rows.specs.Ranges.{IsReadingWithin}
-use Rattle.st_rows.specs.Rows.{read_words}
-use Rattle.st_rows.proofs.reading.Reading.words.Given as goal
+use Rattle.st_rows.specs.Rows.{reading_of, read_words}
+use Rattle.st_rows.proofs.fetching.Fetching.read_on.Given as goal
 
 -- the words that are left make of it what all words make of what it was; there is time left for each
 abbrev pub invariant-words : goal.invariant-words
 invariant-words l = record {
-  value : read_words l.delays l.past l.self l.p l.w l.left ≡ read_words l.delays l.past l.initial.self l.p l.fn.run.first l.fn.run.len;
-  room : IsReadingWithin (2 ^ 64 - 512 - 256 * l.left) l.self;
+  value : read_words l.delays l.past (reading_of l.self) l.p l.w l.left
+      ≡ read_words l.delays l.past (reading_of l.initial.self) l.p l.fn.run.first l.fn.run.len;
+  room : IsReadingWithin (2 ^ 64 - 512 - 256 * l.left) (reading_of l.self);
   few : l.left ≤ 16;
   inside : 1 ≤ l.left → l.w + l.left ≤ words_of_storage;
 }

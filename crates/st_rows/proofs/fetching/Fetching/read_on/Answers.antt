@@ -1,8 +1,11 @@
-use Rattle.std.proofs.Common.{◌+◌, ◌-◌, ◌*◌, ◌^◌, ◌∙◌, arith}
+use Rattle.std.proofs.Common.{◌+◌, ◌-◌, ◌*◌, ◌^◌, ◌∙◌, sym, subst, arith}
 use Rattle.st_bits.specs.Storage.{words_of_storage_is}
+use Rattle.st_rows.specs.BusTimes.{Reading}
+use Rattle.st_rows.specs.Ranges.{IsReadingWithin}
+use Rattle.st_rows.specs.Rows.{reading_of}
 use Rattle.st_rows.proofs.Turns.{read-turn}
 use Rattle.st_rows.proofs.Within.{AreDelays-list, past-weaker, reading-weaker, read_word-within}
-use Rattle.st_rows.proofs.reading.Reading.words.Goals as goal
+use Rattle.st_rows.proofs.fetching.Fetching.read_on.Goals as goal
 
 pub overflow_add-w : goal.overflow_add-w
 overflow_add-w c = omega (arith, words_of_storage_is, c.words.invariant.inside (omega arith))
@@ -13,9 +16,12 @@ words-preserved c =
     let are = AreDelays-list c.args.delays.now c.shape.ensures in
     let before = past-weaker (2 ^ 64 - 2 ^ 16) m c.args.past.now (omega (arith, c.words.invariant.few)) c.requires.before in
     record {
-      value = read-turn c.args.delays.now c.args.past.now c.words.w c.args.p c.words.self c.word.new.self c.words.left c.word.ensures.after (omega arith)
+      value = read-turn c.args.delays.now c.args.past.now c.words.w c.args.p (reading_of c.words.self) (reading_of c.read.new.self) c.words.left
+          c.read.ensures.after (omega arith)
           ∙ c.words.invariant.value;
-      room = reading-weaker (m + 256) _ c.word.new.self (omega arith) (rw c.word.ensures.after (read_word-within 255 c.args.delays.now are c.args.past.now c.words.self c.words.w c.args.p m c.words.invariant.room (omega arith)));
+      room = reading-weaker (m + 256) _ (reading_of c.read.new.self) (omega arith)
+          (subst (λ (s : Reading). IsReadingWithin (m + 256) s) (sym c.read.ensures.after)
+          (read_word-within 255 c.args.delays.now are c.args.past.now (reading_of c.words.self) c.words.w c.args.p m c.words.invariant.room (omega arith)));
       few = omega (arith, c.words.invariant.few);
       inside = λ some. omega (arith, c.words.invariant.inside (omega arith));
     }
