@@ -14,7 +14,7 @@ use st_banks::Delays;
 use st_next::{Next, Outlook};
 use st_port::Port;
 use st_prep::{Place, Prepared};
-use st_rows::{Bus, Entry, Past, completions_are_bounded, rows_are_in_order};
+use st_rows::{Bus, Entry, LastEntries, completions_are_bounded, rows_are_in_order};
 use st_segment::guesses_leave_the_rest;
 use st_state::State;
 
@@ -154,7 +154,7 @@ impl<const N: usize> Look<N> {
 
 // Asks for the operands and the following words of an entry that is prepared at the tick `now`, where no read is left to be made;
 // `bus` is the one after its index-side word.
-fn ask_data(port: &mut Port, past: &[Past; 8], entry: &Entry, bus: &Bus, now: u64)
+fn ask_data(port: &mut Port, past: &LastEntries, entry: &Entry, bus: &Bus, now: u64)
     requires entry { IsEntry entry.now }
     requires made { port.old.reads ≡ [] }
     ensures reads { (ds : List ℕ) → port.new.reads ≡ port.old.reads

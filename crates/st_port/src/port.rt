@@ -10,7 +10,7 @@ ghost use Rattle.st_port.specs.Parts.{runs_asked};
 
 use st_banks::{Delays, LastAnswers};
 use st_fetch::{HeldWords, Want, Wants};
-use st_rows::{Bus, Entry, Past, Run, Runs, latest_done};
+use st_rows::{Bus, Entry, LastEntries, Run, Runs};
 use std::marker::Model;
 
 // The number of words of storage.
@@ -103,7 +103,7 @@ impl Port {
     /// Asks for the index-side word of an entry, if there is one, whose address is formed at `a`, unless an earlier entry writes it that
     /// is done later.
     #[tactic(auto, unfolding(st_rows::specs::Asked::side_asked))]
-    pub fn ask_side(&mut self, past: &[Past; 8], side: Option<u32>, a: u64)
+    pub fn ask_side(&mut self, past: &LastEntries, side: Option<u32>, a: u64)
         requires { length self.old.reads + side_count side ≤ 40 }
         ensures reads { self.new.reads ≡ self.old.reads ++ side_asked past.now side a }
         ensures bus { self.new.bus ≡ self.old.bus }
@@ -114,7 +114,7 @@ impl Port {
     }
 
     /// Asks for the operand words of an entry that is prepared at `p`, except those that an earlier entry writes that is done later.
-    pub fn ask_operands(&mut self, past: &[Past; 8], reads: Runs, p: u64)
+    pub fn ask_operands(&mut self, past: &LastEntries, reads: Runs, p: u64)
         requires one { IsReadable reads.one }
         requires two { IsReadable reads.two }
         requires room { length self.old.reads + reads.one.len + reads.two.len ≤ 40 }
@@ -181,20 +181,20 @@ impl Port {
     }
 
     // Asks for a word that is no instruction word, unless an earlier entry writes it that is done later.
-    fn ask_data(&mut self, past: &[Past; 8], w: u32, tick: u64)
+    fn ask_data(&mut self, past: &LastEntries, w: u32, tick: u64)
         requires { length self.old.reads < 40 }
         ensures reads { self.new.reads ≡ self.old.reads ++ data_asked past.now w tick }
         ensures bus { self.new.bus ≡ self.old.bus }
         ensures few { length self.new.reads ≤ length self.old.reads + 1 }
     {
-        if latest_done(past, w) <= tick {
+        if past.latest_done(w) <= tick {
             self.ask(w, tick, false);
         }
     }
 
     // Asks for the operand words of a run.
     #[tactic(auto, unfolding(st_rows::specs::Asked::operands_asked))]
-    fn ask_run(&mut self, past: &[Past; 8], run: Run, p: u64)
+    fn ask_run(&mut self, past: &LastEntries, run: Run, p: u64)
         requires words { IsReadable run }
         requires room { length self.old.reads + run.len ≤ 40 }
         ensures reads { self.new.reads ≡

@@ -5,7 +5,7 @@ ghost use Rattle.st_port.specs.Making.{AreFrom};
 use super::*;
 use st_banks::{Delays, LastAnswers};
 use st_fetch::Fetched;
-use st_rows::{Entry, Past, Run, Runs};
+use st_rows::{Entry, LastEntries, Past, Run, Runs};
 use std::alloc::{AllocError, Global};
 use std::test::Fail;
 
@@ -55,9 +55,11 @@ fn one_read_is_made_a_tick(rt: HostRuntime) -> Result<(), Fail> {
 // words 34 and 35, of which 34 is held.
 #[test]
 fn forwarded_and_held_words_are_not_asked_for(rt: HostRuntime) -> Result<(), Fail> {
-    let mut past = [Past::default(); 8];
-    past[0].c = 16;
-    past[0].writes.two = Run { first: 101, len: 1 };
+    let mut writer = Past::default();
+    writer.c = 16;
+    writer.writes.two = Run { first: 101, len: 1 };
+    let mut past = LastEntries::new();
+    past.put(writer);
     let mut entry = Entry::default();
     entry.own = Run { first: 33, len: 1 };
     entry.reads.one = Run { first: 100, len: 2 };

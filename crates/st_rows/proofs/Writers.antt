@@ -1,31 +1,115 @@
--- The latest writer of a word, looked for from the newest entry on.
-use Rattle.std.specs.Prelude.{◌&&◌, nat_le, nat_lt}
-use Rattle.std.proofs.Common.{◌≡◌, ℕ, ◌+◌, ◌<◌, ◌≤◌, true, false, List, length, get_or, drop, refl, add-one, drop-cons, arith}
+-- The entries that write any word, and the latest writer of a word.
+use Rattle.std.specs.Prelude.{ℕ, zero, suc, Bool, ◌&&◌, ◌||◌, nat_le, nat_lt, if◌then◌else◌, List, [], ◌∷◌, get_or}
+use Rattle.std.specs.Int.{bit_at, bit_not, trailing_zeros, w64}
+use Rattle.std.proofs.Common.{◌≡◌, ◌+◌, ◌*◌, ◌/◌, ◌%◌, ◌^◌, bit_and, ◌<◌, ◌≤◌, true, false, inl, inr, length, refl, ap, sym, ◌∙◌, arith}
+use Rattle.std.proofs.lemmas.Bool.{cases_eq}
 use Rattle.std.proofs.lemmas.Bool.Decides.{nat_tests}
-use Rattle.std.proofs.lemmas.List.{drop_all}
-use Rattle.st_rows.specs.Entries.{is_in, is_among, latest_done}
+use Rattle.std.proofs.lemmas.Nat.Bits.{bit_at_lowest, bit_at-suc, bit_at-zero, bit_at-trailing_zeros, bit_at_clear_same, bit_at_clear_other, bit_at_and}
+use Rattle.std.proofs.lemmas.Nat.{and_le_l}
+use Rattle.st_rows.specs.Entries.{is_in, is_among, no_words, has_words, writer_bits, latest_done}
 use Rattle.st_rows.specs.declared.entry.Runs.{Runs}
 use Rattle.st_rows.specs.declared.past.Past.{Past}
 
-module _ (past : List Past) (w i : ℕ) (d : Past) where
-  -- the entry at the place i writes the word, or the search goes on behind it
-  pub latest-here : i < length past → true ≡ is_among w (get_or past i d).writes → (get_or past i d).c ≡ latest_done (drop i past) w
-  unfolding latest_done
-  latest-here inside writes = rw (drop-cons past i d, ← writes) refl
+-- the entry at a place, one without words behind the last one
+abbrev pub nth : List Past → ℕ → Past
+nth past i = get_or past i (record { c = 0; writes = no_words })
 
-  pub latest-behind : i < length past → false ≡ is_among w (get_or past i d).writes → latest_done (drop (i + 1) past) w ≡ latest_done (drop i past) w
-  unfolding latest_done
-  latest-behind inside writes = rw (drop-cons past i d, add-one, ← writes) refl
+-- a number that a bit is put behind
+lowest-bit : (m : ℕ) (b : Bool) → (2 * m + (if b then 1 else 0)) % 2 ≡ (if b then 1 else 0)
+lowest-bit m true = omega arith
+lowest-bit m false = omega arith
 
--- behind the last entry there is none
-pub latest-none : (past : List Past) (w i : ℕ) → length past ≤ i → latest_done (drop i past) w ≡ 0
-unfolding latest_done
-latest-none past w i end = rw (drop_all i past end) refl
+bits-above : (m : ℕ) (b : Bool) → (2 * m + (if b then 1 else 0)) / 2 ≡ m
+bits-above m true = omega arith
+bits-above m false = omega arith
+
+-- each bit says whether its entry writes any word
+pub writer-bit : (past : List Past) (i : ℕ) → bit_at (writer_bits past) i ≡ (if has_words (nth past i).writes then 1 else 0)
+unfolding writer_bits
+writer-bit [] i = bit_at-zero i
+writer-bit (entry ∷ past) zero = bit_at_lowest _ ∙ lowest-bit (writer_bits past) (has_words entry.writes)
+writer-bit (entry ∷ past) (suc i) =
+    bit_at-suc _ i ∙ ap (λ m. bit_at m i) (bits-above (writer_bits past) (has_words entry.writes)) ∙ writer-bit past i
 
 -- runs without words have none
-none-in : (w first len : ℕ) → len ≡ 0 → (nat_le first w && nat_lt w (first + len)) ≡ false
-none-in w first len none = grind (arith, nat_tests)
+none-in : (w a k b l : ℕ) → (nat_lt 0 k || nat_lt 0 l) ≡ false
+    → ((nat_le a w && nat_lt w (a + k)) || (nat_le b w && nat_lt w (b + l))) ≡ false
+none-in w a k b l none = grind (arith, nat_tests)
 
-pub none-among : (w : ℕ) (runs : Runs) → runs.one.len ≡ 0 → runs.two.len ≡ 0 → false ≡ is_among w runs
+-- a bit that is 0
+no-bit : (b : Bool) (bit : ℕ) → bit ≡ (if b then 1 else 0) → bit ≡ 0 → b ≡ false
+no-bit true bit is none = absurd (omega arith)
+no-bit false bit is none = refl
+
+-- an entry whose bit is 0 writes no word
+pub silent : (past : List Past) (w i : ℕ) → bit_at (writer_bits past) i ≡ 0 → is_among w (nth past i).writes ≡ false
 unfolding is_among is_in
-none-among w runs one two = rw (none-in w runs.one.first runs.one.len one, none-in w runs.two.first runs.two.len two) refl
+silent past w i zero_bit =
+    let runs = (nth past i).writes in
+    none-in w runs.one.first runs.one.len runs.two.first runs.two.len (no-bit (has_words runs) _ (writer-bit past i) zero_bit)
+
+-- each bit that is 1 has an entry
+writer-inside : (past : List Past) (i : ℕ) → bit_at (writer_bits past) i ≡ 1 → i < length past
+unfolding writer_bits
+writer-inside [] i is = absurd (let none : bit_at 0 i ≡ 0 = bit_at-zero i in omega arith)
+writer-inside (entry ∷ past) zero is = omega arith
+writer-inside (entry ∷ past) (suc i) is =
+    let inside = writer-inside past i (sym (ap (λ m. bit_at m i) (bits-above (writer_bits past) (has_words entry.writes))) ∙ (sym (bit_at-suc _ i) ∙ is)) in
+    omega arith
+
+-- the entries whose bits are left are still to be looked at, and no other one writes the word
+pub record IsLeft (past : List Past) (w left : ℕ) : Type 0 where
+  pub inside : (i : ℕ) → bit_at left i ≡ 1 → i < length past
+  pub others : (i : ℕ) → i < length past → bit_at left i ≡ 0 → is_among w (nth past i).writes ≡ false
+
+pub all-left : (past : List Past) (w : ℕ) → IsLeft past w (writer_bits past)
+all-left past w = record { inside = writer-inside past; others = λ i inside. silent past w i }
+
+-- where no entry writes the word
+latest-none : (past : List Past) (w : ℕ) → ((i : ℕ) → i < length past → is_among w (nth past i).writes ≡ false) → latest_done past w ≡ 0
+unfolding latest_done
+latest-none [] w none = refl
+latest-none (entry ∷ past) w none = rw (none 0 (omega arith)) (latest-none past w (λ i inside. none (suc i) (omega arith)))
+
+-- where an entry writes it, and no newer one does
+latest-here : (past : List Past) (w i : ℕ) → true ≡ is_among w (nth past i).writes
+    → ((j : ℕ) → j < i → is_among w (nth past j).writes ≡ false) → (nth past i).c ≡ latest_done past w
+unfolding latest_done
+latest-here [] w i here none = refl
+latest-here (entry ∷ past) w zero here none = rw (← here) refl
+latest-here (entry ∷ past) w (suc i) here none = rw (none 0 (omega arith)) (latest-here past w i here (λ j less. none (suc j) (omega arith)))
+
+-- no entry is left
+pub none-left : (past : List Past) (w left : ℕ) → left ≡ 0 → IsLeft past w left → 0 ≡ latest_done past w
+none-left past w left none is =
+    sym (latest-none past w (λ i inside. is.others i inside (ap (λ m. bit_at m i) none ∙ bit_at-zero i)))
+
+-- a smaller number, by a bit
+less-by : (a b i : ℕ) → a ≤ b → bit_at a i ≡ 0 → bit_at b i ≡ 1 → a < b
+less-by a b i least none one = grind (arith)
+
+module _ (past : List Past) (w left : ℕ) (some : 0 < left) (fits : left < 2 ^ 64) (is : IsLeft past w left) where
+  pub newest-inside : trailing_zeros w64 left < length past
+  newest-inside = is.inside _ (bit_at-trailing_zeros w64 left some fits).1
+
+  pub newest-writes : true ≡ is_among w (nth past (trailing_zeros w64 left)).writes → (nth past (trailing_zeros w64 left)).c ≡ latest_done past w
+  newest-writes here =
+      latest-here past w _ here (λ j less. is.others j (omega (arith, newest-inside)) ((bit_at-trailing_zeros w64 left some fits).2 j less))
+
+  pub fewer-left : bit_and left (bit_not w64 (1 * 2 ^ trailing_zeros w64 left % 2 ^ 64)) < left
+  fewer-left =
+      let lowest = bit_at-trailing_zeros w64 left some fits in
+      less-by _ left (trailing_zeros w64 left) (and_le_l left _) (bit_at_clear_same w64 left (trailing_zeros w64 left) lowest.0) lowest.1
+
+  pub next-left : length past ≤ 64 → false ≡ is_among w (nth past (trailing_zeros w64 left)).writes
+      → IsLeft past w (bit_and left (bit_not w64 (1 * 2 ^ trailing_zeros w64 left % 2 ^ 64)))
+  next-left few writes =
+      let at = trailing_zeros w64 left in
+      let lowest = bit_at-trailing_zeros w64 left some fits in
+      record {
+        inside = λ i one. is.inside i (omega (arith, bit_at_and left (bit_not w64 (1 * 2 ^ at % 2 ^ 64)) i));
+        others = λ i inside none. elim (cases_eq i at) [
+          | inl same ↦ rw same (sym writes)
+          | inr other ↦ is.others i inside (sym (bit_at_clear_other w64 left at lowest.0 i (omega arith) other) ∙ none)
+        ];
+      }

@@ -1,5 +1,5 @@
 -- Which words are in a run, and when the entry is done that wrote a word last.
-use Rattle.std.specs.Prelude.{ℕ, ◌+◌, Bool, ◌&&◌, ◌||◌, nat_lt, nat_le, if◌then◌else◌, List, [], ◌∷◌}
+use Rattle.std.specs.Prelude.{ℕ, ◌+◌, ◌*◌, Bool, ◌&&◌, ◌||◌, nat_lt, nat_le, if◌then◌else◌, List, [], ◌∷◌}
 use Rattle.st_rows.specs.declared.entry.Run.{Run}
 use Rattle.st_rows.specs.declared.entry.Runs.{Runs}
 use Rattle.st_rows.specs.declared.past.Past.{Past}
@@ -15,6 +15,15 @@ is_among w runs = is_in w runs.one || is_in w runs.two
 -- no words
 abbrev pub no_words : Runs
 no_words = record { one = record { first = 0; len = 0 }; two = record { first = 0; len = 0 } }
+
+-- whether there is any word in two runs
+abbrev pub has_words : Runs → Bool
+has_words runs = nat_lt 0 runs.one.len || nat_lt 0 runs.two.len
+
+-- a bit for each entry, the lowest one for the newest: whether it writes any word
+unfoldable pub writer_bits : List Past → ℕ
+writer_bits [] = 0
+writer_bits (entry ∷ past) = 2 * writer_bits past + (if has_words entry.writes then 1 else 0)
 
 -- the tick at which the latest of the entries is done that writes the word w, 0 where none does; they stand newest first
 unfoldable pub latest_done : List Past → ℕ → ℕ

@@ -1,6 +1,6 @@
 //! Entries as the timetable sees them.
 ghost use Rattle.std.specs.Prelude.{◌≡◌};
-ghost use Rattle.st_rows.specs.Entries.{is_in, is_among};
+ghost use Rattle.st_rows.specs.Entries.{is_in, is_among, has_words};
 
 /// A run of words.
 #[derive(Clone, Copy, Debug, Default, PartialEq, Eq)]
@@ -58,9 +58,13 @@ impl Runs {
     pub fn has(self, w: u32) -> bool
         ensures { result ≡ is_among w self }
     {
-        if self.one.len == 0 && self.two.len == 0 {
-            return false;
-        }
         self.one.has(w) || self.two.has(w)
+    }
+
+    /// Whether there is any word in the runs.
+    pub fn any(self) -> bool
+        ensures { result ≡ has_words self }
+    {
+        self.one.len > 0 || self.two.len > 0
     }
 }

@@ -5,7 +5,7 @@ ghost use Rattle.st_rows.specs.Ranges.{IsFetchingWithin, ArePastWithin, IsReadab
 
 use crate::bus::Bus;
 use crate::entry::Run;
-use crate::past::{Past, latest_done};
+use crate::past::LastEntries;
 use st_banks::Delays;
 
 /// How far the words of an entry are read: its instruction words, and behind them the others.
@@ -43,7 +43,7 @@ impl Fetching {
 
     /// Fetches the next instruction word, which is wanted from `from` on.
     #[tactic(auto, unfolding(crate::specs::Rows::fetch_word))]
-    pub fn word(&mut self, delays: &Delays, past: &[Past; 8], w: u32, from: u64)
+    pub fn word(&mut self, delays: &Delays, past: &LastEntries, w: u32, from: u64)
         requires room { IsFetchingWithin (2 ^ 64 - 512) self.old }
         requires before { ArePastWithin (2 ^ 64 - 512) past.now }
         requires early { from ≤ 2 ^ 64 - 512 }
@@ -52,12 +52,12 @@ impl Fetching {
         let want = from.max(self.answered).max(self.awaited);
         let answer = self.bus.request(delays, w, want);
         self.answered = self.answered.max(answer);
-        self.awaited = self.awaited.max(latest_done(past, w));
+        self.awaited = self.awaited.max(past.latest_done(w));
     }
 
     /// Fetches the next instruction words.
     #[tactic(auto, unfolding(crate::specs::Rows::fetch_words))]
-    pub fn words(&mut self, delays: &Delays, past: &[Past; 8], run: Run, from: u64)
+    pub fn words(&mut self, delays: &Delays, past: &LastEntries, run: Run, from: u64)
         requires room { IsFetchingWithin (2 ^ 64 - 2 ^ 16) self.old }
         requires before { ArePastWithin (2 ^ 64 - 2 ^ 16) past.now }
         requires early { from ≤ 2 ^ 64 - 2 ^ 16 }

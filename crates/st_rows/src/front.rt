@@ -8,7 +8,7 @@ ghost use Rattle.st_rows.specs.Ranges.{IsEntry, IsTight, IsBusWithin, IsFetching
 use crate::bus::Bus;
 use crate::entry::{Entry, Run};
 use crate::fetching::Fetching;
-use crate::past::{Past, latest_done, put_newest};
+use crate::past::{LastEntries, Past};
 use st_banks::{Delays, LastAnswers};
 
 // The number of words of storage.
@@ -39,7 +39,7 @@ pub struct Front {
     /// Whether the last entry is done alone.
     pub serial: bool,
     /// The last eight entries of the segment, the newest one first.
-    pub past: [Past; 8],
+    pub past: LastEntries,
 }
 
 /// An entry whose address is formed.
@@ -72,7 +72,7 @@ impl Front {
             p: start,
             c: start,
             serial: false,
-            past: [Past::default(); 8],
+            past: LastEntries::new(),
         }
     }
 
@@ -251,20 +251,17 @@ impl Front {
         self.p = row.p;
         self.c = row.c;
         self.serial = entry.serial;
-        put_newest(
-            &mut self.past,
-            Past {
-                c: row.c,
-                writes: entry.writes,
-            },
-        );
+        self.past.put(Past {
+            c: row.c,
+            writes: entry.writes,
+        });
     }
 }
 
 // Reads the index-side word, if there is one, of an entry whose address is formed at `a`, unless an earlier entry writes it that
 // is done later. The result is the tick at which it is there, 0 where there is none.
 #[tactic(auto, unfolding(crate::specs::Rows::bus_sided, crate::specs::Rows::side_there))]
-fn side(bus: &mut Bus, delays: &Delays, past: &[Past; 8], word: Option<u32>, a: u64) -> u64
+fn side(bus: &mut Bus, delays: &Delays, past: &LastEntries, word: Option<u32>, a: u64) -> u64
     requires room { IsBusWithin (2 ^ 64 - 512) bus.old }
     requires early { a ≤ 2 ^ 64 - 512 }
     ensures value { result ≡ side_there delays.now past.now bus.old word a }
@@ -273,7 +270,7 @@ fn side(bus: &mut Bus, delays: &Delays, past: &[Past; 8], word: Option<u32>, a: 
     let Some(w) = word else {
         return 0;
     };
-    let done = latest_done(past, w);
+    let done = past.latest_done(w);
     if done > a {
         return done;
     }
@@ -282,7 +279,7 @@ fn side(bus: &mut Bus, delays: &Delays, past: &[Past; 8], word: Option<u32>, a: 
 
 // The tick at which an entry is prepared.
 #[tactic(auto, unfolding(crate::specs::Rows::prepared))]
-fn prepared_at(levels: usize, past: &[Past; 8], a: u64, y: u64) -> u64
+fn prepared_at(levels: usize, past: &LastEntries, a: u64, y: u64) -> u64
     requires some { 1 ≤ levels }
     requires most { levels ≤ 8 }
     requires before { ArePastWithin (2 ^ 64 - 512) past.now }
@@ -290,7 +287,7 @@ fn prepared_at(levels: usize, past: &[Past; 8], a: u64, y: u64) -> u64
     requires side { y ≤ 2 ^ 64 - 512 }
     ensures { result ≡ prepared_of levels past.now a y }
 {
-    a.max(y).max(past[levels - 1].c) + 1
+    a.max(y).max(past.done_before(levels)) + 1
 }
 
 // The operand words are read of an entry that is prepared at `p`. The result says when the first two of its first run are there, 0 where
@@ -299,7 +296,7 @@ fn prepared_at(levels: usize, past: &[Past; 8], a: u64, y: u64) -> u64
 fn read_operands(
     operands: &mut Fetching,
     delays: &Delays,
-    past: &[Past; 8],
+    past: &LastEntries,
     entry: &Entry,
     p: u64,
 ) -> [u64; 2]
@@ -322,7 +319,7 @@ fn read_operands(
 fn read_run(
     operands: &mut Fetching,
     delays: &Delays,
-    past: &[Past; 8],
+    past: &LastEntries,
     run: Run,
     p: u64,
 ) -> [u64; 2]

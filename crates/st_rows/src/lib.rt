@@ -20,7 +20,7 @@ pub use laws::{
     operands_are_there_before_completion, reads_are_no_later, reads_come_in_order,
     rows_are_in_order, rows_make_their_reads,
 };
-pub use past::{Past, latest_done};
+pub use past::{LastEntries, Past};
 
 #[cfg(test)]
 mod tests;

@@ -1,8 +1,10 @@
 //! What is kept of the entries before.
-ghost use Rattle.std.specs.Prelude.{◌≡◌, ◌∷◌, take};
-ghost use Rattle.st_rows.specs.Entries.{latest_done as latest_done_of};
+ghost use Rattle.std.specs.Prelude.{◌≡◌, ◌∷◌, ◌-◌, ◌<◌, ◌≤◌, take, replicate};
+ghost use Rattle.st_rows.specs.Entries.{no_words, latest_done as latest_done_of};
+ghost use Rattle.st_rows.specs.Rows.{done_before as done_before_of};
 
 use crate::entry::Runs;
+use std::marker::Model;
 
 /// What is kept of an earlier entry of the segment.
 #[derive(Clone, Copy, Debug, Default, PartialEq, Eq)]
@@ -13,20 +15,100 @@ pub struct Past {
     pub writes: Runs,
 }
 
-/// The tick at which the latest of these entries is done that writes the word `w`, 0 where none does.
-pub fn latest_done(past: &[Past; 8], w: u32) -> u64
-    ensures { result ≡ latest_done_of past.now w }
-{
-    for entry in past {
-        if entry.writes.has(w) {
-            return entry.c;
+/// The last eight entries of the segment. Contracts see their list, the newest one first.
+#[derive(Clone, Copy, Debug, PartialEq, Eq)]
+pub struct LastEntries {
+    entries: [Past; 8],
+    // A bit for each entry, the lowest one for the newest: whether it writes any word.
+    writers: u64,
+}
+
+// Clauses see the entries, the newest one first.
+impl Model for LastEntries {
+    ghost use Rattle.std.specs.Prelude.{◌≡◌, List};
+    ghost use Rattle.std.proofs.Common.{ap, sym};
+    ghost use Rattle.st_rows.specs.Entries.{writer_bits};
+    ghost use Rattle.st_rows.specs.declared.past.Past.{Past as Entry};
+
+    ghost Value = { List Entry };
+
+    ghost view = { λ last. last.entries };
+
+    ghost invariant = { λ last. last.writers ≡ writer_bits last.entries };
+
+    ghost inverse = { λ entries. record { entries = entries; writers = writer_bits entries } };
+
+    ghost inverse_ok = { λ last h.
+        ap (λ w. record { entries = last.entries; writers = w }) (sym h) };
+}
+
+impl Default for LastEntries {
+    ghost is_default = { λ last. last ≡ replicate 8 (record { c = 0; writes = no_words }) };
+
+    fn default() -> LastEntries {
+        LastEntries::new()
+    }
+}
+
+impl LastEntries {
+    /// None yet.
+    #[tactic(auto, unfolding(crate::specs::Entries::writer_bits))]
+    pub fn new() -> LastEntries
+        ensures { result ≡ replicate 8 (record { c = 0; writes = no_words }) }
+    {
+        LastEntries {
+            entries: [Past::default(); 8],
+            writers: 0,
         }
     }
-    0
+
+    /// Keeps one entry more, the newest one, and the seven before it.
+    pub fn put(&mut self, newest: Past)
+        ensures { self.new ≡ newest ∷ take 7 self.old }
+    {
+        put_newest(&mut self.entries, newest);
+        self.writers = self.writers % 128 * 2 + u64::from(self.entries[0].writes.any());
+    }
+
+    /// The tick at which the entry `n` before is done, 1 to 8; 0 where there was no such entry.
+    pub fn done_before(&self, n: usize) -> u64
+        requires { (1 ≤ n) × (n ≤ 8) }
+        ensures { result ≡ done_before_of n self.now }
+    {
+        self.entries[n - 1].c
+    }
+
+    /// The tick at which the latest of these entries is done that writes the word `w`, 0 where none does.
+    #[inline(always)]
+    pub fn latest_done(&self, w: u32) -> u64
+        ensures { result ≡ latest_done_of self.now w }
+    {
+        if self.writers == 0 {
+            return 0;
+        }
+        self.latest_writer(w)
+    }
+
+    // The same, where some entry writes any word; apart, so that the test before it is all that stands in its callers.
+    #[inline(never)]
+    fn latest_writer(&self, w: u32) -> u64
+        ensures { result ≡ latest_done_of self.now w }
+    {
+        let mut left = self.writers;
+        'writers: while left > 0 {
+            let newest = left.trailing_zeros();
+            let entry = &self.entries[newest as usize];
+            if entry.writes.has(w) {
+                return entry.c;
+            }
+            left &= !(1 << newest);
+        }
+        0
+    }
 }
 
 // Keeps one entry more, and the seven before it.
-pub(crate) fn put_newest(past: &mut [Past; 8], newest: Past)
+fn put_newest(past: &mut [Past; 8], newest: Past)
     ensures { past.new ≡ newest ∷ take 7 past.old }
 {
     past[7] = past[6];

@@ -5,21 +5,21 @@ ghost use Rattle.st_rows.specs.Ranges.{IsReadingWithin, ArePastWithin, IsReadabl
 
 use crate::entry::Run;
 use crate::fetching::Fetching;
-use crate::past::{Past, latest_done};
+use crate::past::LastEntries;
 use st_banks::Delays;
 
 impl Fetching {
     // Reads the next operand word of an entry that is prepared at `p`, unless an earlier entry writes it that is done later. The
     // result is the tick at which the word is there.
     #[tactic(auto, unfolding(crate::specs::Rows::read_word, crate::specs::Rows::fill_at))]
-    pub(crate) fn read(&mut self, delays: &Delays, past: &[Past; 8], w: u32, p: u64) -> u64
+    pub(crate) fn read(&mut self, delays: &Delays, past: &LastEntries, w: u32, p: u64) -> u64
         requires room { IsReadingWithin (2 ^ 64 - 512) (reading_of self.old) }
         requires before { ArePastWithin (2 ^ 64 - 512) past.now }
         requires early { p ≤ 2 ^ 64 - 512 }
         ensures value { result ≡ fill_at delays.now past.now self.old.bus w p }
         ensures after { reading_of self.new ≡ read_word delays.now past.now (reading_of self.old) w p }
     {
-        let done = latest_done(past, w);
+        let done = past.latest_done(w);
         if done > p {
             return done;
         }
@@ -30,7 +30,7 @@ impl Fetching {
 
     // Reads the next operand words.
     #[tactic(auto, unfolding(crate::specs::Rows::read_words))]
-    pub(crate) fn read_on(&mut self, delays: &Delays, past: &[Past; 8], run: Run, p: u64)
+    pub(crate) fn read_on(&mut self, delays: &Delays, past: &LastEntries, run: Run, p: u64)
         requires room { IsReadingWithin (2 ^ 64 - 2 ^ 16) (reading_of self.old) }
         requires before { ArePastWithin (2 ^ 64 - 2 ^ 16) past.now }
         requires early { p ≤ 2 ^ 64 - 2 ^ 16 }

@@ -4,4 +4,4 @@ use Rattle.st_rows.proofs.front.Front.pass.Goals as goal
 
 pub returns : goal.returns
 unfolding row after
-returns c ds n is bus = rw (c.put_newest.ensures, bus, is) refl
+returns c ds n is bus = rw (c.put.ensures, bus, is) refl
