@@ -6,6 +6,7 @@ pub mod Given
 pub mod Contents
 pub mod Late
 pub mod Resting
+pub mod Shown
 pub mod Steps
 pub mod Asking
 pub mod Preparing

@@ -243,3 +243,9 @@ pub one-read : (g : ℕ → ℕ) (ws : List ℕ) (n a : ℕ) → length ws ≡ n
 one-read g [] n a size one is = absurd (omega (arith, size, one))
 one-read g (v ∷ []) n a size one is = ap (λ x. x ∷ []) is
 one-read g (v ∷ w ∷ vs) n a size one is = absurd (omega (arith, size, one))
+
+pub two-read : (g : ℕ → ℕ) (ws : List ℕ) (n a b : ℕ) → length ws ≡ n → n ≡ 2 → a ≡ g (get_or ws 0 0) → b ≡ g (get_or ws 1 0) → a ∷ b ∷ [] ≡ map g ws
+two-read g [] n a b size two is other = absurd (omega (arith, size, two))
+two-read g (v ∷ []) n a b size two is other = absurd (omega (arith, size, two))
+two-read g (v ∷ w ∷ []) n a b size two is other = ap (λ x. x ∷ b ∷ []) is ∙ ap (λ x. g v ∷ x ∷ []) other
+two-read g (v ∷ w ∷ x ∷ vs) n a b size two is other = absurd (omega (arith, size, two))
