@@ -26,16 +26,16 @@ impl LastAnswers {
     }
 
     /// The tick of the last answer of the bank that the word `w` is in.
-    pub fn of(self, w: u32) -> u64
-        ensures { result ≡ last_of self.ticks w }
+    pub fn of(&self, w: u32) -> u64
+        ensures { result ≡ last_of self.now.ticks w }
     {
         self.ticks[bank_of(w)]
     }
 
     /// The tick at which a read of the word `w` is accepted that can be made from `tick` on and is wanted from `want` on: the
     /// greatest of these two and of its bank's last answer.
-    pub fn accept_tick(self, w: u32, tick: u64, want: u64) -> u64
-        ensures { result ≡ accept_tick_of self.ticks w tick want }
+    pub fn accept_tick(&self, w: u32, tick: u64, want: u64) -> u64
+        ensures { result ≡ accept_tick_of self.now.ticks w tick want }
     {
         tick.max(want).max(self.of(w))
     }

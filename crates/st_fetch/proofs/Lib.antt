@@ -1,3 +1,4 @@
 pub mod HeldLemmas
 pub mod OldestFirst
 pub mod Windows
+mod Shifted

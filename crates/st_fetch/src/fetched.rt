@@ -45,21 +45,21 @@ impl HeldWords {
     }
 
     /// The tick at which the word `w`, which is not 0, is answered; None exactly where it is not held.
-    pub fn tick_of(self, w: u32) -> Option<u64>
-        ensures { result ≡ tick_by self.words w }
+    pub fn tick_of(&self, w: u32) -> Option<u64>
+        ensures { result ≡ tick_by self.now.words w }
     {
         let found = self.words.iter().find(|fetched| fetched.w == w)?;
         Some(found.tick)
     }
 
     /// Holds the word `w` from now on, which is answered at `tick`, in place of the one that was asked for longest ago.
-    pub fn requested(self, w: u32, tick: u64) -> HeldWords
-        ensures { result.words ≡ asked_for self.words w tick }
+    pub fn request(&mut self, w: u32, tick: u64)
+        ensures { self.new.words ≡ asked_for self.old.words w tick }
     {
-        let words = self.words;
-        HeldWords {
-            words: [Fetched { w, tick }, words[0], words[1], words[2]],
-        }
+        self.words[3] = self.words[2];
+        self.words[2] = self.words[1];
+        self.words[1] = self.words[0];
+        self.words[0] = Fetched { w, tick };
     }
 
     // The word `w` is answered at `tick`.

@@ -69,7 +69,7 @@ impl Hold {
         requires { is_held self.old w ≡ false }
         ensures { self.new ≡ requested self.old w }
     {
-        self.words = self.words.requested(w, 0);
+        self.words.request(w, 0);
         self.contents = self.contents.requested();
         self.len = (self.len + 1).min(4);
     }

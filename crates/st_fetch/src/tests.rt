@@ -57,12 +57,13 @@ fn a_store_changes_an_answered_word_and_no_tick(rt: HostRuntime) {
 // A plan knows when a word is answered as soon as it is asked for; contents stand beside the words.
 #[test]
 fn planned_words_have_their_ticks_before_their_contents(rt: HostRuntime) {
-    let four = HeldWords::new()
-        .requested(40, 5)
-        .requested(41, 9)
-        .requested(42, 7)
-        .requested(43, 12);
-    let five = four.requested(44, 13);
+    let mut four = HeldWords::new();
+    four.request(40, 5);
+    four.request(41, 9);
+    four.request(42, 7);
+    four.request(43, 12);
+    let mut five = four;
+    five.request(44, 13);
     assert_eq!(rt;
         (four.tick_of(40), four.tick_of(42), four.tick_of(44)),
         (Some(5), Some(7), None)

@@ -1,15 +1,15 @@
 //! The reads that are still to be made, first in, first out.
-ghost use Rattle.std.specs.Prelude.{◌≡◌, ◌≤◌, ◌<◌, [], ◌∷◌, ◌++◌, length, drop, slice_get, ◌==◌};
+ghost use Rattle.std.specs.Prelude.{◌≡◌, ◌≤◌, ◌<◌, ◌*◌, ◌%◌, [], ◌∷◌, ◌++◌, length, drop, slice_get, ◌==◌};
 
 use std::marker::Model;
 
 /// A read that is still to be made.
 #[derive(Clone, Copy, Debug, Default, PartialEq, Eq)]
 pub struct Want {
-    /// The word address.
-    pub w: u32,
     /// The first tick at which the read may be made.
     pub tick: u64,
+    /// The word address.
+    pub w: u32,
     /// What the read is for: a number that the machine chooses and the list keeps as it is.
     pub purpose: u8,
 }
@@ -70,7 +70,7 @@ impl Wants {
         requires { length self.old < WANTS }
         ensures { self.new ≡ self.old ++ want ∷ [] }
     {
-        self.slots[(self.first + self.len) % WANTS] = want;
+        self.slots[slot(self.first + self.len)] = want;
         self.len += 1;
     }
 
@@ -90,7 +90,7 @@ impl Wants {
         requires { 0 < length self.old }
         ensures { self.new ≡ drop 1 self.old }
     {
-        self.first = (self.first + 1) % WANTS;
+        self.first = slot(self.first + 1);
         self.len -= 1;
     }
 
@@ -100,4 +100,12 @@ impl Wants {
     {
         self.len = 0;
     }
+}
+
+// The slot `i` places behind the slot 0, where the first one comes behind the last one.
+fn slot(i: usize) -> usize
+    requires { i < 2 * WANTS }
+    ensures { result ≡ i % WANTS }
+{
+    if i < WANTS { i } else { i - WANTS }
 }

@@ -211,7 +211,7 @@ impl Next {
         ensures bus { port.new.bus ≡ port.old.bus }
     {
         let want = from.max(self.words.answered).max(self.words.awaited);
-        port.ask_fetch(self.words.bus.held, w, want);
+        port.ask_fetch(&self.words.bus.held, w, want);
         self.words.word(delays, &front.past, w, from);
     }
 

@@ -90,9 +90,9 @@ impl Port {
     }
 
     /// Asks for the instruction word `w`, wanted from the tick `want` on, unless it is one of these held words.
-    pub fn ask_fetch(&mut self, held: HeldWords, w: u32, want: u64)
+    pub fn ask_fetch(&mut self, held: &HeldWords, w: u32, want: u64)
         requires { length self.old.reads < 40 }
-        ensures reads { self.new.reads ≡ self.old.reads ++ word_asked (tick_of held.words w) w want }
+        ensures reads { self.new.reads ≡ self.old.reads ++ word_asked (tick_of held.now.words w) w want }
         ensures bus { self.new.bus ≡ self.old.bus }
     {
         if held.tick_of(w).is_none() {
@@ -137,8 +137,9 @@ impl Port {
     {
         if entry.follows {
             let w = entry.own.first + u32::from(entry.own.len);
-            let held = self.ask_inside(bus.held, w, p);
-            self.ask_inside(held, w + 1, p);
+            let mut held = bus.held;
+            self.ask_inside(&mut held, w, p);
+            self.ask_inside(&mut held, w + 1, p);
         }
     }
 
@@ -157,7 +158,7 @@ impl Port {
         let Some(want) = self.wants.front() else {
             return;
         };
-        let bus = self.bus;
+        let bus = &self.bus;
         if bus.banks.accept_tick(want.w, bus.free, want.tick) > now {
             return;
         }
@@ -211,25 +212,25 @@ impl Port {
         }
     }
 
-    // Asks for the word `w`, if it is one of storage and not held. The result is held behind it, for the words alone.
-    fn ask_inside(&mut self, held: HeldWords, w: u32, p: u64) -> HeldWords
+    // Asks for the word `w`, if it is one of storage and not held, and holds it from then on, for the words alone.
+    fn ask_inside(&mut self, held: &mut HeldWords, w: u32, p: u64)
         requires { length self.old.reads < 40 }
         ensures reads { self.new.reads ≡ self.old.reads
-            ++ (if nat_lt w words_of_storage then word_asked (tick_of held.words w) w p else []) }
+            ++ (if nat_lt w words_of_storage then word_asked (tick_of held.old.words w) w p else []) }
         ensures bus { self.new.bus ≡ self.old.bus }
         ensures few { length self.new.reads ≤ length self.old.reads + 1 }
-        ensures held { result.words ≡
-            (if nat_lt w words_of_storage then held_with (tick_of held.words w) held.words w
-            else held.words) }
+        ensures held { held.new.words ≡
+            (if nat_lt w words_of_storage then held_with (tick_of held.old.words w) held.old.words w
+            else held.old.words) }
     {
         if w >= WORDS {
-            return held;
+            return;
         }
         if held.tick_of(w).is_some() {
-            return held;
+            return;
         }
         self.ask(w, p, true);
-        held.requested(w, 0)
+        held.request(w, 0);
     }
 }
 

@@ -58,7 +58,7 @@ impl Bus {
             return answer;
         }
         let answer = self.read(delays, w, want);
-        self.held = self.held.requested(w, answer);
+        self.held.request(w, answer);
         answer
     }
 
@@ -74,7 +74,7 @@ impl Bus {
     {
         let answer = self.read(delays, w, want);
         if fetch {
-            self.held = self.held.requested(w, answer);
+            self.held.request(w, answer);
         }
         answer
     }

@@ -8,6 +8,6 @@ pub returns : goal.returns
 returns c =
     let q = c.self.inside in
     let v = c.self.invariant in
-    rw (c.requested-self-inside.ensures, c.requested-self-inside-2.ensures, c.min-self-inside.ensures)
+    rw (c.request.ensures, c.requested-self-inside.ensures, c.min-self-inside.ensures)
     (oldest_first-asked c.args.w 0 q.len q.words.words q.contents.of v.0 v.1 v.2
     ∙ ap (λ (hold : List Held). requested hold c.args.w) c.self.view_is)

@@ -9,5 +9,6 @@ returns c =
     let number = length-window 40 q.first q.len q.slots c.self.invariant.0 c.self.invariant.1 c.self.invariant.2 in
     let same = ap length c.self.view_is in
     let some : 0 < q.len = omega arith in
-    window-pop 40 q.first q.len q.slots c.self.invariant.0 c.self.invariant.1 c.self.invariant.2 some
-    ∙ ap (drop 1) c.self.view_is
+    rw c.slot-self-inside.ensures
+    (window-pop 40 q.first q.len q.slots c.self.invariant.0 c.self.invariant.1 c.self.invariant.2 some
+    ∙ ap (drop 1) c.self.view_is)

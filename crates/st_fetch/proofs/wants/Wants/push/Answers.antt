@@ -10,5 +10,6 @@ returns c =
     let number = length-window 40 q.first q.len q.slots c.self.invariant.0 c.self.invariant.1 c.self.invariant.2 in
     let same = ap length c.self.view_is in
     let room : q.len < 40 = omega arith in
-    window-push 40 q.first q.len q.slots c.self.invariant.0 c.self.invariant.1 c.self.invariant.2 c.args.want room
-    ∙ ap (λ (wants : List Want). wants ++ c.args.want ∷ []) c.self.view_is
+    rw c.slot.ensures
+    (window-push 40 q.first q.len q.slots c.self.invariant.0 c.self.invariant.1 c.self.invariant.2 c.args.want room
+    ∙ ap (λ (wants : List Want). wants ++ c.args.want ∷ []) c.self.view_is)

@@ -15,6 +15,6 @@ overflow_add-w-then-entry c =
 
 pub returns-then-entry-clause-reads : goal.returns-then-entry-clause-reads
 returns-then-entry-clause-reads c ds =
-    both-asked ds c.args.bus.now c.args.entry.now c.args.p (c.args.entry.now.own.first + c.from.result) c.ask_inside-held.result.words
-    c.args.self.now.reads c.ask_inside-held.new.self.reads c.ask_inside.new.self.reads
-    c.if-entry.true (rw c.from.ensures refl) c.ask_inside-held.ensures.held c.ask_inside-held.ensures.reads c.ask_inside.ensures.reads
+    both-asked ds c.args.bus.now c.args.entry.now c.args.p (c.args.entry.now.own.first + c.from.result) c.ask_inside.new.held.words
+    c.args.self.now.reads c.ask_inside.new.self.reads c.ask_inside-then-entry.new.self.reads
+    c.if-entry.true (rw c.from.ensures refl) c.ask_inside.ensures.held c.ask_inside.ensures.reads c.ask_inside-then-entry.ensures.reads
