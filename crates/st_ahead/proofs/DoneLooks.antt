@@ -12,6 +12,7 @@ use Rattle.st_rows.specs.Ranges.{AreDelays, IsTight}
 use Rattle.st_rows.specs.Rows.{row, after, tick_c, fetched, fetch_words, wanted_from}
 use Rattle.st_rows.specs.declared.entry.Run.{Run}
 use Rattle.st_rows.specs.declared.entry.Entry.{Entry}
+use Rattle.st_rows.specs.declared.fetching.Fetching.{Fetching}
 use Rattle.st_rows.specs.declared.front.Front.{Front}
 use Rattle.st_rows.proofs.Tight.{tight-after}
 use Rattle.st_ring.specs.declared.level.Level.{Level}
@@ -157,7 +158,8 @@ opened-at ds n now u f next closed alone late place = (
     read_on = record {
       place = place;
       first = first-none next.own next.target (entry None u) closed.1 closed.2;
-      words = closed.3 ∙ sym (so-far ds f next.own next.target closed.1 closed.2);
+      words = λ unread. closed.3 ∙ sym (so-far ds f next.own next.target closed.1 closed.2);
+      awaited = ap (λ (s : Fetching). s.awaited) (closed.3 ∙ sym (so-far ds f next.own next.target closed.1 closed.2));
     };
     planned = rw closed.0 tt;
   },

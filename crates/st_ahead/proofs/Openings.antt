@@ -16,6 +16,7 @@ use Rattle.st_ring.specs.declared.level.Level.{Level}
 use Rattle.st_levels.specs.declared.plans.Plan.{Plan}
 use Rattle.st_rows.specs.declared.entry.Entry.{Entry}
 use Rattle.st_way.proofs.Turned.{on-opened}
+use Rattle.st_rows.specs.declared.fetching.Fetching.{Fetching}
 use Rattle.st_rows.specs.declared.front.Front.{Front}
 use Rattle.st_rows.specs.declared.past.Past.{Past}
 use Rattle.st_rows.specs.declared.entry.Run.{Run}
@@ -106,7 +107,8 @@ next-none ds n now t s f next place no_own no_target unplanned words late alone 
     read_on = record {
       place = place;
       first = first-none next.own next.target (entry t s) no_own no_target;
-      words = words ∙ sym (so-far ds f next.own next.target no_own no_target);
+      words = λ unread. words ∙ sym (so-far ds f next.own next.target no_own no_target);
+      awaited = ap (λ (s : Fetching). s.awaited) (words ∙ sym (so-far ds f next.own next.target no_own no_target));
     };
     planned = rw unplanned tt;
   },

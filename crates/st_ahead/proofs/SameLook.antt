@@ -82,6 +82,7 @@ module _ (ds : List ℕ) (n : ℕ) where
       place = is.read_on.place ∙ sym (same-place s u t beside);
       first = subst (AreFirst next.own next.target) (sym (entry-same t s u beside)) is.read_on.first;
       words = is.read_on.words;
+      awaited = is.read_on.awaited;
     };
     planned = planned-same next.planned t s u f next beside is.planned;
   }

@@ -5,6 +5,7 @@ use Rattle.st_prep.specs.Fetch.{place_of}
 use Rattle.st_rows.specs.Rows.{fetch_words, fetched, wanted_from}
 use Rattle.st_rows.specs.Asked.{words_asked, fetches_asked}
 use Rattle.st_rows.specs.declared.entry.Run.{Run}
+use Rattle.st_rows.specs.declared.fetching.Fetching.{Fetching}
 use Rattle.st_rows.specs.declared.front.Front.{Front}
 use Rattle.st_segment.specs.Entries.{entry}
 use Rattle.st_next.specs.Words.{IsStart, words_so_far, asked_so_far}
@@ -38,10 +39,14 @@ new-next ds n t u f next place own target words un = record {
       target_start = rw target (nothing-start (entry t u).target);
       all_own = λ some. absurd (omega (arith, some, ap (λ (r : Run). r.len) target));
     };
-    words = λ none. rw (own, target) (words ∙ sym (nothing-fetched ds f));
+    words = λ none. begun;
+    awaited = ap (λ (s : Fetching). s.awaited) begun;
   };
   planned = planned-none next.planned ds n t u f next un;
 }
+  where
+    begun : next.words ≡ words_so_far ds f next.own next.target
+    begun = rw (own, target) (words ∙ sym (nothing-fetched ds f))
 
 pub new-reads : (ds : List ℕ) (f : Front) (next : Next) → next.own ≡ nothing → next.target ≡ nothing → next.planned ≡ false → reads_so_far ds f next ≡ []
 new-reads ds f next own target un = reads-none ds f next un ∙ rw (own, target) (nothing-asked ds f)

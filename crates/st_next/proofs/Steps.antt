@@ -19,7 +19,7 @@ use Rattle.st_segment.specs.Alone.{words_of_run}
 use Rattle.st_segment.specs.Entries.{reading_at, entry, side_to_read, words_to_read, words_to_write}
 use Rattle.st_segment.proofs.EntryRanges.{entry-ranges}
 use Rattle.st_segment.proofs.KnownEarly.{known-early}
-use Rattle.st_next.specs.Words.{with_word}
+use Rattle.st_next.specs.Words.{with_word, words_so_far}
 use Rattle.st_next.specs.Known.{IsBefore}
 use Rattle.st_next.specs.Progress.{IsReadOn, IsPlanned, IsPlannedIf, Rests, Planned, Waits, Target, wanted_next}
 use Rattle.st_next.specs.Going.{GoesOn, IsPlannedAs, entry_seen}
@@ -128,12 +128,15 @@ module _ (ds : List ℕ) (n now : ℕ) (f : Front) (x : List ℕ) (s : Machine) 
   own-rests t u w is (Target p all none some late) = let more = is.more in let same : before.own.len ≡ (entry t u).own.len = ap (λ (r : Run). r.len) all in absurd (omega arith)
 
   own-read : (t : Option ℕ) (u : Machine) (w : ℕ) → IsReadOn ds t u f before → IsNextOwn before.own before.target (entry t u) w → IsReadOn ds t u f (with_own w)
-  own-read t u w read is = record {
-    place = read.place;
-    first = own-more before.own before.target (entry t u) w read.first is;
-    words = λ none. ap (λ (s : Fetching). fetch_word ds f.past s w (wanted_from f)) (read.words un)
-        ∙ sym (own-fetched ds f before.own before.target w is.none (word-behind before.own (entry t u).own w read.first.own_start is.place));
-  }
+  own-read t u w read is =
+      let words = ap (λ (s : Fetching). fetch_word ds f.past s w (wanted_from f)) (read.words un)
+      ∙ sym (own-fetched ds f before.own before.target w is.none (word-behind before.own (entry t u).own w read.first.own_start is.place)) in
+      record {
+        place = read.place;
+        first = own-more before.own before.target (entry t u) w read.first is;
+        words = λ none. words;
+        awaited = ap (λ (s : Fetching). s.awaited) words;
+      }
 
   pub own-goes : (w : ℕ) (after : Next) → what ≡ GivenWord w false → after ≡ with_own w → GoesOn ds n now f x s before after now
   own-goes w after e same = subst (λ a. GoesOn ds n now f x s before a now) (sym same) (record {
@@ -158,12 +161,15 @@ module _ (ds : List ℕ) (n now : ℕ) (f : Front) (x : List ℕ) (s : Machine) 
   target-rests t u w (Target p all none some late) = Waits p (omega (arith, late, target-wanted w))
 
   target-read : (t : Option ℕ) (u : Machine) (w : ℕ) → IsReadOn ds t u f before → IsNextTarget before.own before.target (entry t u) w → IsReadOn ds t u f (with_target w)
-  target-read t u w read is = record {
-    place = read.place;
-    first = target-more before.own before.target (entry t u) w read.first is;
-    words = λ none. ap (λ (s : Fetching). fetch_word ds f.past s w (max (wanted_from f) f.c)) (read.words un)
-        ∙ sym (target-fetched ds f before.own before.target w (word-behind before.target (entry t u).target w read.first.target_start is.place));
-  }
+  target-read t u w read is =
+      let words = ap (λ (s : Fetching). fetch_word ds f.past s w (max (wanted_from f) f.c)) (read.words un)
+      ∙ sym (target-fetched ds f before.own before.target w (word-behind before.target (entry t u).target w read.first.target_start is.place)) in
+      record {
+        place = read.place;
+        first = target-more before.own before.target (entry t u) w read.first is;
+        words = λ none. words;
+        awaited = ap (λ (s : Fetching). s.awaited) words;
+      }
 
   pub target-goes : (w : ℕ) (after : Next) → what ≡ GivenWord w true → after ≡ with_target w → GoesOn ds n now f x s before after now
   target-goes w after e same = subst (λ a. GoesOn ds n now f x s before a now) (sym same) (record {
@@ -198,6 +204,9 @@ module _ (ds : List ℕ) (n now : ℕ) (f : Front) (x : List ℕ) (s : Machine) 
               place = made.place ∙ next.read_on.place;
               first = rw (made.own, made.target) next.read_on.first;
               words = λ none. absurd (cc (none, made.planned));
+              awaited =
+                  made.awaited ∙ next.read_on.awaited ∙ ap (λ r. (words_so_far ds f r before.target).awaited) (sym made.own)
+                  ∙ ap (λ r. (words_so_far ds f after.own r).awaited) (sym made.target);
             };
             planned = planned-some after.planned ds n t u f after made.planned (record {
               all = record { own = made.own ∙ it.0.own_all; target = made.target ∙ it.0.target_all; found = made.found ∙ it.1 };

@@ -71,6 +71,7 @@ pub record IsPlannedAs (ds : List ℕ) (n : ℕ) (f : Front) (v : Sight) (before
   pub place : after.place ≡ before.place
   pub own : after.own ≡ before.own
   pub target : after.target ≡ before.target
+  pub awaited : after.words.awaited ≡ before.words.awaited
   pub planned : after.planned ≡ true
   pub found : after.fetched ≡ v.fetched
   pub needed : after.needs ≡ needs v

@@ -19,6 +19,7 @@ pub record IsReadOn (ds : List ℕ) (t : Option ℕ) (u : Machine) (f : Front) (
   pub place : next.place ≡ place_of u t
   pub first : AreFirst next.own next.target (entry_of t u)
   pub words : next.planned ≡ false → next.words ≡ words_so_far ds f next.own next.target
+  pub awaited : next.words.awaited ≡ (words_so_far ds f next.own next.target).awaited
 
 -- these are all of them, and this is what is fetched
 pub record IsFound (t : Option ℕ) (u : Machine) (next : Next) : Type 0 where

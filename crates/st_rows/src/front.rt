@@ -137,6 +137,7 @@ impl Front {
         requires words { words.old ≡ fetched delays.now self.now entry.now }
         ensures address { result.a ≡ tick_a delays.now self.now entry.now }
         ensures bus { words.new.bus ≡ bus_a delays.now self.now entry.now }
+        ensures awaited { words.new.awaited ≡ words.old.awaited }
         ensures tick { result.p ≡ tick_p delays.now levels self.now entry.now }
     {
         delays.shape();

@@ -1,4 +1,4 @@
-use Rattle.std.proofs.Common.{◌≡◌, ◌≤◌, Bool, true, sym, subst, arith}
+use Rattle.std.proofs.Common.{ℕ, ◌≤◌, Bool, sym, subst}
 use Rattle.st_segment.specs.Entries.{entry}
 use Rattle.st_segment.specs.Guesses.{guesses, table_behind}
 use Rattle.st_segment.proofs.EntryRanges.{entry-ranges}
@@ -29,7 +29,7 @@ returns-clause-words c = λ ds n now t s f v few look opened done.
     let words = words-entry v.next.own v.next.target (entry k u) next.read_on.first
     (entry-ranges k u before.machine (behind-indicator (count v) t is.indicator)) in
     contents-same ds now v.front v.levels.x s u v.next.own v.next.target before words
-    (subst (λ x. x.awaited ≤ now) next.read_on.words done)
+    (subst (λ (a : ℕ). a ≤ now) next.read_on.awaited done)
 
 pub returns-clause-fetched : goal.returns-clause-fetched
 returns-clause-fetched c = λ ds n tick now t s f v look planned.

@@ -3,6 +3,7 @@ use Rattle.st_prep.specs.Plan.{plan}
 use Rattle.st_rows.specs.Ranges.{IsEntry, IsTight}
 use Rattle.st_rows.specs.Rows.{row, after, fills, tick_a, bus_a, tick_p}
 use Rattle.st_rows.specs.declared.entry.Entry.{Entry}
+use Rattle.st_rows.specs.declared.fetching.Fetching.{Fetching}
 use Rattle.st_rows.specs.declared.front.Front.{Front}
 use Rattle.st_rows.specs.declared.front.Row.{Row}
 use Rattle.st_rows.specs.declared.front.Formed.{Formed}
@@ -45,25 +46,9 @@ prepare-requires-clause-ready g c =
       is_next = becomes.is_next;
     }
 
-pub fill-filled-requires-clause-entry : goal.fill-filled-requires-clause-entry
-fill-filled-requires-clause-entry g c =
-    let ds = c.args.delays.now in
-    let n = g.row.N in
-    let now = c.args.now in
-    let t = c.requires.going.table in
-    let s = c.args.state.now in
-    let f = c.requires.going.front in
-    let view : LookView = record { levels = c.self.inside.levels; front = c.self.inside.front; port = c.self.inside.port; next = c.self.inside.next } in
-    let is = subst (λ (w : LookView). IsGoing ds n now (now + 1) t s f w) (sym c.self.view_is) c.requires.going.going in
-    let planned : view.next.planned ≡ true = ap (λ (w : LookView). w.next.planned) c.self.view_is ∙ c.requires.planned in
-    let due : view.next.formed.p ≡ now = ap (λ (w : LookView). w.next.formed.p) c.self.view_is ∙ c.requires.due in
-    let becomes = c.planned_entries_become_levels.ensures ds n now t s f view c.requires.some c.requires.few
-    (AreDelays-list ds c.shape.ensures) (omega (arith, c.len-few.ensures.value, c.len-few.ensures.within)) c.requires.early is planned due in
-    let entry_is : c.prepare.new.self.entry ≡ view.next.entry = ap (λ (next : Next). next.entry) c.prepare.ensures.rest in
-    subst (λ (e : Entry). IsEntry e) (sym entry_is) becomes.range
-
-pub fill-filled-requires-clause-address : goal.fill-filled-requires-clause-address
-fill-filled-requires-clause-address g c =
+-- the front before it is that of the planned entry still, and preparing leaves the entry and its ticks
+pub fill-filled-requires : goal.fill-filled-requires
+fill-filled-requires g c =
     let ds = c.args.delays.now in
     let n = g.row.N in
     let now = c.args.now in
@@ -78,42 +63,16 @@ fill-filled-requires-clause-address g c =
     (AreDelays-list ds c.shape.ensures) (omega (arith, c.len-few.ensures.value, c.len-few.ensures.within)) c.requires.early is planned due in
     let entry_is : c.prepare.new.self.entry ≡ view.next.entry = ap (λ (next : Next). next.entry) c.prepare.ensures.rest in
     let formed_is : c.prepare.new.self.formed ≡ view.next.formed = ap (λ (next : Next). next.formed) c.prepare.ensures.rest in
-    ap (λ (x : Formed). x.a) formed_is ∙ becomes.address ∙ ap (tick_a ds view.front) (sym entry_is)
-
-pub fill-filled-requires-clause-bus : goal.fill-filled-requires-clause-bus
-fill-filled-requires-clause-bus g c =
-    let ds = c.args.delays.now in
-    let n = g.row.N in
-    let now = c.args.now in
-    let t = c.requires.going.table in
-    let s = c.args.state.now in
-    let f = c.requires.going.front in
-    let view : LookView = record { levels = c.self.inside.levels; front = c.self.inside.front; port = c.self.inside.port; next = c.self.inside.next } in
-    let is = subst (λ (w : LookView). IsGoing ds n now (now + 1) t s f w) (sym c.self.view_is) c.requires.going.going in
-    let planned : view.next.planned ≡ true = ap (λ (w : LookView). w.next.planned) c.self.view_is ∙ c.requires.planned in
-    let due : view.next.formed.p ≡ now = ap (λ (w : LookView). w.next.formed.p) c.self.view_is ∙ c.requires.due in
-    let becomes = c.planned_entries_become_levels.ensures ds n now t s f view c.requires.some c.requires.few
-    (AreDelays-list ds c.shape.ensures) (omega (arith, c.len-few.ensures.value, c.len-few.ensures.within)) c.requires.early is planned due in
-    let entry_is : c.prepare.new.self.entry ≡ view.next.entry = ap (λ (next : Next). next.entry) c.prepare.ensures.rest in
-    ap (λ (next : Next). next.words.bus) c.prepare.ensures.rest ∙ becomes.bus ∙ ap (bus_a ds view.front) (sym entry_is)
-
-pub fill-filled-requires-clause-tick : goal.fill-filled-requires-clause-tick
-fill-filled-requires-clause-tick g c =
-    let ds = c.args.delays.now in
-    let n = g.row.N in
-    let now = c.args.now in
-    let t = c.requires.going.table in
-    let s = c.args.state.now in
-    let f = c.requires.going.front in
-    let view : LookView = record { levels = c.self.inside.levels; front = c.self.inside.front; port = c.self.inside.port; next = c.self.inside.next } in
-    let is = subst (λ (w : LookView). IsGoing ds n now (now + 1) t s f w) (sym c.self.view_is) c.requires.going.going in
-    let planned : view.next.planned ≡ true = ap (λ (w : LookView). w.next.planned) c.self.view_is ∙ c.requires.planned in
-    let due : view.next.formed.p ≡ now = ap (λ (w : LookView). w.next.formed.p) c.self.view_is ∙ c.requires.due in
-    let becomes = c.planned_entries_become_levels.ensures ds n now t s f view c.requires.some c.requires.few
-    (AreDelays-list ds c.shape.ensures) (omega (arith, c.len-few.ensures.value, c.len-few.ensures.within)) c.requires.early is planned due in
-    let entry_is : c.prepare.new.self.entry ≡ view.next.entry = ap (λ (next : Next). next.entry) c.prepare.ensures.rest in
-    let formed_is : c.prepare.new.self.formed ≡ view.next.formed = ap (λ (next : Next). next.formed) c.prepare.ensures.rest in
-    ap (λ (x : Formed). x.p) formed_is ∙ becomes.tick ∙ ap (tick_p ds n view.front) (sym entry_is)
+    let words_are : c.prepare.new.self.words ≡ view.next.words = ap (λ (next : Next). next.words) c.prepare.ensures.rest in
+    record {
+      entry = subst (λ (e : Entry). IsEntry e) (sym entry_is) becomes.range;
+      tight = is.tight;
+      early = omega (arith, becomes.early);
+      levels = (c.requires.some, c.requires.few);
+      address = ap (λ (x : Formed). x.a) formed_is ∙ becomes.address ∙ ap (tick_a ds view.front) (sym entry_is);
+      bus = ap (λ (x : Fetching). x.bus) words_are ∙ becomes.bus ∙ ap (bus_a ds view.front) (sym entry_is);
+      tick = ap (λ (x : Formed). x.p) formed_is ∙ becomes.tick ∙ ap (tick_p ds n view.front) (sym entry_is);
+    }
 
 pub returns-clause-prepared : goal.returns-clause-prepared
 returns-clause-prepared g c =
