@@ -16,7 +16,7 @@ use Rattle.st_card.specs.declared.control_cards.Signal.{Signal}
 use Rattle.st_run.specs.Run.{Scene, Transition, PlainEvent, with_due_signals, with_signals_at_rest, first_card, cards_after, with_reader, with_printer, uneventful, and_then, if_due, with_due_orders, with_device, with_order_at_rest, with_wait, interlude}
 use Rattle.st_exec.proofs.BesideEntries.{beside-printed, beside-no_card, beside-signalled, beside-same, beside-then}
 use Rattle.st_ahead.specs.Overlap.{Overlap, interrupt_due}
-use Rattle.st_ahead.specs.Calls.{ended, interlude as settled_of, read_in_by, printed_by, MayServe}
+use Rattle.st_ahead.specs.Calls.{ended, settled as settled_of, read_in_by, printed_by, MayServe}
 use Rattle.st_ahead.proofs.Settling.{settled-waits}
 use Rattle.st_run.specs.Moments.{has_card, has_waited}
 use Rattle.st_run.specs.Together.{Together, scene_of, moment_of, with_scene, text_told, AreTexts, IsBehind, IsSince, closed_if}

@@ -14,7 +14,7 @@ use Rattle.st_rows.specs.declared.front.Front.{Front}
 use Rattle.st_segment.specs.Entries.{entry}
 use Rattle.st_segment.proofs.EntryRanges.{entry-ranges}
 use Rattle.st_ahead.specs.Overlap.{Overlap, seen, levels_of, interrupt_due, oldest_row}
-use Rattle.st_ahead.specs.Calls.{ended, interlude as settled_of, settled_by, passed, answer, answer_by}
+use Rattle.st_ahead.specs.Calls.{ended, settled as settled_of, settled_by, passed, answer, answer_by}
 use Rattle.st_ahead.specs.declared.events.Settled.{Settled}
 use Rattle.st_run.specs.Moments.{Moment, next_scene, next_state, ends_segment, next_front, next_segment, has_card, has_waited}
 use Rattle.st_run.specs.Scenes.{IsScene}
@@ -79,7 +79,7 @@ going-before b n s t f is same scene table awake late =
       few = subst (λ (m : Overlap). m.levels ≤ 8) (sym same) is.few;
       delays = subst (λ (m : Overlap). AreDelays 255 m.delays) (sym same) is.delays;
       scene = scene;
-      interlude = ap (λ (m : Overlap). m.owed) same;
+      settled = ap (λ (m : Overlap). m.owed) same;
       going = ap (λ (m : Overlap). m.ended) same;
       guessed = ap (λ (m : Overlap). m.behind) same;
       closed = ap (λ (m : Overlap). m.closing) same;

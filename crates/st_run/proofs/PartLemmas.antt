@@ -6,7 +6,7 @@ use Rattle.st_exec.specs.Step.{rests}
 use Rattle.st_run.specs.Run.{interlude}
 use Rattle.st_rows.specs.Rows.{opening}
 use Rattle.st_ahead.specs.Overlap.{Overlap, levels_of, interrupt_due}
-use Rattle.st_ahead.specs.Calls.{banks_left, ended, interlude as settled_of, settled_by}
+use Rattle.st_ahead.specs.Calls.{banks_left, ended, settled as settled_of, settled_by}
 use Rattle.st_run.specs.Together.{Together, scene_of, IsBehind, IsSince, closed_if}
 use Rattle.st_run.specs.Between.{Came, IsChoice}
 use Rattle.st_run.specs.declared.turn.Turn.{Turn}

@@ -5,7 +5,7 @@ use Rattle.std.proofs.lemmas.Bool.{le-ltb}
 use Rattle.st_state.specs.Machine.{Machine}
 use Rattle.st_state.specs.Orders.{is_due}
 use Rattle.st_ahead.specs.Overlap.{Overlap, interrupt_due}
-use Rattle.st_ahead.specs.Calls.{interlude as settled_of}
+use Rattle.st_ahead.specs.Calls.{settled as settled_of}
 use Rattle.st_card.specs.declared.control_cards.Signal.{Signal}
 use Rattle.st_run.specs.Run.{Scene, with_due_signals, with_due_orders, interlude, uneventful}
 use Rattle.st_run.specs.Together.{Together, scene_of, moment_of, with_scene, IsBehind}

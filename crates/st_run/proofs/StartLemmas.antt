@@ -271,7 +271,7 @@ module _ (ds : List ℕ) (n : ℕ) (c : Scene) (idle : IsIdle c.machine) (is : I
     few = few;
     delays = are;
     scene = due-scene c.machine c.signals c.cards is.machine is.cards;
-    interlude = refl;
+    settled = refl;
     going = refl;
     guessed = refl;
     closed = refl;
