@@ -1,1 +1,2 @@
+pub mod FromEndLemmas
 pub mod Shifts

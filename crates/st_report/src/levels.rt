@@ -1,29 +1,30 @@
 //! The lines of the chart and of a snapshot.
 
-ghost use Rattle.std.specs.Prelude.{◌≡◌, ◌+◌, ◌≤◌, ◌++◌};
+ghost use Rattle.std.specs.Prelude.{◌≡◌, [], ◌+◌, ◌≤◌, ◌++◌};
 ghost use Rattle.arrayvec.specs.ArrayString.{array_string_len};
 ghost use Rattle.st_report.specs.Line.{row_line, drop_line, snap_line, change_text, lev_line};
 
-use crate::Line;
 use crate::pieces::ended;
+use crate::{Line, LineFromEnd};
 use st_text::{begun, push_decimal, push_flag, push_half_address, push_hex, push_short_decimal};
 
 /// `ROW n a P p R r C c`: the n-th instruction done, its half-word address, and the ticks at
 /// which it was prepared, its result was ready, and it was complete.
-pub fn line_row(n: u64, address: u32, p: u64, r: u64, c: u64) -> Line
-    ensures { result.bytes ≡ row_line n address p r c }
+pub fn fill_row(line: &mut LineFromEnd, n: u64, address: u32, p: u64, r: u64, c: u64)
+    requires { line.old ≡ [] }
+    ensures { line.new ≡ row_line n address p r c }
 {
-    let mut line = begun("ROW ");
-    push_decimal(&mut line, n);
-    line.push_str(" ");
-    push_half_address(&mut line, address);
-    line.push_str(" P ");
-    push_decimal(&mut line, p);
-    line.push_str(" R ");
-    push_decimal(&mut line, r);
-    line.push_str(" C ");
-    push_decimal(&mut line, c);
-    ended(line)
+    line.put(b"\n");
+    line.put_decimal(c);
+    line.put(b" C ");
+    line.put_decimal(r);
+    line.put(b" R ");
+    line.put_decimal(p);
+    line.put(b" P ");
+    line.put_half_address(address);
+    line.put(b" ");
+    line.put_decimal(n);
+    line.put(b"ROW ");
 }
 
 /// `DROP a P p`: a dropped entry, its half-word address, and the tick at which it was prepared.

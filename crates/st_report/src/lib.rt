@@ -1,7 +1,9 @@
-//! The lines of the report and of the listing, by the rules of `docs/report.md`: one call a line, each with its line end.
+//! The lines of the report and of the listing, by the rules of `docs/report.md`: one call a line, each with its line end. The
+//! lines that may come for each instruction fill a line that is put together from its end.
 #![tactic(auto)]
 
 mod cards;
+mod from_end;
 mod job;
 mod levels;
 mod pieces;
@@ -10,10 +12,11 @@ mod state_block;
 mod sweep;
 
 pub use cards::{line_listed, line_symbol};
+pub use from_end::LineFromEnd;
 pub use job::{line_fault, line_soak};
-pub use levels::{line_drop, line_lev, line_row, line_snap};
+pub use levels::{fill_row, line_drop, line_lev, line_snap};
 pub use run::{
-    line_back, line_done, line_end, line_int, line_prt, line_ticks, line_time, line_trc,
+    fill_trc, line_back, line_done, line_end, line_int, line_prt, line_ticks, line_time,
 };
 pub use st_text::Line;
 pub use state_block::{line_dump, line_en, line_ic, line_mem, line_reg};

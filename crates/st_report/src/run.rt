@@ -1,22 +1,23 @@
 //! The lines that tell of the run.
 
-ghost use Rattle.std.specs.Prelude.{◌≡◌};
+ghost use Rattle.std.specs.Prelude.{◌≡◌, []};
 ghost use Rattle.st_report.specs.Line.{trc_line, prt_line, int_line, time_line, end_line, done_line, ticks_line, back_line};
 
-use crate::Line;
 use crate::pieces::ended;
+use crate::{Line, LineFromEnd};
 use arrayvec::ArrayString;
-use st_text::{begun, push_decimal, push_half_address, push_short_decimal};
+use st_text::{begun, push_decimal, push_short_decimal};
 
 /// `TRC n a`: the n-th instruction is done. The address is a half-word address.
-pub fn line_trc(n: u64, address: u32) -> Line
-    ensures { result.bytes ≡ trc_line n address }
+pub fn fill_trc(line: &mut LineFromEnd, n: u64, address: u32)
+    requires { line.old ≡ [] }
+    ensures { line.new ≡ trc_line n address }
 {
-    let mut line = begun("TRC ");
-    push_decimal(&mut line, n);
-    line.push_str(" ");
-    push_half_address(&mut line, address);
-    ended(line)
+    line.put(b"\n");
+    line.put_half_address(address);
+    line.put(b" ");
+    line.put_decimal(n);
+    line.put(b"TRC ");
 }
 
 /// `PRT text`: a line that the printer prints. The text may be empty.

@@ -15,8 +15,6 @@ fn lines_have_the_texts_of_worked_reports(rt: HostRuntime) -> Result<(), Fail> {
         (line_levels(8, 23), "LEVELS 8 TICKS 23\n"),
         (line_calm(true), "CALM 1\n"),
         (line_calm(false), "CALM 0\n"),
-        (line_trc(2, 65), "TRC 2 32.32\n"),
-        (line_row(3, 68, 18, 18, 19), "ROW 3 34.0 P 18 R 18 C 19\n"),
         (line_drop(69, 11), "DROP 34.32 P 11\n"),
         (line_prt(&printed), "PRT HI\n"),
         (line_prt(&ArrayString::new()), "PRT \n"),
@@ -51,6 +49,16 @@ fn lines_have_the_texts_of_worked_reports(rt: HostRuntime) -> Result<(), Fail> {
         assert_eq!(rt; line.as_str(), *text);
     }
     Ok(())
+}
+
+#[test]
+fn lines_from_their_end_have_the_texts_of_worked_reports(rt: HostRuntime) {
+    let mut trace = LineFromEnd::new();
+    fill_trc(&mut trace, 2, 65);
+    assert_eq!(rt; trace.as_bytes(), b"TRC 2 32.32\n".as_slice());
+    let mut row = LineFromEnd::new();
+    fill_row(&mut row, 3, 68, 18, 18, 19);
+    assert_eq!(rt; row.as_bytes(), b"ROW 3 34.0 P 18 R 18 C 19\n".as_slice());
 }
 
 #[test]

@@ -1,5 +1,5 @@
 -- What waits to be told, one thing after another.
-use Rattle.std.specs.Prelude.{map, reverse, option_map}
+use Rattle.std.specs.Prelude.{map, reverse}
 use Rattle.std.proofs.Common.{◌≡◌, ℕ, ◌<◌, false, true, length, arith, List, [], ◌∷◌, ◌++◌, Option, None, Some, refl, ◌∙◌, ap}
 use Rattle.std.proofs.lemmas.List.{reverse-append}
 use Rattle.st_state.specs.Machine.{Machine}
@@ -45,6 +45,3 @@ waiting-same v w drops text taken =
     ap {A = List (ℕ × ℕ)} (λ xs. record v { drops = xs }) drops
     ∙ ap {A = Option (List ℕ)} (λ o. record w { text = o; taken = v.taken }) text
     ∙ ap {A = Option ℕ} (λ o. record w { taken = o }) taken
-
-pub text-same : {A : Type 0} (f : A → List ℕ) (o p : Option A) → o ≡ None → None ≡ p → option_map f o ≡ option_map f p
-text-same f o p empty same = ap (option_map f) (empty ∙ same)

@@ -17,22 +17,23 @@ use Rattle.st_run.specs.declared.told.What.TheVariants as tells
 use Rattle.st_run.specs.declared.turn.Turn.{Turn}
 use Rattle.st_run.specs.declared.turn.Turn.TheVariants as turns
 
--- what is still to be told, and the state and the levels that are shown
+-- what is still to be told, and the state, the levels and the text that are shown
 pub record Telling : Type 0 where
   pub rest : List Told
   pub seen : Machine
   pub ahead : List Level
+  pub text : List ℕ
 
 -- ---- what is told next
 
--- what an answer tells where this state and these levels are shown
-abbrev pub what_told : WhatTold → Machine → List Level → What
-what_told (tells.Done row) s levels = Done row.address row.p row.r row.c
-what_told (tells.Dropped address p) s levels = Dropped address p
-what_told (tells.Printed text) s levels = Printed text.bytes
-what_told (tells.Interrupted i) s levels = Interrupted i s
-what_told (tells.Shown tick) s levels = Shown tick s levels
-what_told (tells.Ended rests) s levels = Ended rests s
+-- what an answer tells at a tick, where this state, these levels and this text are shown
+abbrev pub what_told : WhatTold → ℕ → Machine → List Level → List ℕ → What
+what_told (tells.Done address p r) tick s levels text = Done address p r tick
+what_told (tells.Dropped address p) tick s levels text = Dropped address p
+what_told tells.Printed tick s levels text = Printed text
+what_told (tells.Interrupted i) tick s levels text = Interrupted i s
+what_told (tells.Shown at) tick s levels text = Shown at s levels
+what_told (tells.Ended rests) tick s levels text = Ended rests s
 
 -- ---- what is told between two entries
 
@@ -84,9 +85,10 @@ seen_of m = with_index_words (index_of m) m.state
 abbrev pub ahead_of : Overlap → List Level
 ahead_of m = map (level_at (last_tick m)) (levels_of m)
 
--- an answer, where a machine is shown
-abbrev pub told_with : ToldNext → Overlap → Told
-told_with t m = record { done = t.done; tick = t.tick; what = what_told t.what (seen_of m) (ahead_of m) }
+-- an answer, where a machine and a text are shown
+abbrev pub told_with : ToldNext → Overlap → List ℕ → Told
+told_with t m text =
+    record { done = t.done; tick = t.tick; what = what_told t.what t.tick (seen_of m) (ahead_of m) text }
 
 -- a level as the machine shows it
 pub record IsLevel (v : LevelView) (level : Level) : Type 0 where

@@ -14,12 +14,12 @@ use crate::ticking::run_until;
 use crate::told::{Told, What};
 use crate::turn::Turn;
 use crate::waiting::Waiting;
-use arrayvec::ArrayVec;
+use arrayvec::{ArrayString, ArrayVec};
 use st_state::State;
 
 // A run between two things that it tells: the machine with what is still to come to it, the snapshots that are still to
 // come, how many instructions may be done behind the next one, the tick at which the last one was done, the tick that
-// comes next, what waits to be told, and the turn.
+// comes next, what waits to be told, the text that was printed last, and the turn.
 #[derive(Drop)]
 pub(crate) struct Progress<'a, const N: usize> {
     pub driven: Driven<'a, N>,
@@ -28,6 +28,7 @@ pub(crate) struct Progress<'a, const N: usize> {
     pub tick: u64,
     pub now: u64,
     pub waiting: Waiting,
+    pub printed: ArrayString<64>,
     pub turn: Turn,
 }
 
@@ -38,10 +39,10 @@ pub(crate) fn tell_next<const N: usize>(run: &mut Progress<N>) -> Option<Told>
     ensures told { MatchOption result
         (rest_of run.old.turn run.old.left run.old.tick run.old.snaps.now run.old.waiting run.old.driven ≡ [])
         (λ t. rest_of run.old.turn run.old.left run.old.tick run.old.snaps.now run.old.waiting run.old.driven
-        ≡ told_with t run.new.driven.machine
+        ≡ told_with t run.new.driven.machine run.new.printed.bytes
         ∷ rest_of run.new.turn run.new.left run.new.tick run.new.snaps.now run.new.waiting run.new.driven) }
 {
-    if let Some(what) = run.waiting.next() {
+    if let Some(what) = run.waiting.next(&mut run.printed) {
         return Some(at_once(&run.driven, run.tick, what));
     }
     match run.turn {
@@ -59,7 +60,7 @@ fn go<const N: usize>(run: &mut Progress<N>) -> Told
     ensures kept { IsRun run.new.turn run.new.left run.new.tick run.new.now run.new.snaps.now run.new.waiting run.new.driven }
     ensures told { told_events (timed_behind run.old.driven.machine.delays run.old.driven.machine.levels run.old.left
         (standing_of run.old.tick run.old.driven) run.old.snaps.now)
-        ≡ told_with result run.new.driven.machine
+        ≡ told_with result run.new.driven.machine run.new.printed.bytes
         ∷ rest_of run.new.turn run.new.left run.new.tick run.new.snaps.now run.new.waiting run.new.driven }
 {
     let snap = first_of(run.snaps);
@@ -70,7 +71,11 @@ fn go<const N: usize>(run: &mut Progress<N>) -> Told
     Told {
         done: row.number,
         tick: row.c,
-        what: What::Done(row),
+        what: What::Done {
+            address: row.address,
+            p: row.p,
+            r: row.r,
+        },
     }
 }
 
@@ -82,7 +87,7 @@ fn show<const N: usize>(run: &mut Progress<N>) -> Told
     ensures kept { IsRun run.new.turn run.new.left run.new.tick run.new.now run.new.snaps.now run.new.waiting run.new.driven }
     ensures told { told_events (timed_behind run.old.driven.machine.delays run.old.driven.machine.levels run.old.left
         (standing_of run.old.tick run.old.driven) run.old.snaps.now)
-        ≡ told_with result run.new.driven.machine
+        ≡ told_with result run.new.driven.machine run.new.printed.bytes
         ∷ rest_of run.new.turn run.new.left run.new.tick run.new.snaps.now run.new.waiting run.new.driven }
 {
     let Some((at, after)) = split_first(run.snaps) else {
@@ -143,7 +148,7 @@ fn finish<const N: usize>(run: &mut Progress<N>, rests: bool) -> Told
     requires waits { (s : Machine) → whats run.old.waiting s ≡ [] }
     ensures kept { IsRun run.new.turn run.new.left run.new.tick run.new.now run.new.snaps.now run.new.waiting run.new.driven }
     ensures told { told_at_end rests run.old.tick run.old.snaps.now run.old.driven.machine.state
-        ≡ told_with result run.new.driven.machine
+        ≡ told_with result run.new.driven.machine run.new.printed.bytes
         ∷ rest_of run.new.turn run.new.left run.new.tick run.new.snaps.now run.new.waiting run.new.driven }
 {
     let Some((at, after)) = split_due(run.snaps, run.tick) else {

@@ -15,6 +15,7 @@ use crate::seen::Seen;
 use crate::told::Told;
 use crate::turn::Turn;
 use crate::waiting::Waiting;
+use arrayvec::ArrayString;
 use st_ahead::{Machine, View};
 use st_banks::Delays;
 use st_card::Signal;
@@ -39,6 +40,7 @@ impl<'a, const N: usize> Model for Run<'a, N> {
       rest = rest_of r.progress.turn r.progress.left r.progress.tick r.progress.snaps.now r.progress.waiting r.progress.driven;
       seen = seen_of r.progress.driven.machine;
       ahead = ahead_of r.progress.driven.machine;
+      text = r.progress.printed.bytes;
     } };
 
     ghost invariant = { λ r. IsRun r.progress.turn r.progress.left r.progress.tick r.progress.now r.progress.snaps.now
@@ -95,6 +97,7 @@ impl<'a, const N: usize> Run<'a, N> {
                 tick: 0,
                 now: 0,
                 waiting: Waiting::new(),
+                printed: ArrayString::new(),
                 turn: Turn::Before,
             },
         }
@@ -102,8 +105,11 @@ impl<'a, const N: usize> Run<'a, N> {
 
     /// The next thing that is told; `None` exactly where all is told.
     pub fn next(&mut self) -> Option<Told>
-        ensures { MatchOption result (self.old.rest ≡ []) (λ t. self.old.rest
-            ≡ record { done = t.done; tick = t.tick; what = what_told t.what self.new.seen self.new.ahead } ∷ self.new.rest) }
+        ensures { MatchOption result (self.old.rest ≡ []) (λ t. self.old.rest ≡ record {
+          done = t.done;
+          tick = t.tick;
+          what = what_told t.what t.tick self.new.seen self.new.ahead self.new.text;
+        } ∷ self.new.rest) }
     {
         tell_next(&mut self.progress)
     }
@@ -123,5 +129,12 @@ impl<'a, const N: usize> Run<'a, N> {
         ensures { AreLevels result.levels self.entry.now.ahead }
     {
         view_of(&self.progress.driven)
+    }
+
+    /// The text that was printed last.
+    pub fn printed(&self) -> &ArrayString<64>
+        ensures { result.now.bytes ≡ self.now.text }
+    {
+        &self.progress.printed
     }
 }

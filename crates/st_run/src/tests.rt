@@ -134,9 +134,9 @@ fn begun<'a>(
 fn told_next(run: &mut Run<4>) -> Option<Line> {
     let told = run.next()?;
     let item = match told.what {
-        What::Done(row) => Item::Row(row.address, row.p, row.r, row.c),
+        What::Done { address, p, r } => Item::Row(address, p, r, told.tick),
         What::Dropped { address, p } => Item::Drop(address, p),
-        What::Printed(_) => Item::Text,
+        What::Printed => Item::Text,
         What::Interrupted(indicator) => Item::Interrupt(indicator),
         What::Shown(tick) => Item::Shows(tick, tick),
         What::Ended(rests) => Item::End(rests),

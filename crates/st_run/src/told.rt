@@ -1,16 +1,14 @@
 //! What is told of a run.
-use arrayvec::ArrayString;
-use st_ahead::Row;
-
 /// What a run tells next.
 #[derive(Clone, Copy, Debug)]
 pub enum What {
-    /// An entry is done, with its row.
-    Done(Row),
+    /// The entry at this half-word address is done, which was prepared at the tick `p` and ready at `r`. It is complete at
+    /// the tick at which this is told.
+    Done { address: u32, p: u64, r: u64 },
     /// An entry that ran ahead, at this half-word address and prepared at this tick, is dropped.
     Dropped { address: u32, p: u64 },
-    /// A text is printed.
-    Printed(ArrayString<64>),
+    /// A text is printed. The run shows the text.
+    Printed,
     /// An interrupt by this indicator is taken. The run shows the state in which it is.
     Interrupted(u8),
     /// A snapshot at this tick. The run shows the state and the levels.

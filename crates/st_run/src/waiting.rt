@@ -1,5 +1,5 @@
 //! What is told between two entries.
-ghost use Rattle.std.specs.Prelude.{◌≡◌, [], ◌∷◌, None, MatchOption, IfSome, IsSome, List};
+ghost use Rattle.std.specs.Prelude.{◌≡◌, ℕ, [], ◌∷◌, None, MatchOption, IfSome, IsSome, List};
 ghost use Rattle.std.specs.Option.{IfNone};
 ghost use Rattle.st_state.specs.Machine.{Machine};
 ghost use Rattle.st_run.specs.Events.{Level};
@@ -41,20 +41,23 @@ impl Waiting {
         }
     }
 
-    /// What is told next, and no longer waits: the youngest entry that is dropped, the text, or the interrupt.
-    pub fn next(&mut self) -> Option<What>
+    /// What is told next, and no longer waits: the youngest entry that is dropped, the text, which is then the one that was
+    /// printed last, or the interrupt.
+    pub fn next(&mut self, printed: &mut ArrayString<64>) -> Option<What>
         ensures told { (s : Machine) → MatchOption result (whats_of self.old s ≡ [])
-            (λ what. whats_of self.old s ≡ what_told what s [] ∷ whats_of self.new s) }
-        ensures shown { (s t : Machine) (levels : List Level) → (IsSome self.old.taken → s ≡ t) →
-            IfSome result (λ what. what_told what s [] ≡ what_told what t levels) }
+            (λ what. whats_of self.old s ≡ what_told what 0 s [] printed.new.bytes ∷ whats_of self.new s) }
+        ensures shown { (s t : Machine) (tick : ℕ) (levels : List Level) (text : List ℕ) → (IsSome self.old.taken → s ≡ t)
+            → IfSome result (λ what. what_told what 0 s [] text ≡ what_told what tick t levels text) }
         ensures taken { IsSome self.new.taken → IsSome self.old.taken }
         ensures none { IfNone result (self.new ≡ self.old) }
     {
         if let Some((address, p)) = self.drops.pop() {
             return Some(What::Dropped { address, p });
         }
-        if let Some(text) = self.text.take() {
-            return Some(What::Printed(text));
+        if let Some(text) = self.text {
+            self.text = None;
+            *printed = text;
+            return Some(What::Printed);
         }
         let Some(indicator) = self.taken.take() else {
             return None;

@@ -15,9 +15,9 @@ use crate::moment::Moment;
 use arrayvec::ArrayString;
 use st_ahead::{LevelView, Row, View};
 use st_card::Controls;
-use st_io::{Failed, Sink};
+use st_io::{Failed, Sink, write_line};
 use st_report::{
-    line_done, line_drop, line_end, line_int, line_prt, line_ticks, line_time, line_trc,
+    LineFromEnd, fill_trc, line_done, line_drop, line_end, line_int, line_prt, line_ticks, line_time,
 };
 use st_run::{Run, Seen, Told, What};
 use st_time::{chart, level_line, snap_line};
@@ -66,32 +66,32 @@ fn write_trace<K: Sink>(
     if !is_traced(controls) {
         return Ok(());
     }
-    put(out, &line_trc(done, address))
+    let mut line = LineFromEnd::new();
+    fill_trc(&mut line, done, address);
+    write_line(out, line.as_bytes())
 }
 
 // Writes the line of a row, where the timetable is asked for.
 #[tactic(auto, using(st_io::proofs::Progress::wrote_nothing))]
-fn write_row<K: Sink>(out: &mut K, done: u64, row: Row, controls: &Controls) -> Result<(), Failed>
+fn write_row<K: Sink>(out: &mut K, row: Row, controls: &Controls) -> Result<(), Failed>
     ensures { WritesLines (K.output out.old) (K.output out.new)
-        (line_if controls.now.chart (row_line done row.address row.p row.r row.c)) result }
+        (line_if controls.now.chart (row_line row.number row.address row.p row.r row.c)) result }
 {
     if !is_charted(controls) {
         return Ok(());
     }
-    let row = Row {
-        number: done,
-        ..row
-    };
-    put(out, &chart(&row))
+    let mut line = LineFromEnd::new();
+    chart(&mut line, &row);
+    write_line(out, line.as_bytes())
 }
 
 // Writes the lines of an entry that is done.
-fn write_done<K: Sink>(out: &mut K, done: u64, row: Row, controls: &Controls) -> Result<(), Failed>
+fn write_done<K: Sink>(out: &mut K, row: Row, controls: &Controls) -> Result<(), Failed>
     ensures { WritesLines (K.output out.old) (K.output out.new)
-        (done_lines controls.now done row.address row.p row.r row.c) result }
+        (done_lines controls.now row.number row.address row.p row.r row.c) result }
 {
-    write_trace(out, done, row.address, controls)?;
-    write_row(out, done, row, controls)
+    write_trace(out, row.number, row.address, controls)?;
+    write_row(out, row, controls)
 }
 
 // Writes the line of an entry that is dropped, where the timetable is asked for.
@@ -279,13 +279,22 @@ fn write_told<K: Sink, const N: usize>(
         (lines_told controls.now (record {
           done = moment.done;
           tick = moment.tick;
-          what = what_told what run.now.seen run.now.ahead;
+          what = what_told what moment.tick run.now.seen run.now.ahead run.now.text;
         })) result }
 {
     match what {
-        What::Done(row) => write_done(out, moment.done, row, controls),
+        What::Done { address, p, r } => {
+            let row = Row {
+                number: moment.done,
+                address,
+                p,
+                r,
+                c: moment.tick,
+            };
+            write_done(out, row, controls)
+        }
         What::Dropped { address, p } => write_dropped(out, address, p, controls),
-        What::Printed(text) => write_printed(out, &text),
+        What::Printed => write_printed(out, run.printed()),
         What::Interrupted(i) => write_interrupt(out, moment, i, &run.seen(), controls),
         What::Shown(at) => {
             write_snapshot(out, at, moment.done, &run.seen(), &run.view(), controls)

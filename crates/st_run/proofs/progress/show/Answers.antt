@@ -15,5 +15,5 @@ returns-clause-told g c =
     let run = c.args.run.now in
     show-tells run.left run.tick c.in-Some.at c.in-Some.after.now run.snaps.now run.waiting run.driven run.turn c.in-Some.ensures
     c.requires.shown c.requires.turn c.requires.waits
-    ∙ ap {A = Told} (λ t. told_with t run.driven.machine ∷ rest_of run.turn run.left run.tick c.in-Some.after.now run.waiting run.driven)
+    ∙ ap {A = Told} (λ t. told_with t run.driven.machine run.printed.bytes ∷ rest_of run.turn run.left run.tick c.in-Some.after.now run.waiting run.driven)
     (sym c.at_once-2.ensures)

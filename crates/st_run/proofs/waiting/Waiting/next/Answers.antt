@@ -1,6 +1,6 @@
 use Rattle.std.proofs.Common.{refl, sym, ◌∙◌, ap}
 use Rattle.st_run.specs.Telling.{Waiting, whats}
-use Rattle.st_run.proofs.WaitingLemmas.{whats-drop, whats-text, whats-taken, whats-none, no-items, waiting-same, text-same}
+use Rattle.st_run.proofs.WaitingLemmas.{whats-drop, whats-text, whats-taken, whats-none, no-items, waiting-same}
 use Rattle.st_run.proofs.waiting.Waiting.next.Goals as goal
 
 pub returns-in-Some-clause-told : goal.returns-in-Some-clause-told
@@ -8,31 +8,29 @@ returns-in-Some-clause-told c s =
     ap (λ (w : Waiting). whats w s) (sym c.self.view_is)
     ∙ whats-drop _ c.pop.new.self.items (c.in-Some.address, c.in-Some.p) s c.in-Some.ensures.items
 
-pub returns-in-Some-take-clause-told : goal.returns-in-Some-take-clause-told
-returns-in-Some-take-clause-told c s =
+pub returns-in-Some-text-clause-told : goal.returns-in-Some-text-clause-told
+returns-in-Some-text-clause-told c s =
     let none = no-items c.self.inside.drops.items c.in_default.ensures.variant.1 in
     let same = c.in_default.ensures.empty in
     ap (λ (w : Waiting). whats w s) (sym c.self.view_is)
-    ∙ whats-text _ _ c.in-Some-take.text.bytes s none (rw (← c.in-Some-take.ensures.value) refl)
-    (rw (same, none, c.in-Some-take.ensures.after) refl)
+    ∙ whats-text _ _ c.in-Some-text.text.bytes s none (rw c.in-Some-text.is refl) (rw (same, none) refl)
 
-pub returns-in_default-take-2-clause-told : goal.returns-in_default-take-2-clause-told
-returns-in_default-take-2-clause-told c s =
+pub returns-in_default-take-clause-told : goal.returns-in_default-take-clause-told
+returns-in_default-take-clause-told c s =
     ap (λ (w : Waiting). whats w s) (sym c.self.view_is)
     ∙ whats-none _ s (no-items c.self.inside.drops.items c.in_default.ensures.variant.1)
-    (rw (← c.in_default-take.ensures.value) refl) (sym c.in_default-take-2.ensures.value)
+    (rw c.in_default-text.is refl) (sym c.in_default-take.ensures.value)
 
 pub returns-clause-told : goal.returns-clause-told
 returns-clause-told c s =
     let none = no-items c.self.inside.drops.items c.in_default.ensures.variant.1 in
     let same = c.in_default.ensures.empty in
     ap (λ (w : Waiting). whats w s) (sym c.self.view_is)
-    ∙ whats-taken _ _ c.in-Some-take-2.indicator s none (rw (← c.in_default-take.ensures.value) refl) (sym c.in-Some-take-2.ensures.value)
-    (rw (same, none, c.in_default-take.ensures.after, c.in-Some-take-2.ensures.after) refl)
+    ∙ whats-taken _ _ c.in-Some-take.indicator s none (rw c.in_default-text.is refl) (sym c.in-Some-take.ensures.value)
+    (rw (same, none, c.in_default-text.is, c.in-Some-take.ensures.after) refl)
 
-pub returns-in_default-take-2-clause-none : goal.returns-in_default-take-2-clause-none
-returns-in_default-take-2-clause-none c =
-    waiting-same _ _ (ap (λ q. q.items) c.in_default.ensures.empty)
-    (text-same _ _ _ c.in_default-take.ensures.after c.in_default-take.ensures.value)
-    (c.in_default-take-2.ensures.after ∙ c.in_default-take-2.ensures.value)
+pub returns-in_default-take-clause-none : goal.returns-in_default-take-clause-none
+returns-in_default-take-clause-none c =
+    waiting-same _ _ (ap (λ q. q.items) c.in_default.ensures.empty) refl
+    (c.in_default-take.ensures.after ∙ c.in_default-take.ensures.value)
     ∙ c.self.view_is
