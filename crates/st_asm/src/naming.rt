@@ -1,14 +1,16 @@
 //! The name pass: which names are defined, and the place of each card.
 
-ghost use Rattle.std.specs.Prelude.{◌≡◌, ◌<◌, ◌^◌, All, IfOk, IfErr, OnOk, false, ◌++◌, ◌∷◌, []};
+ghost use Rattle.std.specs.Prelude.{◌≡◌, ◌<◌, ◌^◌, ℕ, All, IfOk, IfErr, OnOk, false, ◌++◌, ◌∷◌, []};
 ghost use Rattle.st_asm.specs.Answers.{Stops, Explains};
 ghost use Rattle.st_asm.specs.Naming as spec;
 ghost use Rattle.st_asm.specs.Pass.{pass};
+ghost use Rattle.st_asm.specs.Places.{place_in, behind_in};
+ghost use Rattle.st_asm.specs.Values.{values_of as values_by};
 ghost use Rattle.st_asm.specs.Symbols.{is_defined};
 ghost use Rattle.st_strap.specs.WellFormed.{IsWellFormed, IsWellFormedIfAny};
 
 use crate::line::Line;
-use crate::places::role_of;
+use crate::places::{Role, role_of};
 use crate::stop::{AsmError, Stop};
 use crate::symbols::{knows_all, names_in};
 use crate::values::values_of;
@@ -215,8 +217,22 @@ fn placed_statement(symbols: &Symbols, location: u32, statement: &Statement) -> 
     ensures below { result.1 < 2 ^ 24 }
 {
     let role = role_of(statement);
-    let value = values_of(symbols, statement).first;
+    let value = placing_value(role, symbols, statement);
     (role.place(location, value), role.behind(location, value))
+}
+
+// The value by which a statement of this role is placed; of a statement that is placed by none it is 0.
+fn placing_value(role: Role, symbols: &Symbols, statement: &Statement) -> i64
+    ensures place { (location : ℕ) → place_in role location result
+        ≡ place_in role location (values_by symbols.now statement.now).first }
+    ensures behind { (location : ℕ) → behind_in role location result
+        ≡ behind_in role location (values_by symbols.now statement.now).first }
+{
+    if role.needs_earlier() {
+        values_of(symbols, statement).first
+    } else {
+        0
+    }
 }
 
 // A name more.

@@ -7,3 +7,4 @@ pub mod Digits
 pub mod NumberCards
 pub mod PlaceCards
 pub mod OperandCards
+pub mod FirstFields

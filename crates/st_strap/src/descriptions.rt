@@ -158,8 +158,13 @@ fn in_pieces(text: &[u8]) -> Option<Description>
     requires { length text.now ≤ 63 }
     ensures { result ≡ spec.in_pieces (parted comma text.now) }
 {
-    let fields = pieces(text);
-    match fields.as_slice() {
+    in_fields(pieces(text).as_slice())
+}
+
+fn in_fields(fields: &[Field]) -> Option<Description>
+    ensures { result ≡ spec.in_pieces (texts fields.now) }
+{
+    match fields {
         [] => None,
         [mode, more @ ..] => in_mode(mode_of(mode.text)?, more),
     }

@@ -222,11 +222,19 @@ const TRUTH_TABLES: [(&[u8], u8); 16] = [
 pub(crate) fn operation_of(word: &[u8]) -> Option<Operation>
     ensures { result ≡ spec.operation_of word.now }
 {
-    other_operation(word)
-        .or(index_operation(word))
-        .or(field_operation(word, false))
-        .or(negated_operation(word))
-        .or(connective(word))
+    if let Some(op) = other_operation(word) {
+        return Some(op);
+    }
+    if let Some(op) = index_operation(word) {
+        return Some(op);
+    }
+    if let Some(op) = field_operation(word, false) {
+        return Some(op);
+    }
+    if let Some(op) = negated_operation(word) {
+        return Some(op);
+    }
+    connective(word)
 }
 
 #[tactic(auto, unfolding(crate::specs::Table::other_operations))]

@@ -1,6 +1,6 @@
 //! The text of a statement, cut into its parts.
 
-ghost use Rattle.std.specs.Prelude.{◌≡◌, ◌≤◌, ◌==◌, not, length, filter};
+ghost use Rattle.std.specs.Prelude.{◌≡◌, ◌≤◌, ◌==◌, not, length, take, filter};
 ghost use Rattle.st_text.specs.Bytes.{blank, comma};
 ghost use Rattle.st_text.specs.Pieces.{parted};
 ghost use Rattle.st_strap.specs.Text as spec;
@@ -78,11 +78,11 @@ pub(crate) fn group_length(text: &[u8]) -> usize
     }
 }
 
-// The fields, each behind a comma.
+// The first seventeen fields, each behind a comma.
 #[tactic(auto, unfolding(crate::specs::Text::fields_of))]
 pub(crate) fn fields(text: &[u8]) -> Fields<'_>
     requires { length text.now ≤ 63 }
-    ensures { texts result.items ≡ spec.fields_of text.now }
+    ensures { texts result.items ≡ take 17 (spec.fields_of text.now) }
 {
     match text {
         [] => Fields::new(),
@@ -90,15 +90,18 @@ pub(crate) fn fields(text: &[u8]) -> Fields<'_>
     }
 }
 
-// What stands between the commas of a text.
+// The first seventeen pieces that stand between the commas of a text.
 pub(crate) fn pieces(text: &[u8]) -> Fields<'_>
     requires { length text.now ≤ 63 }
-    ensures { texts result.items ≡ parted comma text.now }
+    ensures { texts result.items ≡ take 17 (parted comma text.now) }
 {
     let mut fields = Fields::new();
     let mut rest = text;
     'pieces: while let Some((piece, after)) = cut(rest, b',') {
         fields.push(Field { text: piece });
+        if fields.is_full() {
+            return fields;
+        }
         rest = after;
     }
     fields.push(Field { text: rest });

@@ -3,6 +3,7 @@
 ghost use Rattle.std.specs.Prelude.{◌≡◌, ◌≤◌, length};
 ghost use Rattle.std.specs.Option.{option_and_then};
 ghost use Rattle.st_strap.specs.Fields.{texts};
+ghost use Rattle.st_strap.specs.Text.{fields_of};
 ghost use Rattle.st_strap.specs.Describing as describing;
 ghost use Rattle.st_strap.specs.Saying as spec;
 
@@ -99,8 +100,16 @@ fn say_formed(op: Operation, form: Form, text: &[u8]) -> Result<Statement, Fault
     let (form, behind) = progressed(op, form, text);
     match form {
         None => Err(Fault::BadProgressive),
-        Some(form) => with_fields(op, form, fields(behind).as_slice()),
+        Some(form) => with_text(op, form, behind),
     }
+}
+
+// What an operation says with its form and the text of its fields.
+fn with_text(op: Operation, form: Form, text: &[u8]) -> Result<Statement, Fault>
+    requires { length text.now ≤ 63 }
+    ensures { result ≡ spec.with_fields op form (fields_of text.now) }
+{
+    with_fields(op, form, fields(text).as_slice())
 }
 
 // What an operation says with its form and its fields.

@@ -2,24 +2,23 @@
 use super::*;
 use crate::statement::Spot;
 use st_bits::{ConnKind, VflOp};
-use st_expr::{Atom, Expr, Term};
+use st_expr::{Expr, read_expr};
 use std::process::Abort;
+use std::test::Fail;
 
-// A number as an expression.
-fn bits(number: u32) -> Expr {
-    let mut expr = Expr::new();
-    expr.push(Term {
-        minus: false,
-        atom: Atom::Number(number),
-    });
-    expr
+// A text as an expression.
+fn expr(text: &[u8]) -> Result<Expr, Fail> {
+    if text.len() > 63 {
+        return Err("too long".into());
+    }
+    Ok(read_expr(text).ok().ok_or("no expression")?)
 }
 
-fn spot(number: u32, index: u8) -> Spot {
-    Spot {
-        expr: bits(number),
+fn spot(text: &[u8], index: u8) -> Result<Spot, Fail> {
+    Ok(Spot {
+        expr: expr(text)?,
         index,
-    }
+    })
 }
 
 fn form(decimal: bool, unsigned: bool, length: u8, byte: u8, p: u8) -> Form {
@@ -32,13 +31,22 @@ fn form(decimal: bool, unsigned: bool, length: u8, byte: u8, p: u8) -> Form {
     }
 }
 
-fn says(rt: &impl Abort, name: &[u8], text: &[u8], wanted: Statement) {
+// Statements are compared as their fields are shown.
+fn says(
+    rt: &(impl Abort + AllocGlobal),
+    name: &[u8],
+    text: &[u8],
+    wanted: Statement,
+) -> Result<(), Fail> {
     assert!(rt; text.len() <= 63);
-    assert_eq!(rt; read_statement(name, text), Ok(wanted));
+    let read = read_statement(name, text).ok().ok_or("refused")?;
+    let shown = format!(in rt.alloc(); "{read:?}")?;
+    assert_eq!(rt; shown, format!(in rt.alloc(); "{wanted:?}")?);
+    Ok(())
 }
 
 #[test]
-fn reads_operations_on_fields(rt: HostRuntime) {
+fn reads_operations_on_fields(rt: HostRuntime) -> Result<(), Fail> {
     says(
         &rt,
         b"",
@@ -47,10 +55,10 @@ fn reads_operations_on_fields(rt: HostRuntime) {
             op: VflOp::MulAdd,
             negated: false,
             form: form(false, true, 64, 8, 0),
-            at: spot(128, 0),
+            at: spot(b"2.0", 0)?,
             offset: 0,
         },
-    );
+    )?;
     says(
         &rt,
         b"",
@@ -59,10 +67,10 @@ fn reads_operations_on_fields(rt: HostRuntime) {
             op: VflOp::MAdd,
             negated: true,
             form: form(true, false, 12, 6, 7),
-            at: spot(128, 1),
+            at: spot(b"2.0", 1)?,
             offset: 4,
         },
-    );
+    )?;
     says(
         &rt,
         b"",
@@ -71,14 +79,15 @@ fn reads_operations_on_fields(rt: HostRuntime) {
             kind: ConnKind::Cm,
             table: 6,
             form: form(false, true, 3, 8, 0),
-            at: spot(69, 0),
+            at: spot(b"1.5", 0)?,
             offset: 0,
         },
-    );
+    )?;
+    Ok(())
 }
 
 #[test]
-fn reads_orders_to_the_assembler(rt: HostRuntime) {
+fn reads_orders_to_the_assembler(rt: HostRuntime) -> Result<(), Fail> {
     says(
         &rt,
         b"",
@@ -88,43 +97,51 @@ fn reads_orders_to_the_assembler(rt: HostRuntime) {
             minus: true,
             number: 5,
         },
-    );
+    )?;
     says(
         &rt,
         b"",
         b"XW,5,2,7.0,3",
         Statement::IndexWord {
-            value: bits(320),
+            value: expr(b"5")?,
             count: 2,
-            refill: bits(448),
+            refill: expr(b"7.0")?,
             flags: 3,
         },
-    );
+    )?;
     says(
         &rt,
         b"",
         b"XW,5,2,7.0",
         Statement::IndexWord {
-            value: bits(320),
+            value: expr(b"5")?,
             count: 2,
-            refill: bits(448),
+            refill: expr(b"7.0")?,
             flags: 0,
         },
-    );
+    )?;
     says(
         &rt,
         b"A",
         b"SYN,100.0",
-        Statement::Synonym { at: bits(6400) },
-    );
+        Statement::Synonym {
+            at: expr(b"100.0")?,
+        },
+    )?;
     says(
         &rt,
         b"",
         b"SLC,40.0",
-        Statement::SetLocation { at: bits(2560) },
-    );
-    says(&rt, b"A", b"DR,3.0", Statement::Reserve { at: bits(192) });
-    says(&rt, b"", b"END,32.0", Statement::End { at: bits(2048) });
+        Statement::SetLocation { at: expr(b"40.0")? },
+    )?;
+    says(
+        &rt,
+        b"A",
+        b"DR,3.0",
+        Statement::Reserve { at: expr(b"3.0")? },
+    )?;
+    says(&rt, b"", b"END,32.0", Statement::End { at: expr(b"32.0")? })?;
+    Ok(())
 }
 
 #[test]
@@ -192,6 +209,6 @@ fn the_earliest_fault_counts(rt: HostRuntime) {
     ];
     for (name, text, fault) in rows {
         assert!(rt; text.len() <= 63);
-        assert_eq!(rt; read_statement(name, text), Err(fault));
+        assert_eq!(rt; read_statement(name, text).err(), Some(fault));
     }
 }

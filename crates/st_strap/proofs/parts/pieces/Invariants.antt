@@ -1,4 +1,4 @@
-use Rattle.std.proofs.Common.{◌≡◌, ◌≤◌, ◌+◌, ◌++◌, length}
+use Rattle.std.proofs.Common.{◌≡◌, ◌≤◌, ◌++◌, length}
 use Rattle.st_text.specs.Pieces.{parted}
 use Rattle.st_strap.specs.Fields.{texts}
 use Rattle.st_strap.proofs.parts.pieces.Given as goal
@@ -6,7 +6,8 @@ use Rattle.st_strap.proofs.parts.pieces.Given as goal
 abbrev pub invariant-pieces : goal.invariant-pieces
 invariant-pieces l = record {
   so_far : texts l.fields.items ++ parted 44 l.rest ≡ parted 44 l.text;
-  room : length l.fields.items + length l.rest ≤ 63;
+  room : length l.fields.items ≤ 16;
+  short : length l.rest ≤ 63;
 }
 
 abbrev pub decreases-pieces : goal.decreases-pieces
