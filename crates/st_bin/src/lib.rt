@@ -2,12 +2,10 @@
 //! `docs/variable-fields.md` has the rules.
 #![tactic(auto)]
 
-mod compares;
+mod base;
 mod conversion;
 mod operations;
 mod products;
-mod stores;
-mod sums;
 
 pub use operations::binary;
 pub use st_field::{Acc, Done, Field, Shape, digits_value, read_field, to_digits, write_field};

@@ -47,9 +47,9 @@ pub fn multiply_and_add(acc: &Acc, f: &Field, shape: &Shape, ft: u64) -> Done
     requires room { HasRoom f.now shape.now }
     ensures { result ≡ product_added acc.now f.now shape.now ft }
 {
-    let (mag, is_lost) = shift(u128::from(ft) * u128::from(f.mag), shape.offset);
-    let sum = add(signed_as(acc, acc.mag), operand(f, shape, mag));
-    let on = flag_indicators(f.flags) + lost_carry(is_lost || sum.carry);
+    let product = shift(u128::from(ft) * u128::from(f.mag), shape.offset);
+    let sum = add(signed_as(acc, acc.mag), operand(f, shape, product.value));
+    let on = flag_indicators(f.flags) + lost_carry(product.is_lost || sum.carry);
     in_accumulator(with_number(acc, sum.number), sum.number.mag, on)
 }
 

@@ -1,19 +1,16 @@
--- What every result keeps: the bits of a field that is written have room in it.
-use Rattle.std.proofs.Common.{◌≡◌, ℕ, ◌-◌, ◌*◌, ◌%◌, ◌^◌, ◌<◌, refl, subst, arith}
+-- What base 10 keeps in a field has room there.
+use Rattle.std.proofs.Common.{◌≡◌, ℕ, ◌-◌, ◌*◌, ◌%◌, ◌^◌, ◌<◌, refl, subst}
 use Rattle.std.proofs.Math.Nat.{mod-lt}
 use Rattle.std.proofs.Math.Pow.{pow_pos}
-use Rattle.std.specs.Prelude.{IfSome}
-use Rattle.st_bits.specs.declared.operations.VflOp.{VflOp}
-use Rattle.st_bits.specs.declared.operations.VflOp.TheVariants.{L, Lwf, Ltrs, Lft, St, Add, AddMg, MAdd, MAddMg, MAdd1, K, Kf, Ke, Kfe, Kr, Kfr, Mul, MulAdd, Div, Lcv}
 use Rattle.st_field.specs.declared.accumulator.Acc.{Acc}
+use Rattle.st_field.specs.declared.base.Taken.{Taken}
 use Rattle.st_field.specs.declared.fields.Field.{Field}
 use Rattle.st_field.specs.declared.fields.Shape.{Shape}
-use Rattle.st_field.specs.Fields.{HasRoom, magnitude_bits, zone_of}
-use Rattle.st_field.specs.Results.{stored_field}
-use Rattle.st_field.proofs.FieldLemmas.{field_bits-below}
+use Rattle.st_field.specs.Fields.{magnitude_bits, zone_of}
+use Rattle.st_field.proofs.ResultLaws.{KeepsLength}
 use Rattle.st_dec.specs.DigitLists.{bytes, joined, decimal}
 use Rattle.st_dec.specs.DecimalOperand.{IsDecimalShape, digit_count, digit_bytes, place, field_codes, recoded}
-use Rattle.st_dec.specs.DecimalResult.{result_of, stored_magnitude, stored, added, magnitude_added, added_to_field, magnitude_added_to_field, one_added_to_field, converted}
+use Rattle.st_dec.specs.DecimalResult.{base, stored_magnitude, converted}
 use Rattle.st_dec.proofs.ShapeLemmas.{digits-whole}
 use Rattle.st_dec.proofs.PartLemmas.{field-below, length-padded}
 use Rattle.st_dec.proofs.RecodeLemmas.{zoned_fits, recoded_fits, bytes-decimal}
@@ -30,26 +27,13 @@ summed-fits f h t is =
     (subst (λ cs. joined h.byte (recoded (digit_bytes f h) cs) < 2 ^ (h.byte * digit_count h)) digits
     (recoded_fits h.byte (digit_count h) f.mag (joined 4 (decimal (digit_count h) t)) is.code))
 
--- a field that is written has its length
-pub result_of-fits : (op : VflOp) (a : Acc) (f : Field) (h : Shape) (ind : ℕ) → IsDecimalShape h → HasRoom f h → IfSome (result_of op a f h ind).field (λ x. x < 2 ^ h.length)
-unfolding stored added magnitude_added added_to_field magnitude_added_to_field one_added_to_field converted
-result_of-fits L a f h ind is room = tt
-result_of-fits Lwf a f h ind is room = tt
-result_of-fits Ltrs a f h ind is room = tt
-result_of-fits Lft a f h ind is room = tt
-result_of-fits St a f h ind is room = field_bits-below (stored_field a h (stored_magnitude a h)) h is.shape (stored-fits a h is) (omega arith)
-result_of-fits Add a f h ind is room = tt
-result_of-fits AddMg a f h ind is room = tt
-result_of-fits MAdd a f h ind is room = field_bits-below _ h is.shape (summed-fits f h _ is) room.three_flags
-result_of-fits MAddMg a f h ind is room = field_bits-below _ h is.shape (summed-fits f h _ is) room.three_flags
-result_of-fits MAdd1 a f h ind is room = field_bits-below _ h is.shape (summed-fits f h _ is) room.three_flags
-result_of-fits K a f h ind is room = tt
-result_of-fits Kf a f h ind is room = tt
-result_of-fits Ke a f h ind is room = tt
-result_of-fits Kfe a f h ind is room = tt
-result_of-fits Kr a f h ind is room = tt
-result_of-fits Kfr a f h ind is room = tt
-result_of-fits Mul a f h ind is room = tt
-result_of-fits MulAdd a f h ind is room = tt
-result_of-fits Div a f h ind is room = tt
-result_of-fits Lcv a f h ind is room = tt
+pub keeps_length : (t : Taken) → IsDecimalShape t.shape → KeepsLength (base t) t
+unfolding converted
+keeps_length t is = record {
+  stored = stored-fits t.acc t.shape is;
+  replaced = λ n. summed-fits t.field t.shape n is;
+  product = tt;
+  product_added = λ ft. tt;
+  quotient = tt;
+  converted = tt;
+}

@@ -1,20 +1,19 @@
 //! The accumulator as decimal digits.
 ghost use Rattle.std.specs.Prelude.{◌≡◌, ◌<◌, ◌^◌};
-ghost use Rattle.st_dec.specs.DigitLists.{joined, value};
+ghost use Rattle.st_dec.specs.DigitLists.{bytes, joined, value};
 ghost use Rattle.st_dec.specs.DecimalOperand.{IsDecimalShape, place, codes_from_place as codes_from_place_of, field_codes as field_codes_of};
-ghost use Rattle.st_dec.specs.DecimalResult.{acc_value as acc_value_of};
 
 use crate::digits::digit_count;
 use st_field::fields::Shape;
 use st_field::signed::low_bits;
 use st_field::{Acc, digits_value};
 
-/// The value of the 32 digits of the accumulator.
-pub fn acc_value(acc: &Acc) -> u128
-    ensures value { result ≡ acc_value_of acc.now }
+/// The value of the 32 digits of an accumulator with the bits `mag`.
+pub fn whole_value(mag: u128) -> u128
+    ensures value { result ≡ value (bytes 4 32 mag) }
     ensures bound { result < 2 ^ 127 }
 {
-    digits_value(acc.mag)
+    digits_value(mag)
 }
 
 /// The digit of the accumulator, 0 to 31, at which the last digit of a field stands.

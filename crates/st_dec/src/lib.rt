@@ -3,7 +3,7 @@
 #![tactic(auto)]
 
 mod accumulator;
-mod compares;
+mod base;
 mod digits;
 mod loads;
 mod operand;

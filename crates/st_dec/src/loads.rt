@@ -1,25 +1,27 @@
-//! Loads of a decimal field into registers, and its value as a binary number.
+//! A decimal field in the transit register, and its value as a binary number.
 ghost use Rattle.std.specs.Prelude.{◌≡◌};
 ghost use Rattle.st_field.specs.Fields.{HasRoom};
 ghost use Rattle.st_dec.specs.DecimalOperand.{IsDecimalShape};
 ghost use Rattle.st_dec.specs.DecimalResult.{transit_set, converted};
 
 use crate::digits::codes;
-use crate::operand::{field_value, operand};
+use crate::operand::field_value;
 use st_bits::indicator;
 use st_bits::indicators::DECIMAL_TRANSIT;
 use st_field::fields::{Field, Shape};
 use st_field::indicators::flag_indicators;
-use st_field::{Acc, Done, align as align_binary, load, load_transit as load_in_transit};
+use st_field::operand::operand;
+use st_field::{Acc, Done, align, load, load_transit as load_in_transit, shift};
 
-/// Load transit and set, and what stands for multiply and divide: the codes go to the transit register.
+/// What stands for multiply and divide: the codes go to the transit register.
 pub fn load_transit(acc: &Acc, f: &Field, shape: &Shape) -> Done
     requires shape { IsDecimalShape shape.now }
     requires room { HasRoom f.now shape.now }
     ensures { result ≡ transit_set acc.now f.now shape.now }
 {
+    let operand = operand(f, shape, u128::from(field_value(f, shape)));
     let on = flag_indicators(f.flags) + indicator(DECIMAL_TRANSIT);
-    load_in_transit(acc, operand(f, shape), codes(f, shape), on)
+    load_in_transit(acc, operand, codes(f, shape), on)
 }
 
 /// Load converted: the value of the operand, loaded as a binary number.
@@ -29,9 +31,6 @@ pub fn load_converted(f: &Field, shape: &Shape) -> Done
     requires room { HasRoom f.now shape.now }
     ensures { result ≡ converted f.now shape.now }
 {
-    let binary = Field {
-        mag: field_value(f, shape),
-        ..*f
-    };
-    load(align_binary(&binary, shape))
+    let value = shift(u128::from(field_value(f, shape)), shape.offset);
+    load(align(f, shape, value))
 }

@@ -6,12 +6,10 @@ ghost use Rattle.st_dec.specs.DecimalResult.{stored, stored_magnitude as stored_
 
 use crate::accumulator::{codes_from_place, field_codes};
 use crate::digits::{digit_count, spread};
-use crate::operand::field_value;
-use st_field::accumulator::stored_field;
+use crate::operand::in_field;
 use st_field::fields::Shape;
-use st_field::indicators::partial_field;
 use st_field::signed::exceeds;
-use st_field::{Acc, Done, in_field};
+use st_field::{Acc, Kept, Taken};
 
 // The zone of the accumulator, as much of it as a byte has room for.
 fn stored_zone(acc: &Acc, shape: &Shape) -> u64
@@ -40,12 +38,12 @@ fn is_code_lost(acc: &Acc, shape: &Shape) -> bool
 }
 
 /// Store: the codes of the accumulator from the digit place on go to the field as they are.
-#[tactic(auto, unfolding(crate::specs::DecimalResult::stored))]
-pub fn store(acc: &Acc, shape: &Shape) -> Done
-    requires { IsDecimalShape shape.now }
-    ensures { result ≡ stored acc.now shape.now }
+pub fn store(taken: &Taken) -> Kept
+    requires { IsDecimalShape taken.now.shape }
+    ensures value { result ≡ stored taken.now }
+    ensures room { result.bits < 2 ^ magnitude_bits_of taken.now.shape }
 {
-    let field = stored_field(acc, shape, stored_magnitude(acc, shape));
-    let on = partial_field(is_code_lost(acc, shape));
-    in_field(acc, &field, shape, field_value(&field, shape), on)
+    let mag = stored_magnitude(&taken.acc, &taken.shape);
+    let is_lost = is_code_lost(&taken.acc, &taken.shape);
+    in_field(&taken.field, &taken.shape, mag, is_lost)
 }

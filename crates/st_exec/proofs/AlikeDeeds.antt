@@ -19,6 +19,8 @@ use Rattle.st_format.specs.Operations.{writes_field}
 use Rattle.st_state.specs.Machine.{Machine, IsMachine, word}
 use Rattle.st_state.specs.Interrupts.{applied}
 use Rattle.st_field.specs.declared.accumulator.Acc.{Acc}
+use Rattle.st_field.specs.declared.base.Taken.{Taken}
+use Rattle.st_field.specs.Bases.{InBase, result_of}
 use Rattle.st_field.specs.declared.fields.Shape.{Shape}
 use Rattle.st_field.specs.declared.outcome.Done.{Done}
 use Rattle.st_bin.specs.BinaryResult as binary
@@ -54,28 +56,18 @@ pub record SameButIndicators (d e : Done) : Type 0 where
 same_result : (d : Done) → SameButIndicators d d
 same_result d = record { acc = refl; field = refl; rm = refl; ft = refl; tr = refl; counts = refl }
 
-same-binary : (op : VflOp) (a : Acc) (x : ℕ) (h : Shape) (ft i j : ℕ)
-    → SameButIndicators (binary.result op a x h ft i) (binary.result op a x h ft j)
-unfolding binary.result
-same-binary Ke a x h ft i j = record { acc = refl; field = refl; rm = refl; ft = refl; tr = refl; counts = refl }
-same-binary Kfe a x h ft i j = record { acc = refl; field = refl; rm = refl; ft = refl; tr = refl; counts = refl }
-same-binary Kr a x h ft i j = record { acc = refl; field = refl; rm = refl; ft = refl; tr = refl; counts = refl }
-same-binary Kfr a x h ft i j = record { acc = refl; field = refl; rm = refl; ft = refl; tr = refl; counts = refl }
-same-binary _ a x h ft i j = same_result _
-
-same-decimal : (op : VflOp) (a : Acc) (x : ℕ) (h : Shape) (i j : ℕ)
-    → SameButIndicators (decimal.result op a x h i) (decimal.result op a x h j)
-unfolding decimal.result
-same-decimal Ke a x h i j = record { acc = refl; field = refl; rm = refl; ft = refl; tr = refl; counts = refl }
-same-decimal Kfe a x h i j = record { acc = refl; field = refl; rm = refl; ft = refl; tr = refl; counts = refl }
-same-decimal Kr a x h i j = record { acc = refl; field = refl; rm = refl; ft = refl; tr = refl; counts = refl }
-same-decimal Kfr a x h i j = record { acc = refl; field = refl; rm = refl; ft = refl; tr = refl; counts = refl }
-same-decimal _ a x h i j = same_result _
+same-based : (op : VflOp) (b : InBase) (t : Taken) (ft i j : ℕ) → SameButIndicators (result_of op b t ft i) (result_of op b t ft j)
+same-based Ke b t ft i j = record { acc = refl; field = refl; rm = refl; ft = refl; tr = refl; counts = refl }
+same-based Kfe b t ft i j = record { acc = refl; field = refl; rm = refl; ft = refl; tr = refl; counts = refl }
+same-based Kr b t ft i j = record { acc = refl; field = refl; rm = refl; ft = refl; tr = refl; counts = refl }
+same-based Kfr b t ft i j = record { acc = refl; field = refl; rm = refl; ft = refl; tr = refl; counts = refl }
+same-based _ b t ft i j = same_result _
 
 same-result : (d : Bool) (op : VflOp) (a : Acc) (x : ℕ) (h : Shape) (ft i j : ℕ)
     → SameButIndicators (result_by d op a x h ft i) (result_by d op a x h ft j)
-same-result false op a x h ft i j = same-binary op a x h ft i j
-same-result true op a x h ft i j = same-decimal op a x h i j
+unfolding binary.result decimal.result
+same-result false op a x h ft i j = same-based op _ _ ft i j
+same-result true op a x h ft i j = same-based op _ _ 0 i j
 
 -- ---- what is read
 

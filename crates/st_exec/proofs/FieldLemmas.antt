@@ -8,10 +8,10 @@ use Rattle.st_bits.specs.declared.operations.VflOp.TheVariants.{L, Lwf, Ltrs, Lf
 use Rattle.st_format.specs.declared.operations.FullOp.TheVariants.{Variable, Connective}
 use Rattle.st_format.specs.Operations.{writes_field}
 use Rattle.st_field.specs.declared.accumulator.Acc.{Acc}
-use Rattle.st_field.specs.declared.fields.Field.{Field}
+use Rattle.st_field.specs.declared.base.Taken.{Taken}
 use Rattle.st_field.specs.declared.fields.Shape.{Shape}
 use Rattle.st_field.specs.declared.outcome.Done.{Done}
-use Rattle.st_field.specs.Fields.{field_of}
+use Rattle.st_field.specs.Bases.{InBase, taken, result_of, transit_set, factor_set, stored, added, magnitude_added, added_to_field, magnitude_added_to_field, one_added_to_field}
 use Rattle.st_bin.specs.BinaryResult as binary
 use Rattle.st_dec.specs.DecimalResult as decimal
 use Rattle.st_prep.specs.Entry.{no_words, field_words}
@@ -26,62 +26,55 @@ use Rattle.st_exec.proofs.InsideLemmas.{inside-field_if}
 abbrev pub OnlyIf : Bool → Done → Type 0
 OnlyIf b d = IfSome d.field (λ _. b ≡ true)
 
-divided-leaves_none : (a : Acc) (f : Field) (h : Shape) → OnlyIf false (binary.divided a f h)
-unfolding binary.divided
-divided-leaves_none a f h = of_choice (OnlyIf false) (f.mag == 0) _ _ tt tt
+-- the operations that are a base's own leave no field
+record OwnLeaveNone (b : InBase) : Type 0 where
+  product : OnlyIf false b.product
+  product_added : (ft : ℕ) → OnlyIf false (b.product_added ft)
+  quotient : OnlyIf false b.quotient
+  converted : OnlyIf false b.converted
 
-binary-field : (op : VflOp) (a : Acc) (x : ℕ) (h : Shape) (ft ind : ℕ)
-    → OnlyIf (writes_field (Variable op)) (binary.result op a x h ft ind)
-unfolding binary.result binary.stored binary.added binary.magnitude_added binary.added_to_field binary.magnitude_added_to_field binary.one_added_to_field binary.product binary.product_added binary.converted
-binary-field L a x h ft ind = tt
-binary-field Lwf a x h ft ind = tt
-binary-field Ltrs a x h ft ind = tt
-binary-field Lft a x h ft ind = tt
-binary-field St a x h ft ind = refl
-binary-field Add a x h ft ind = tt
-binary-field AddMg a x h ft ind = tt
-binary-field MAdd a x h ft ind = refl
-binary-field MAddMg a x h ft ind = refl
-binary-field MAdd1 a x h ft ind = refl
-binary-field K a x h ft ind = tt
-binary-field Kf a x h ft ind = tt
-binary-field Ke a x h ft ind = tt
-binary-field Kfe a x h ft ind = tt
-binary-field Kr a x h ft ind = tt
-binary-field Kfr a x h ft ind = tt
-binary-field Mul a x h ft ind = tt
-binary-field MulAdd a x h ft ind = tt
-binary-field Div a x h ft ind = divided-leaves_none a (field_of x h) h
-binary-field Lcv a x h ft ind = tt
+based-field : (op : VflOp) (b : InBase) (t : Taken) (ft ind : ℕ) → OwnLeaveNone b
+    → OnlyIf (writes_field (Variable op)) (result_of op b t ft ind)
+unfolding transit_set factor_set stored added magnitude_added added_to_field magnitude_added_to_field one_added_to_field
+based-field L b t ft ind own = tt
+based-field Lwf b t ft ind own = tt
+based-field Ltrs b t ft ind own = tt
+based-field Lft b t ft ind own = tt
+based-field St b t ft ind own = refl
+based-field Add b t ft ind own = tt
+based-field AddMg b t ft ind own = tt
+based-field MAdd b t ft ind own = refl
+based-field MAddMg b t ft ind own = refl
+based-field MAdd1 b t ft ind own = refl
+based-field K b t ft ind own = tt
+based-field Kf b t ft ind own = tt
+based-field Ke b t ft ind own = tt
+based-field Kfe b t ft ind own = tt
+based-field Kr b t ft ind own = tt
+based-field Kfr b t ft ind own = tt
+based-field Mul b t ft ind own = own.product
+based-field MulAdd b t ft ind own = own.product_added ft
+based-field Div b t ft ind own = own.quotient
+based-field Lcv b t ft ind own = own.converted
 
-decimal-field : (op : VflOp) (a : Acc) (x : ℕ) (h : Shape) (ind : ℕ)
-    → OnlyIf (writes_field (Variable op)) (decimal.result op a x h ind)
-unfolding decimal.result decimal.stored decimal.added decimal.magnitude_added decimal.added_to_field decimal.magnitude_added_to_field decimal.one_added_to_field decimal.converted
-decimal-field L a x h ind = tt
-decimal-field Lwf a x h ind = tt
-decimal-field Ltrs a x h ind = tt
-decimal-field Lft a x h ind = tt
-decimal-field St a x h ind = refl
-decimal-field Add a x h ind = tt
-decimal-field AddMg a x h ind = tt
-decimal-field MAdd a x h ind = refl
-decimal-field MAddMg a x h ind = refl
-decimal-field MAdd1 a x h ind = refl
-decimal-field K a x h ind = tt
-decimal-field Kf a x h ind = tt
-decimal-field Ke a x h ind = tt
-decimal-field Kfe a x h ind = tt
-decimal-field Kr a x h ind = tt
-decimal-field Kfr a x h ind = tt
-decimal-field Mul a x h ind = tt
-decimal-field MulAdd a x h ind = tt
-decimal-field Div a x h ind = tt
-decimal-field Lcv a x h ind = tt
+binary-own : (t : Taken) → OwnLeaveNone (binary.base t)
+unfolding binary.product binary.product_added binary.divided binary.converted
+binary-own t = record {
+  product = tt;
+  product_added = λ ft. tt;
+  quotient = of_choice (OnlyIf false) (t.field.mag == 0) _ _ tt tt;
+  converted = tt;
+}
+
+decimal-own : (t : Taken) → OwnLeaveNone (decimal.base t)
+unfolding decimal.converted
+decimal-own t = record { product = tt; product_added = λ ft. tt; quotient = tt; converted = tt }
 
 pub result-field : (d : Bool) (op : VflOp) (a : Acc) (x : ℕ) (h : Shape) (ft ind : ℕ)
     → OnlyIf (writes_field (Variable op)) (result_by d op a x h ft ind)
-result-field false op a x h ft ind = binary-field op a x h ft ind
-result-field true op a x h ft ind = decimal-field op a x h ind
+unfolding binary.result decimal.result
+result-field false op a x h ft ind = based-field op _ _ ft ind (binary-own (taken a x h))
+result-field true op a x h ft ind = based-field op _ _ 0 ind (decimal-own (taken a x h))
 
 pub connection-field : (kind : ConnKind) (table : ℕ) (a : Acc) (offset x n : ℕ)
     → OnlyIf (writes_field (Connective kind)) (connection kind table a offset x n)

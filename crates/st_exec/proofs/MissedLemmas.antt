@@ -1,20 +1,19 @@
 -- When the guess of an entry is wrong, by its instruction and the indicators.
-use Rattle.std.proofs.Common.{◌≡◌, ℕ, ◌<◌, ◌≤◌, ◌+◌, Bool, true, false, not, ◌&&◌, ◌==◌, ◌%◌, Option, None, Some, length, refl, sym, ◌∙◌, ap, arith, get_or, get_or-set_same}
+use Rattle.std.proofs.Common.{◌≡◌, ℕ, Bool, false, not, ◌&&◌, ◌==◌, ◌%◌, refl, ◌∙◌, ap, arith, get_or-set_same}
 use Rattle.st_bits.specs.Bits.{part}
 use Rattle.st_bits.specs.Storage.{words_of_storage_is}
 use Rattle.st_format.specs.Formats.{bit_of}
 use Rattle.st_format.specs.declared.instruction.Instr.{Instr}
-use Rattle.st_format.specs.declared.instruction.Instr.TheVariants.{Half, Branch, Floating, Vfl, Connect, Move, BitBranch, IndBranch, StoreCounter, Transfer, Invalid}
+use Rattle.st_format.specs.declared.instruction.Instr.TheVariants.{BitBranch, IndBranch}
 use Rattle.st_state.specs.Interrupts.{turned}
 use Rattle.st_state.specs.Machine.{Machine, IsMachine, word}
-use Rattle.st_prep.specs.declared.entries.IndexChange.{IndexChange}
 use Rattle.st_prep.specs.declared.entries.Prepared.{Prepared}
 use Rattle.st_prep.specs.Entry.{acts_alone}
 use Rattle.st_prep.specs.Plan.{opened}
 use Rattle.st_prep.specs.Ranges.{IsPrepared}
 use Rattle.st_exec.specs.Ahead.{is_indicator_branch}
 use Rattle.st_exec.specs.Completion.{with_change, early, is_taken, is_missed}
-use Rattle.st_exec.proofs.AheadLemmas.{early-marks, change-low, change-marks}
+use Rattle.st_exec.proofs.AheadLemmas.{change-low, change-marks}
 
 -- the indicators after the early change
 early-indicators : (p : Prepared) (s : Machine) → IsMachine s → word (early p s) 11 ≡ turned 64 p.ind.on p.ind.off (word s 11)

@@ -14,6 +14,8 @@ use Rattle.st_format.proofs.Spelled.{of_choice as of_test, or-left, or-right}
 use Rattle.st_format.specs.Formats.{FitsField}
 use Rattle.st_format.specs.Validity.{misfits}
 use Rattle.st_field.specs.declared.accumulator.Acc.{Acc}
+use Rattle.st_field.specs.declared.base.Taken.{Taken}
+use Rattle.st_field.specs.Bases.{InBase, taken, result_of, transit_set, factor_set, stored, added, magnitude_added, added_to_field, magnitude_added_to_field, one_added_to_field}
 use Rattle.st_field.specs.declared.fields.Field.{Field}
 use Rattle.st_field.specs.declared.fields.Shape.{Shape}
 use Rattle.st_field.specs.declared.outcome.Done.{Done}
@@ -22,9 +24,8 @@ use Rattle.st_bin.specs.BinaryResult as binary
 use Rattle.st_field.specs.Digits.{digits_of}
 use Rattle.st_field.proofs.DigitLemmas.{digits_of-below}
 use Rattle.st_dec.specs.DecimalResult as decimal
-use Rattle.st_dec.specs.DecimalOperand.{IsDecimalShape, digit_count, digit_bytes, codes, place, codes_kept}
+use Rattle.st_dec.specs.DecimalOperand.{IsDecimalShape, digit_count, digit_bytes, codes, place}
 use Rattle.st_dec.specs.DigitLists.{joined}
-use Rattle.st_dec.specs.DigitLists as lists
 use Rattle.st_dec.proofs.DigitLemmas.{joined-below}
 use Rattle.st_dec.proofs.ListLemmas.{codes-below}
 use Rattle.st_dec.proofs.PartLemmas.{length-codes, joined-placed}
@@ -84,7 +85,49 @@ is_decimal_shape d u n p l b o f h e =
       whole = eqb-true (l % b) 0 (not-not (l % b == 0) (or-right (nat_lt b 4) (not (l % b == 0)) whole));
     }
 
+-- ---- operations in any base
+
+-- what a base leaves fits the registers
+record FitsBase (b : InBase) : Type 0 where
+  content : b.content < 2 ^ 64
+  placed : b.placed.bits < 2 ^ 128
+  summed : (n : ℕ) → (b.summed n).bits < 2 ^ 128
+  product : FitsRegisters b.product
+  product_added : (ft : ℕ) → FitsRegisters (b.product_added ft)
+  quotient : FitsRegisters b.quotient
+  converted : FitsRegisters b.converted
+
+based-fits : (op : VflOp) (b : InBase) (t : Taken) (ft ind : ℕ) → t.acc.mag < 2 ^ 128 → FitsBase b → FitsRegisters (result_of op b t ft ind)
+unfolding transit_set factor_set stored added magnitude_added added_to_field magnitude_added_to_field one_added_to_field
+based-fits L b t ft ind acc fits = fits_alone _ fits.placed refl refl refl
+based-fits Lwf b t ft ind acc fits = fits_alone _ fits.placed refl refl refl
+based-fits Ltrs b t ft ind acc fits = record { acc = acc; rm = tt; ft = tt; tr = fits.content }
+based-fits Lft b t ft ind acc fits = record { acc = acc; rm = tt; ft = fits.content; tr = tt }
+based-fits St b t ft ind acc fits = fits_alone _ acc refl refl refl
+based-fits Add b t ft ind acc fits = fits_alone _ (fits.summed _) refl refl refl
+based-fits AddMg b t ft ind acc fits = fits_alone _ (fits.summed _) refl refl refl
+based-fits MAdd b t ft ind acc fits = fits_alone _ acc refl refl refl
+based-fits MAddMg b t ft ind acc fits = fits_alone _ acc refl refl refl
+based-fits MAdd1 b t ft ind acc fits = fits_alone _ acc refl refl refl
+based-fits K b t ft ind acc fits = fits_alone _ acc refl refl refl
+based-fits Kf b t ft ind acc fits = fits_alone _ acc refl refl refl
+based-fits Ke b t ft ind acc fits = fits_alone _ acc refl refl refl
+based-fits Kfe b t ft ind acc fits = fits_alone _ acc refl refl refl
+based-fits Kr b t ft ind acc fits = fits_alone _ acc refl refl refl
+based-fits Kfr b t ft ind acc fits = fits_alone _ acc refl refl refl
+based-fits Mul b t ft ind acc fits = fits.product
+based-fits MulAdd b t ft ind acc fits = fits.product_added ft
+based-fits Div b t ft ind acc fits = fits.quotient
+based-fits Lcv b t ft ind acc fits = fits.converted
+
 -- ---- binary operations
+
+product-fits : (a : Acc) (f : Field) (h : Shape) → f.mag < 2 ^ 64 → FitsRegisters (binary.product a f h)
+unfolding binary.product
+product-fits a f h mag =
+    let part_of : a.mag / 2 ^ h.offset % 2 ^ 64 < 2 ^ 64 = mod-lt (a.mag / 2 ^ h.offset) (omega arith) in
+    let room : a.mag / 2 ^ h.offset % 2 ^ 64 * f.mag < 2 ^ 64 * 2 ^ 64 = mul-lt _ _ (2 ^ 64) (2 ^ 64) part_of mag in
+    fits_alone _ (omega arith) refl refl refl
 
 divided-fits : (a : Acc) (f : Field) (h : Shape) → a.mag < 2 ^ 128 → f.mag < 2 ^ 64 → FitsRegisters (binary.divided a f h)
 unfolding binary.divided
@@ -101,32 +144,17 @@ divided-fits a f h acc mag =
 digits_small : (v : ℕ) → digits_of 32 v < 2 ^ 128
 digits_small v = omega (arith, digits_of-below 32 v)
 
-pub binary-fits : (op : VflOp) (a : Acc) (f : Field) (h : Shape) (ft ind : ℕ) → a.mag < 2 ^ 128 → f.mag < 2 ^ 64
-    → FitsRegisters (binary.result_of op a f h ft ind)
-unfolding binary.stored binary.added binary.magnitude_added binary.added_to_field binary.magnitude_added_to_field binary.one_added_to_field binary.product binary.product_added binary.converted
-binary-fits L a f h ft ind acc mag = fits_alone _ (omega arith) refl refl refl
-binary-fits Lwf a f h ft ind acc mag = fits_alone _ (omega arith) refl refl refl
-binary-fits Ltrs a f h ft ind acc mag = record { acc = acc; rm = tt; ft = tt; tr = mag }
-binary-fits Lft a f h ft ind acc mag = record { acc = acc; rm = tt; ft = mag; tr = tt }
-binary-fits St a f h ft ind acc mag = fits_alone _ acc refl refl refl
-binary-fits Add a f h ft ind acc mag = fits_alone _ (omega arith) refl refl refl
-binary-fits AddMg a f h ft ind acc mag = fits_alone _ (omega arith) refl refl refl
-binary-fits MAdd a f h ft ind acc mag = fits_alone _ acc refl refl refl
-binary-fits MAddMg a f h ft ind acc mag = fits_alone _ acc refl refl refl
-binary-fits MAdd1 a f h ft ind acc mag = fits_alone _ acc refl refl refl
-binary-fits K a f h ft ind acc mag = fits_alone _ acc refl refl refl
-binary-fits Kf a f h ft ind acc mag = fits_alone _ acc refl refl refl
-binary-fits Ke a f h ft ind acc mag = fits_alone _ acc refl refl refl
-binary-fits Kfe a f h ft ind acc mag = fits_alone _ acc refl refl refl
-binary-fits Kr a f h ft ind acc mag = fits_alone _ acc refl refl refl
-binary-fits Kfr a f h ft ind acc mag = fits_alone _ acc refl refl refl
-binary-fits Mul a f h ft ind acc mag =
-    let part_of : a.mag / 2 ^ h.offset % 2 ^ 64 < 2 ^ 64 = mod-lt (a.mag / 2 ^ h.offset) (omega arith) in
-    let room : a.mag / 2 ^ h.offset % 2 ^ 64 * f.mag < 2 ^ 64 * 2 ^ 64 = mul-lt _ _ (2 ^ 64) (2 ^ 64) part_of mag in
-    fits_alone _ (omega arith) refl refl refl
-binary-fits MulAdd a f h ft ind acc mag = fits_alone _ (omega arith) refl refl refl
-binary-fits Div a f h ft ind acc mag = divided-fits a f h acc mag
-binary-fits Lcv a f h ft ind acc mag = fits_alone _ (digits_small _) refl refl refl
+binary-fits : (t : Taken) → t.acc.mag < 2 ^ 128 → t.field.mag < 2 ^ 64 → FitsBase (binary.base t)
+unfolding binary.product_added binary.converted
+binary-fits t acc mag = record {
+  content = mag;
+  placed = omega arith;
+  summed = λ n. omega arith;
+  product = product-fits t.acc t.field t.shape mag;
+  product_added = λ ft. fits_alone _ (omega arith) refl refl refl;
+  quotient = divided-fits t.acc t.field t.shape acc mag;
+  converted = fits_alone _ (digits_small _) refl refl refl;
+}
 
 -- ---- decimal operations
 
@@ -139,41 +167,26 @@ codes_small f h is =
     let below : joined 4 (codes f h) < 2 ^ (4 * n) = joined-below 4 (codes f h) (codes-below (digit_bytes f h)) in
     omega arith
 
-kept_small : (f : Field) (h : Shape) → joined 4 (codes_kept f h) < 2 ^ 128
-kept_small f h = omega (arith, joined-placed (place h) (digit_bytes f h))
-
-decimal_small : (t : ℕ) → joined 4 (lists.decimal 32 t) < 2 ^ 128
-decimal_small t = omega (arith, decimal_fits 32 t)
-
-pub decimal-fits : (op : VflOp) (a : Acc) (f : Field) (h : Shape) (ind : ℕ) → IsDecimalShape h → a.mag < 2 ^ 128
-    → f.mag < 2 ^ 64 → FitsRegisters (decimal.result_of op a f h ind)
-unfolding decimal.stored decimal.added decimal.magnitude_added decimal.added_to_field decimal.magnitude_added_to_field decimal.one_added_to_field decimal.converted
-decimal-fits L a f h ind is acc mag = fits_alone _ (kept_small f h) refl refl refl
-decimal-fits Lwf a f h ind is acc mag = fits_alone _ (kept_small f h) refl refl refl
-decimal-fits Ltrs a f h ind is acc mag = record { acc = acc; rm = tt; ft = tt; tr = codes_small f h is }
-decimal-fits Lft a f h ind is acc mag = record { acc = acc; rm = tt; ft = codes_small f h is; tr = tt }
-decimal-fits Add a f h ind is acc mag = fits_alone _ (decimal_small _) refl refl refl
-decimal-fits AddMg a f h ind is acc mag = fits_alone _ (decimal_small _) refl refl refl
-decimal-fits Mul a f h ind is acc mag = record { acc = acc; rm = tt; ft = tt; tr = codes_small f h is }
-decimal-fits MulAdd a f h ind is acc mag = record { acc = acc; rm = tt; ft = tt; tr = codes_small f h is }
-decimal-fits Div a f h ind is acc mag = record { acc = acc; rm = tt; ft = tt; tr = codes_small f h is }
-decimal-fits Lcv a f h ind is acc mag = fits_alone _ (omega arith) refl refl refl
-decimal-fits St a f h ind is acc mag = fits_alone _ acc refl refl refl
-decimal-fits MAdd a f h ind is acc mag = fits_alone _ acc refl refl refl
-decimal-fits MAddMg a f h ind is acc mag = fits_alone _ acc refl refl refl
-decimal-fits MAdd1 a f h ind is acc mag = fits_alone _ acc refl refl refl
-decimal-fits K a f h ind is acc mag = fits_alone _ acc refl refl refl
-decimal-fits Kf a f h ind is acc mag = fits_alone _ acc refl refl refl
-decimal-fits Ke a f h ind is acc mag = fits_alone _ acc refl refl refl
-decimal-fits Kfe a f h ind is acc mag = fits_alone _ acc refl refl refl
-decimal-fits Kr a f h ind is acc mag = fits_alone _ acc refl refl refl
-decimal-fits Kfr a f h ind is acc mag = fits_alone _ acc refl refl refl
+decimal-fits : (t : Taken) → IsDecimalShape t.shape → t.acc.mag < 2 ^ 128 → FitsBase (decimal.base t)
+unfolding decimal.converted
+decimal-fits t is acc =
+    let codes : joined 4 (codes t.field t.shape) < 2 ^ 64 = codes_small t.field t.shape is in
+    let transit : FitsRegisters (decimal.transit_set t.acc t.field t.shape) = record { acc = acc; rm = tt; ft = tt; tr = codes } in
+    record {
+      content = codes;
+      placed = omega (arith, joined-placed (place t.shape) (digit_bytes t.field t.shape));
+      summed = λ n. omega (arith, decimal_fits 32 n);
+      product = transit;
+      product_added = λ ft. transit;
+      quotient = transit;
+      converted = fits_alone _ (omega arith) refl refl refl;
+    }
 
 pub result-fits : (d : Bool) (op : VflOp) (a : Acc) (x : ℕ) (h : Shape) (ft ind : ℕ) → (d ≡ true → IsDecimalShape h)
     → a.mag < 2 ^ 128 → x < 2 ^ 64 → FitsRegisters (result_by d op a x h ft ind)
 unfolding binary.result decimal.result
-result-fits false op a x h ft ind is acc fits = binary-fits op a (field_of x h) h ft ind acc (field_mag x h fits)
-result-fits true op a x h ft ind is acc fits = decimal-fits op a (field_of x h) h ind (is refl) acc (field_mag x h fits)
+result-fits false op a x h ft ind is acc fits = based-fits op _ _ ft ind acc (binary-fits (taken a x h) acc (field_mag x h fits))
+result-fits true op a x h ft ind is acc fits = based-fits op _ _ 0 ind acc (decimal-fits (taken a x h) (is refl) acc)
 
 -- ---- connectives
 

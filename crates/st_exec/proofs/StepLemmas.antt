@@ -1,5 +1,5 @@
 -- A step: which one is made, and that it counts as one instruction.
-use Rattle.std.proofs.Common.{◌≡◌, ℕ, ◌+◌, false}
+use Rattle.std.proofs.Common.{◌≡◌, ◌+◌, false}
 use Rattle.st_state.specs.Machine.{Machine}
 use Rattle.st_prep.specs.Plan.{plan}
 use Rattle.st_exec.specs.Step.{interrupt, step, rests, IsStep}

@@ -4,3 +4,4 @@ pub mod Fields
 pub mod Digits
 pub mod Results
 pub mod Comparisons
+pub mod Bases

@@ -1,9 +1,10 @@
 -- What operations on fields have in common: their numbers, and what they leave.
-use Rattle.std.specs.Prelude.{ℕ, ◌+◌, ◌*◌, ◌%◌, ◌^◌, Bool, true, false, if◌then◌else◌, None, Some}
+use Rattle.std.specs.Prelude.{ℕ, ◌+◌, ◌%◌, ◌^◌, Bool, true, false, if◌then◌else◌, None, Some}
 use Rattle.st_bits.specs.declared.storage.Ind.{Ind}
 use Rattle.st_field.specs.declared.accumulator.Acc.{Acc}
 use Rattle.st_field.specs.declared.fields.Field.{Field}
 use Rattle.st_field.specs.declared.fields.Shape.{Shape}
+use Rattle.st_field.specs.declared.operand.Kept.{Kept}
 use Rattle.st_field.specs.declared.operand.Aligned.{Aligned}
 use Rattle.st_field.specs.declared.outcome.Done.{Done}
 use Rattle.st_field.specs.declared.signed.Signed.{Signed}
@@ -31,12 +32,16 @@ operand f h m = record { negative = exactly_one f.negative h.negated; mag = m }
 abbrev pub addend : Acc → Shape → ℕ → Signed
 addend a h m = record { negative = exactly_one (is_minus a) h.negated; mag = m }
 
--- the operand as a binary number at the offset, without what is lost past 128 bits
-abbrev pub aligned : Field → Shape → Aligned
-aligned f h = record {
-  bits = f.mag * 2 ^ h.offset % 2 ^ 128;
-  number = operand f h (f.mag * 2 ^ h.offset % 2 ^ 128);
-  on = flag_indicators f.flags + partial_field (exceeds (f.mag * 2 ^ h.offset) 128);
+-- as much of a number as n bits hold
+abbrev pub cut : ℕ → ℕ → Kept
+cut n m = record { bits = m % 2 ^ n; value = m % 2 ^ n; is_lost = exceeds m n }
+
+-- the operand at its place in the accumulator, where k is kept of it
+abbrev pub aligned : Field → Shape → Kept → Aligned
+aligned f h k = record {
+  bits = k.bits;
+  number = operand f h k.value;
+  on = flag_indicators f.flags + partial_field k.is_lost;
 }
 
 -- the accumulator with another magnitude and sign; zone and flags stay

@@ -3,21 +3,25 @@
 #![tactic(auto)]
 
 pub mod accumulator;
+mod base;
 mod comparisons;
 mod digits;
 pub mod fields;
 pub mod indicators;
 mod loads;
 pub mod operand;
+mod operations;
 mod outcome;
 pub mod signed;
 
 pub use accumulator::Acc;
+pub use base::{Base, Taken, take};
 pub use comparisons::{Compared, compare, compare_for_range, compare_if_equal};
 pub use digits::{digits_value, power_of_ten, to_digits};
 pub use fields::{Field, Shape, read_field, write_field};
 pub use loads::{load, load_factor, load_transit, load_with_flags};
-pub use operand::{Aligned, align, shift};
+pub use operand::{Aligned, Kept, align, cut, shift};
+pub use operations::operate;
 pub use outcome::{Done, done_with, in_accumulator, in_field};
 pub use signed::Signed;
 

@@ -1,12 +1,10 @@
-//! The operand of an operation, and the operand aligned with the accumulator.
-ghost use Rattle.std.specs.Prelude.{◌≡◌, ◌<◌, ◌^◌, ◌*◌, ◌%◌};
-ghost use Rattle.st_field.specs.Numbers.{exceeds as exceeds_of};
-ghost use Rattle.st_field.specs.Fields.{IsShape, HasRoom};
-ghost use Rattle.st_field.specs.Results.{operand as operand_of, number_of_field, aligned};
+//! The operand of an operation, what is kept of a number, and the operand aligned with the accumulator.
+ghost use Rattle.std.specs.Prelude.{◌≡◌, ◌<◌, ◌≤◌, ◌^◌, ◌*◌};
+ghost use Rattle.st_field.specs.Results.{operand as operand_of, number_of_field, cut as cut_of, aligned};
 
 use crate::fields::{Field, Shape};
 use crate::indicators::{flag_indicators, partial_field};
-use crate::signed::{Signed, exactly_one};
+use crate::signed::{Signed, exactly_one, exceeds, low_bits};
 
 /// The operand of an operation: `mag` with the sign of the field, inverted where the operation is negated.
 pub fn operand(f: &Field, shape: &Shape, mag: u128) -> Signed
@@ -28,13 +26,42 @@ pub fn signed_as(f: &Field, mag: u128) -> Signed
     }
 }
 
-/// A magnitude `offset` bits to the left, and whether it loses bits past the 128th.
-pub fn shift(mag: u128, offset: u8) -> (u128, bool)
+/// A number as it is put into the accumulator or into a field.
+#[derive(Clone, Copy)]
+pub struct Kept {
+    /// The bits that stand there.
+    pub bits: u128,
+    /// Their value.
+    pub value: u128,
+    /// Whether a part of the number is lost.
+    pub is_lost: bool,
+}
+
+/// A magnitude `offset` bits to the left, without what is lost past the 128th bit.
+pub fn shift(mag: u128, offset: u8) -> Kept
     requires { offset < 128 }
-    ensures magnitude { result.0 ≡ mag * 2 ^ offset % 2 ^ 128 }
-    ensures lost { result.1 ≡ exceeds_of (mag * 2 ^ offset) 128 }
+    ensures { result ≡ cut_of 128 (mag * 2 ^ offset) }
 {
-    mag.overflowing_mul(1 << offset)
+    let (bits, is_lost) = mag.overflowing_mul(1 << offset);
+    Kept {
+        bits,
+        value: bits,
+        is_lost,
+    }
+}
+
+/// As much of a magnitude as `bits` bits hold, at most 64.
+pub fn cut(mag: u128, bits: u8) -> Kept
+    requires { bits ≤ 64 }
+    ensures value { result ≡ cut_of bits mag }
+    ensures bound { result.bits < 2 ^ bits }
+{
+    let kept = u128::from(low_bits(mag, bits));
+    Kept {
+        bits: kept,
+        value: kept,
+        is_lost: exceeds(mag, bits),
+    }
 }
 
 /// An operand as it meets the accumulator.
@@ -48,17 +75,15 @@ pub struct Aligned {
     pub on: u64,
 }
 
-/// The operand as a binary number at the offset.
-pub fn align(f: &Field, shape: &Shape) -> Aligned
-    requires shape { IsShape shape.now }
-    requires room { HasRoom f.now shape.now }
-    ensures value { result ≡ aligned f.now shape.now }
+/// The operand of a field at its place in the accumulator, where `kept` is kept of it.
+pub fn align(f: &Field, shape: &Shape, kept: Kept) -> Aligned
+    requires { f.now.flags < 8 }
+    ensures value { result ≡ aligned f.now shape.now kept }
     ensures few { result.on < 2 ^ 42 }
 {
-    let (bits, is_lost) = shift(u128::from(f.mag), shape.offset);
     Aligned {
-        bits,
-        number: operand(f, shape, bits),
-        on: flag_indicators(f.flags) + partial_field(is_lost),
+        bits: kept.bits,
+        number: operand(f, shape, kept.value),
+        on: flag_indicators(f.flags) + partial_field(kept.is_lost),
     }
 }

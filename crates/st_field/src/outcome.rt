@@ -52,7 +52,7 @@ pub fn in_accumulator(acc: Acc, mag: u128, on: u64) -> Done
 }
 
 /// The field becomes `f`, whose value `mag` is the result number; the indicators `on` go on too.
-pub fn in_field(acc: &Acc, f: &Field, shape: &Shape, mag: u64, on: u64) -> Done
+pub fn in_field(acc: &Acc, f: &Field, shape: &Shape, mag: u128, on: u64) -> Done
     requires shape { IsShape shape.now }
     requires room { HasRoom f.now shape.now }
     requires few { on < 2 ^ 63 }
@@ -60,7 +60,7 @@ pub fn in_field(acc: &Acc, f: &Field, shape: &Shape, mag: u64, on: u64) -> Done
 {
     let number = Signed {
         negative: f.negative,
-        mag: u128::from(mag),
+        mag,
     };
     Done {
         field: Some(write_field(f, shape)),

@@ -1,5 +1,5 @@
 //! Numbers as sign and magnitude. Zero can have either sign, and counts as zero.
-ghost use Rattle.std.specs.Prelude.{◌≡◌, ◌≢◌, ◌<◌, ◌≤◌, ◌+ℤ◌, ◌%◌, ◌^◌, unsigned_abs};
+ghost use Rattle.std.specs.Prelude.{◌≡◌, ◌≢◌, ◌<◌, ◌≤◌, ◌+◌, ◌+ℤ◌, ◌%◌, ◌^◌, unsigned_abs, true};
 ghost use Rattle.std.specs.Ordering.{int_cmp};
 ghost use Rattle.st_field.specs.Numbers.{number_of, exactly_one as exactly_one_of, sign_after, exceeds as exceeds_of};
 ghost use Rattle.st_field.specs.Numbers.{sum_of, magnitude_sum};
@@ -37,6 +37,7 @@ fn sum_of_alike(a: Signed, b: Signed) -> Sum
     ensures magnitude { result.number.mag ≡ unsigned_abs (number_of a +ℤ number_of b) % 2 ^ 128 }
     ensures sign { result.number.negative ≡ sign_after a.negative (number_of a +ℤ number_of b) }
     ensures carry { result.carry ≡ exceeds_of (unsigned_abs (number_of a +ℤ number_of b)) 128 }
+    ensures large { result.carry ≡ true → 2 ^ 128 ≤ a.mag + b.mag }
 {
     let (mag, carry) = a.mag.overflowing_add(b.mag);
     Sum {
@@ -72,6 +73,7 @@ pub fn add(a: Signed, b: Signed) -> Sum
     ensures magnitude { result.number.mag ≡ (sum_of a b).mag % 2 ^ 128 }
     ensures sign { result.number.negative ≡ (sum_of a b).negative }
     ensures carry { result.carry ≡ exceeds_of (sum_of a b).mag 128 }
+    ensures large { result.carry ≡ true → 2 ^ 128 ≤ a.mag + b.mag }
 {
     if a.negative == b.negative {
         return sum_of_alike(a, b);
@@ -100,6 +102,7 @@ pub fn add_to_magnitude(a: Signed, b: Signed) -> Sum
     ensures magnitude { result.number.mag ≡ (magnitude_sum a b).mag % 2 ^ 128 }
     ensures sign { result.number.negative ≡ a.negative }
     ensures carry { result.carry ≡ exceeds_of (magnitude_sum a b).mag 128 }
+    ensures large { result.carry ≡ true → 2 ^ 128 ≤ a.mag + b.mag }
 {
     let (mag, carry) = if b.negative {
         (a.mag.saturating_sub(b.mag), false)

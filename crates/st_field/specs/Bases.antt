@@ -1,0 +1,161 @@
+-- What each operation on a field makes, in base 2 and in base 10. What the base decides is an argument.
+use Rattle.std.specs.Prelude.{ℕ, ◌+◌}
+use Rattle.std.specs.Ordering.{int_cmp}
+use Rattle.st_bits.specs.declared.operations.VflOp.{VflOp}
+use Rattle.st_bits.specs.declared.operations.VflOp.TheVariants.{L, Lwf, Ltrs, Lft, St, Add, AddMg, MAdd, MAddMg, MAdd1, K, Kf, Ke, Kfe, Kr, Kfr, Mul, MulAdd, Div, Lcv}
+use Rattle.st_field.specs.declared.accumulator.Acc.{Acc}
+use Rattle.st_field.specs.declared.base.Taken.{Taken}
+use Rattle.st_field.specs.declared.comparisons.Compared.{Compared}
+use Rattle.st_field.specs.declared.fields.Shape.{Shape}
+use Rattle.st_field.specs.declared.operand.Aligned.{Aligned}
+use Rattle.st_field.specs.declared.operand.Kept.{Kept}
+use Rattle.st_field.specs.declared.outcome.Done.{Done}
+use Rattle.st_field.specs.declared.signed.Signed.{Signed}
+use Rattle.st_field.specs.Comparisons.{compared, compared_if_equal, compared_for_range}
+use Rattle.st_field.specs.Fields.{IsShape, HasRoom, field_of}
+use Rattle.st_field.specs.Indicators.{lost_carry, partial_field, flag_indicators}
+use Rattle.st_field.specs.Numbers.{number_of, sum_of, magnitude_sum}
+use Rattle.st_field.specs.Results.{number_in, number_of_field, operand as operand_of, addend as addend_of, aligned as aligned_of, with_number, stored_field, in_accumulator, in_field, loaded, loaded_with_flags, transit_loaded, factor_loaded}
+
+-- what an operation takes: its shape is one, and the field has room in it
+pub record IsTaken (t : Taken) : Type 0 where
+  pub shape : IsShape t.shape
+  pub room : HasRoom t.field t.shape
+
+-- what an operation takes of a field with the bits x
+abbrev pub taken : Acc → ℕ → Shape → Taken
+taken a x h = record { acc = a; field = field_of x h; shape = h }
+
+-- what a base makes of what an operation takes
+pub record InBase : Type 0 where
+  -- the value of the accumulator, of it from the offset on, and of as much of that as the field has room for
+  pub whole : ℕ
+  pub part : ℕ
+  pub side : ℕ
+  -- the value of the field, its bits as a register takes them, and the indicators of the transit register
+  pub value : ℕ
+  pub content : ℕ
+  pub transit : ℕ
+  -- the field at its place in the accumulator, and the accumulator from the offset on as the field stores it
+  pub placed : Kept
+  pub stored : Kept
+  -- what a number makes of the accumulator, and of the field
+  pub summed : ℕ → Kept
+  pub replaced : ℕ → Kept
+  -- what *, *+ with a factor, / and LCV leave
+  pub product : Done
+  pub product_added : ℕ → Done
+  pub quotient : Done
+  pub converted : Done
+
+-- ---- what is taken
+
+-- the accumulator as a number
+abbrev pub number : InBase → Taken → Signed
+number b t = number_in t.acc b.whole
+
+-- the operand as its field holds it, and at its place in the accumulator
+abbrev pub operand : InBase → Taken → Signed
+operand b t = operand_of t.field t.shape b.value
+
+abbrev pub aligned : InBase → Taken → Aligned
+aligned b t = aligned_of t.field t.shape b.placed
+
+-- the field as a number, and what is added to it: the accumulator from the offset on
+abbrev pub field_number : InBase → Taken → Signed
+field_number b t = number_of_field t.field b.value
+
+abbrev pub addend : InBase → Taken → Signed
+addend b t = addend_of t.acc t.shape b.part
+
+-- M+1: one, which is minus where the operation is negated
+abbrev pub one : Taken → Signed
+one t = record { negative = t.shape.negated; mag = 1 }
+
+-- K: the accumulator, and the operand at its place
+unfoldable pub numbers : InBase → Taken → Compared
+numbers b t = record {
+  order = int_cmp (number_of (number b t)) (number_of (aligned b t).number);
+  on = (aligned b t).on;
+}
+
+-- KF: as much of the accumulator from the offset on as the field has room for, and the operand
+unfoldable pub fields : InBase → Taken → Compared
+fields b t = record {
+  order = int_cmp (number_of (number_in t.acc b.side)) (number_of (operand b t));
+  on = flag_indicators t.field.flags;
+}
+
+-- ---- what is left
+
+-- a number put into the accumulator; zone and flags stay
+abbrev pub put_in_accumulator : InBase → Taken → Signed → ℕ → Done
+put_in_accumulator b t n on =
+    let k : Kept = b.summed n.mag in
+    in_accumulator (with_number t.acc k.bits n.negative) k.value (on + lost_carry k.is_lost)
+
+-- a number put into the field; flags and zones stay, and an unsigned field has no sign to change
+abbrev pub put_in_field : InBase → Taken → Signed → Done
+put_in_field b t n =
+    let k : Kept = b.replaced n.mag in
+    in_field t.acc (record t.field { mag = k.bits; negative = n.negative }) t.shape k.value
+    (flag_indicators t.field.flags + lost_carry k.is_lost)
+
+-- ---- the operations
+
+-- LTRS: the content of the field goes to the transit register
+unfoldable pub transit_set : InBase → Taken → Done
+transit_set b t = transit_loaded t.acc (operand b t) b.content (flag_indicators t.field.flags + b.transit)
+
+-- LFT: it goes to the factor register
+unfoldable pub factor_set : InBase → Taken → Done
+factor_set b t = factor_loaded t.acc (operand b t) b.content (flag_indicators t.field.flags)
+
+-- ST: the accumulator from the offset on goes to the field
+unfoldable pub stored : InBase → Taken → Done
+stored b t =
+    in_field t.acc (stored_field t.acc t.shape b.stored.bits) t.shape b.stored.value
+    (partial_field b.stored.is_lost)
+
+-- +
+unfoldable pub added : InBase → Taken → Done
+added b t = put_in_accumulator b t (sum_of (number b t) (aligned b t).number) (aligned b t).on
+
+-- +MG: the sign of the accumulator stays
+unfoldable pub magnitude_added : InBase → Taken → Done
+magnitude_added b t = put_in_accumulator b t (magnitude_sum (number b t) (aligned b t).number) (aligned b t).on
+
+-- M+
+unfoldable pub added_to_field : InBase → Taken → Done
+added_to_field b t = put_in_field b t (sum_of (field_number b t) (addend b t))
+
+-- M+MG: the sign of the field stays
+unfoldable pub magnitude_added_to_field : InBase → Taken → Done
+magnitude_added_to_field b t = put_in_field b t (magnitude_sum (field_number b t) (addend b t))
+
+-- M+1
+unfoldable pub one_added_to_field : InBase → Taken → Done
+one_added_to_field b t = put_in_field b t (sum_of (field_number b t) (one t))
+
+-- the result of an operation; ft is the factor register and ind the indicators
+abbrev pub result_of : VflOp → InBase → Taken → ℕ → ℕ → Done
+result_of L b t ft ind = loaded (aligned b t)
+result_of Lwf b t ft ind = loaded_with_flags t.field (aligned b t)
+result_of Ltrs b t ft ind = transit_set b t
+result_of Lft b t ft ind = factor_set b t
+result_of St b t ft ind = stored b t
+result_of Add b t ft ind = added b t
+result_of AddMg b t ft ind = magnitude_added b t
+result_of MAdd b t ft ind = added_to_field b t
+result_of MAddMg b t ft ind = magnitude_added_to_field b t
+result_of MAdd1 b t ft ind = one_added_to_field b t
+result_of K b t ft ind = compared t.acc (numbers b t)
+result_of Kf b t ft ind = compared t.acc (fields b t)
+result_of Ke b t ft ind = compared_if_equal t.acc (numbers b t) ind
+result_of Kfe b t ft ind = compared_if_equal t.acc (fields b t) ind
+result_of Kr b t ft ind = compared_for_range t.acc (numbers b t) ind
+result_of Kfr b t ft ind = compared_for_range t.acc (fields b t) ind
+result_of Mul b t ft ind = b.product
+result_of MulAdd b t ft ind = b.product_added ft
+result_of Div b t ft ind = b.quotient
+result_of Lcv b t ft ind = b.converted
