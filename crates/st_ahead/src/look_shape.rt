@@ -46,7 +46,7 @@ impl<const N: usize> Look<N> {
         if k >= self.levels.len() {
             return None;
         }
-        let level = self.levels.ring().get(k);
+        let level = self.levels.ring().level(k);
         let ready = self.levels.plan(k).r <= tick;
         Some(LevelView {
             address: level.prepared.place.address,

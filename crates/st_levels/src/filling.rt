@@ -83,9 +83,9 @@ fn fill_level<const N: usize>(
     if !is_one_now(&plan.fills, now) {
         return;
     }
-    let level = ring.get(k);
-    let first = coming(&level.prepared, &plan.fills, 0, state, now);
-    let second = coming(&level.prepared, &plan.fills, 1, state, now);
+    let read = ring.level(k);
+    let first = coming(&read.prepared, &plan.fills, 0, state, now);
+    let second = coming(&read.prepared, &plan.fills, 1, state, now);
     put(ring, k, 0, first, now);
     put(ring, k, 1, second, now);
 }

@@ -144,7 +144,7 @@ impl<const N: usize> Levels<N> {
     {
         change(&mut self.x, prepared.index);
         self.ring
-            .push(prepared, filled.row.p, registers(prepared, state));
+            .push_prepared(prepared, filled.row.p, registers(prepared, state));
         self.plans.push(front, filled);
     }
 

@@ -10,6 +10,23 @@ use st_text::{begun, push_decimal, push_flag, push_half_address, push_hex, push_
 
 /// `ROW n a P p R r C c`: the n-th instruction done, its half-word address, and the ticks at
 /// which it was prepared, its result was ready, and it was complete.
+pub fn line_row(n: u64, address: u32, p: u64, r: u64, c: u64) -> Line
+    ensures { result.bytes ≡ row_line n address p r c }
+{
+    let mut line = begun("ROW ");
+    push_decimal(&mut line, n);
+    line.push_str(" ");
+    push_half_address(&mut line, address);
+    line.push_str(" P ");
+    push_decimal(&mut line, p);
+    line.push_str(" R ");
+    push_decimal(&mut line, r);
+    line.push_str(" C ");
+    push_decimal(&mut line, c);
+    ended(line)
+}
+
+/// The same, filled into a line of no bytes.
 pub fn fill_row(line: &mut LineFromEnd, n: u64, address: u32, p: u64, r: u64, c: u64)
     requires { line.old ≡ [] }
     ensures { line.new ≡ row_line n address p r c }

@@ -14,9 +14,9 @@ mod sweep;
 pub use cards::{line_listed, line_symbol};
 pub use from_end::LineFromEnd;
 pub use job::{line_fault, line_soak};
-pub use levels::{fill_row, line_drop, line_lev, line_snap};
+pub use levels::{fill_row, line_drop, line_lev, line_row, line_snap};
 pub use run::{
-    fill_trc, line_back, line_done, line_end, line_int, line_prt, line_ticks, line_time,
+    fill_trc, line_back, line_done, line_end, line_int, line_prt, line_ticks, line_time, line_trc,
 };
 pub use st_text::Line;
 pub use state_block::{line_dump, line_en, line_ic, line_mem, line_reg};

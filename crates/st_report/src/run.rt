@@ -6,9 +6,20 @@ ghost use Rattle.st_report.specs.Line.{trc_line, prt_line, int_line, time_line, 
 use crate::pieces::ended;
 use crate::{Line, LineFromEnd};
 use arrayvec::ArrayString;
-use st_text::{begun, push_decimal, push_short_decimal};
+use st_text::{begun, push_decimal, push_half_address, push_short_decimal};
 
 /// `TRC n a`: the n-th instruction is done. The address is a half-word address.
+pub fn line_trc(n: u64, address: u32) -> Line
+    ensures { result.bytes ≡ trc_line n address }
+{
+    let mut line = begun("TRC ");
+    push_decimal(&mut line, n);
+    line.push_str(" ");
+    push_half_address(&mut line, address);
+    ended(line)
+}
+
+/// The same, filled into a line of no bytes.
 pub fn fill_trc(line: &mut LineFromEnd, n: u64, address: u32)
     requires { line.old ≡ [] }
     ensures { line.new ≡ trc_line n address }

@@ -15,6 +15,8 @@ fn lines_have_the_texts_of_worked_reports(rt: HostRuntime) -> Result<(), Fail> {
         (line_levels(8, 23), "LEVELS 8 TICKS 23\n"),
         (line_calm(true), "CALM 1\n"),
         (line_calm(false), "CALM 0\n"),
+        (line_trc(2, 65), "TRC 2 32.32\n"),
+        (line_row(3, 68, 18, 18, 19), "ROW 3 34.0 P 18 R 18 C 19\n"),
         (line_drop(69, 11), "DROP 34.32 P 11\n"),
         (line_prt(&printed), "PRT HI\n"),
         (line_prt(&ArrayString::new()), "PRT \n"),

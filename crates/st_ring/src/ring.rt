@@ -54,9 +54,21 @@ impl<const N: usize> SpecRing<N> {
         self.len
     }
 
-    /// Appends the level of an entry that is prepared at the tick `p`, with the operand words that are there by then; it
-    /// is the youngest then. There is room, and the number of an index word that it changes is below 16.
-    pub fn push(&mut self, prepared: &Prepared, p: u64, have: [Option<u64>; 2])
+    /// Appends a level, which is the youngest then. There is room, and the number of an index word that it
+    /// changes is below 16.
+    pub fn push(&mut self, level: Level)
+        requires room { length self.old < N }
+        requires number { HasNumber level }
+        ensures levels { self.new ≡ self.old ++ level ∷ [] }
+        ensures len { length self.new ≡ length self.old + 1 }
+    {
+        self.slots[(self.head + self.len) % SLOTS] = level;
+        self.len += 1;
+    }
+
+    /// Appends the level of an entry that is prepared at the tick `p`, with the operand words that are there by then, as
+    /// `push` does: it is written where it stands.
+    pub fn push_prepared(&mut self, prepared: &Prepared, p: u64, have: [Option<u64>; 2])
         requires room { length self.old < N }
         requires number { IfSome prepared.now.index (λ c. c.number < 16) }
         ensures levels { self.new ≡ self.old ++ prepared_at prepared.now p have ∷ [] }
@@ -99,7 +111,16 @@ impl<const N: usize> SpecRing<N> {
     }
 
     /// Level k, counted from the oldest, which is 0. There is one.
-    pub fn get(&self, k: usize) -> &Level
+    pub fn get(&self, k: usize) -> Level
+        requires { k < length self.now }
+        ensures level { slice_get self.now k ≡ Some result }
+        ensures number { HasNumber result }
+    {
+        *self.level(k)
+    }
+
+    /// The same where it stands.
+    pub fn level(&self, k: usize) -> &Level
         requires { k < length self.now }
         ensures level { slice_get self.now k ≡ Some result.now }
         ensures number { HasNumber result.now }

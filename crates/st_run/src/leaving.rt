@@ -54,7 +54,7 @@ fn levels_in<const N: usize>(ring: &SpecRing<N>) -> ArrayVec<(u32, u64), 8>
 {
     let mut levels = ArrayVec::new();
     'levels: for k in 0..ring.len() {
-        let level = ring.get(k);
+        let level = ring.level(k);
         levels.push((level.prepared.place.address, level.p));
     }
     levels

@@ -7,10 +7,17 @@ ghost use Rattle.st_report.specs.Line.{row_line, drop_line as drop_line_of, snap
 ghost use Rattle.st_time.specs.Shown.{standing, change_of};
 
 use st_ahead::{LevelView, Row, View};
-use st_report::{Line, LineFromEnd, fill_row, line_drop, line_lev, line_snap};
+use st_report::{Line, LineFromEnd, fill_row, line_drop, line_lev, line_row, line_snap};
 
 /// `ROW n a P p R r C c`: an entry that is done.
-pub fn chart(line: &mut LineFromEnd, row: &Row)
+pub fn chart(row: &Row) -> Line
+    ensures { result.bytes ≡ row_line row.now.number row.now.address row.now.p row.now.r row.now.c }
+{
+    line_row(row.number, row.address, row.p, row.r, row.c)
+}
+
+/// The same, filled into a line of no bytes.
+pub fn fill_chart(line: &mut LineFromEnd, row: &Row)
     requires { line.old ≡ [] }
     ensures { line.new ≡ row_line row.now.number row.now.address row.now.p row.now.r row.now.c }
 {

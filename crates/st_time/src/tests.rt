@@ -32,8 +32,9 @@ fn lines_have_their_bytes(rt: HostRuntime) {
     };
     view.levels[0] = Some(multiplication);
     view.levels[1] = Some(addition);
+    assert_eq!(rt; chart(&row).as_str(), "ROW 4 34.32 P 20 R 22 C 27\n");
     let mut line = LineFromEnd::new();
-    chart(&mut line, &row);
+    fill_chart(&mut line, &row);
     assert_eq!(rt; line.as_bytes(), b"ROW 4 34.32 P 20 R 22 C 27\n".as_slice());
     assert_eq!(rt; drop_line(&addition).as_str(), "DROP 35.32 P 14\n");
     assert_eq!(rt; snap_line(&view).as_str(), "SNAP 26 DONE 4 AHEAD 2\n");

@@ -17,10 +17,11 @@ use st_ahead::{LevelView, Row, View};
 use st_card::Controls;
 use st_io::{Failed, Sink, write_line};
 use st_report::{
-    LineFromEnd, fill_trc, line_done, line_drop, line_end, line_int, line_prt, line_ticks, line_time,
+    LineFromEnd, fill_trc, line_done, line_drop, line_end, line_int, line_prt, line_ticks,
+    line_time,
 };
 use st_run::{Run, Seen, Told, What};
-use st_time::{chart, level_line, snap_line};
+use st_time::{fill_chart, level_line, snap_line};
 
 /// Writes the state block, with the dumps that are asked for.
 pub fn write_state<K: Sink>(out: &mut K, seen: &Seen<'_>, controls: &Controls) -> Result<(), Failed>
@@ -81,7 +82,7 @@ fn write_row<K: Sink>(out: &mut K, row: Row, controls: &Controls) -> Result<(), 
         return Ok(());
     }
     let mut line = LineFromEnd::new();
-    chart(&mut line, &row);
+    fill_chart(&mut line, &row);
     write_line(out, line.as_bytes())
 }
 

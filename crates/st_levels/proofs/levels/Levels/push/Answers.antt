@@ -17,11 +17,11 @@ invariant_of-self g c =
     let i = c.self.invariant in
     let same = ap (λ (v : LevelsView). length v.ring) c.self.view_is in
     record {
-      beside = omega (arith, c.push.ensures.len, c.push-2.ensures.len, i.beside);
-      few = omega (arith, c.push.ensures.len, c.requires.room, same);
+      beside = omega (arith, c.push_prepared.ensures.len, c.push.ensures.len, i.beside);
+      few = omega (arith, c.push_prepared.ensures.len, c.requires.room, same);
       some = i.some;
       most = i.most;
-      prepared = subst (λ (r : List Level). All P r) (sym c.push.ensures.levels) (All-push P c.self.inside.ring _ i.prepared c.requires.prepared);
+      prepared = subst (λ (r : List Level). All P r) (sym c.push_prepared.ensures.levels) (All-push P c.self.inside.ring _ i.prepared c.requires.prepared);
     }
 
 pub returns-clause-ahead : goal.returns-clause-ahead
@@ -32,11 +32,11 @@ returns-clause-ahead g c = λ ds n tick most t s f last are m some h free front 
     let p = c.args.prepared.now in
     let filled = c.args.filled.now in
     let state = c.args.state.now in
-    let new : LevelsView = record { ring = c.push.new.self; plans = c.push-2.new.self; x = c.change.new.x } in
-    let ring : new.ring ≡ v.ring ++ pushed_level p filled state ∷ [] = c.push.ensures.levels
+    let new : LevelsView = record { ring = c.push_prepared.new.self; plans = c.push.new.self; x = c.change.new.x } in
+    let ring : new.ring ≡ v.ring ++ pushed_level p filled state ∷ [] = c.push_prepared.ensures.levels
     ∙ ap₂ (λ (r : List Level) (have : List (Option ℕ)). r ++ prepared_at p filled.row.p have ∷ [])
     (ap (λ (w : LevelsView). w.ring) c.self.view_is) c.registers.ensures in
-    let plans : new.plans ≡ v.plans ++ planned c.args.front.now filled ∷ [] = c.push-2.ensures.rows
+    let plans : new.plans ≡ v.plans ++ planned c.args.front.now filled ∷ [] = c.push.ensures.rows
     ∙ ap (λ (w : LevelsView). w.plans ++ planned c.args.front.now filled ∷ []) c.self.view_is in
     let x : new.x ≡ words_after v.x p.index = c.change.ensures
     ∙ ap (λ (w : LevelsView). words_after w.x p.index) c.self.view_is in
@@ -48,4 +48,4 @@ pub returns-clause-not_done : goal.returns-clause-not_done
 returns-clause-not_done g c = λ now each late.
     let P : Plan → Type 0 = λ q. now < q.c in
     let old = subst (λ (rows : List Plan). All P rows) (sym (ap (λ (w : LevelsView). w.plans) c.self.view_is)) each in
-    subst (λ (rows : List Plan). All P rows) (sym c.push-2.ensures.rows) (All-push P c.self.inside.plans _ old late)
+    subst (λ (rows : List Plan). All P rows) (sym c.push.ensures.rows) (All-push P c.self.inside.plans _ old late)
