@@ -17,7 +17,8 @@ use st_ahead::{LevelView, Row, View};
 use st_card::Controls;
 use st_io::{Failed, Sink, write_line};
 use st_report::{
-    LineFromEnd, fill_trc, line_done, line_drop, line_end, line_int, line_prt, line_ticks, line_time,
+    LineFromEnd, fill_trc, line_done, line_drop, line_end, line_int, line_prt, line_ticks,
+    line_time,
 };
 use st_run::{Run, Seen, Told, What};
 use st_time::{chart, level_line, snap_line};
