@@ -71,7 +71,6 @@ abbrev pub base : Taken → InBase
 base t = record {
   whole = t.acc.mag;
   part = from_offset t.acc t.shape;
-  side = from_offset t.acc t.shape % 2 ^ magnitude_bits t.shape;
   value = t.field.mag;
   content = t.field.mag;
   transit = indicator BINARY_TRANSIT;

@@ -1,16 +1,20 @@
 //! Base 2: what it makes of the accumulator and a field.
-ghost use Rattle.std.specs.Prelude.{◌≡◌, ◌≤◌, ◌%◌, ◌^◌, ℕ};
+ghost use Rattle.std.specs.Prelude.{◌≡◌, ◌≤◌, ◌<◌, ◌%◌, ◌^◌, ℕ};
 ghost use Rattle.st_field.specs.Numbers.{exceeds as exceeds_of};
-ghost use Rattle.st_field.specs.Bases.{IsTaken};
-ghost use Rattle.st_bin.specs.BinaryResult.{base as base_two};
+ghost use Rattle.st_field.specs.Fields.{IsShape};
+ghost use Rattle.st_bin.specs.BinaryResult.{base as base_two, multiplied as multiplied_of};
 
-use crate::conversion::load_converted;
-use crate::products;
-use st_bits::indicator;
-use st_bits::indicators::BINARY_TRANSIT;
-use st_field::fields::magnitude_bits;
-use st_field::signed::{Sum, exceeds, low_bits};
-use st_field::{Base, Done, Kept, Taken, cut, shift};
+use crate::conversion::place_digits;
+use st_bits::indicators::{BINARY_TRANSIT, ZERO_DIVISOR};
+use st_bits::{Ind, indicator};
+use st_field::accumulator::{signed_as, with_number};
+use st_field::fields::{is_minus, magnitude_bits};
+use st_field::indicators::{flag_indicators, lost_carry, partial_field};
+use st_field::operand::operand;
+use st_field::signed::{Signed, Sum, add, exactly_one, exceeds, low_bits};
+use st_field::{
+    Aligned, Base, Done, Kept, Taken, cut, done_with, in_accumulator, load, shift, to_digits,
+};
 
 // Whether a sum has no room in `bits` bits.
 #[tactic(auto, using(st_field::proofs::FieldLemmas::exceeds_kept))]
@@ -22,13 +26,26 @@ fn is_lost(sum: Sum, bits: u8) -> bool
     sum.carry || exceeds(sum.number.mag, bits)
 }
 
+// A product or quotient goes to the accumulator: minus where exactly one of accumulator and operand is minus.
+fn multiplied(taken: &Taken, mag: u128, on: u64) -> Done
+    requires { on < 2 ^ 63 }
+    ensures { result ≡ multiplied_of taken.now.acc taken.now.field taken.now.shape mag on }
+{
+    let operand = operand(&taken.field, &taken.shape, mag);
+    let number = Signed {
+        negative: exactly_one(is_minus(taken.acc.sb), operand.negative),
+        mag,
+    };
+    in_accumulator(with_number(&taken.acc, number), mag, on)
+}
+
 /// Base 2.
 pub struct Two;
 
 impl Base for Two {
     ghost base = { base_two };
 
-    ghost Fits = { IsTaken };
+    ghost Allows = { IsShape };
 
     ghost limit = { 2 ^ 128 };
 
@@ -38,11 +55,6 @@ impl Base for Two {
 
     fn part(taken: &Taken) -> u128 {
         taken.acc.mag >> taken.shape.offset
-    }
-
-    fn side(taken: &Taken) -> u128 {
-        let bits = magnitude_bits(&taken.shape);
-        u128::from(low_bits(taken.acc.mag >> taken.shape.offset, bits))
     }
 
     fn value(taken: &Taken) -> u64 {
@@ -85,19 +97,51 @@ impl Base for Two {
         }
     }
 
+    #[tactic(auto, unfolding(crate::specs::BinaryResult::product))]
     fn multiply(taken: &Taken) -> Done {
-        products::multiply(&taken.acc, &taken.field, &taken.shape)
+        let factor = taken.acc.mag >> taken.shape.offset;
+        let mag = u128::from(low_bits(factor, 64)) * u128::from(taken.field.mag);
+        let on = flag_indicators(taken.field.flags) + partial_field(exceeds(factor, 64));
+        multiplied(taken, mag, on)
     }
 
+    #[tactic(auto, unfolding(crate::specs::BinaryResult::product_added))]
     fn multiply_and_add(taken: &Taken, ft: u64) -> Done {
-        products::multiply_and_add(&taken.acc, &taken.field, &taken.shape, ft)
+        let Taken { acc, field, shape } = taken;
+        let product = shift(u128::from(ft) * u128::from(field.mag), shape.offset);
+        let sum = add(
+            signed_as(acc, acc.mag),
+            operand(field, shape, product.value),
+        );
+        let on = flag_indicators(field.flags) + lost_carry(product.is_lost || sum.carry);
+        in_accumulator(with_number(acc, sum.number), sum.number.mag, on)
     }
 
+    #[tactic(auto, unfolding(crate::specs::BinaryResult::divided))]
     fn divide(taken: &Taken) -> Done {
-        products::divide(&taken.acc, &taken.field, &taken.shape)
+        if taken.field.mag == 0 {
+            let ind = Ind {
+                on: indicator(ZERO_DIVISOR),
+                off: 0,
+            };
+            return done_with(&taken.acc, ind);
+        }
+        let dividend = taken.acc.mag >> taken.shape.offset;
+        let divisor = u128::from(taken.field.mag);
+        let on = flag_indicators(taken.field.flags);
+        Done {
+            rm: Some((dividend % divisor) as u64),
+            ..multiplied(taken, dividend / divisor, on)
+        }
     }
 
+    #[tactic(auto, unfolding(crate::specs::BinaryResult::converted))]
     fn convert(taken: &Taken) -> Done {
-        load_converted(&taken.field, &taken.shape)
+        let (mag, is_lost) = place_digits(taken.field.mag, taken.shape.offset / 4);
+        load(Aligned {
+            bits: to_digits(mag),
+            number: operand(&taken.field, &taken.shape, mag),
+            on: flag_indicators(taken.field.flags) + partial_field(is_lost),
+        })
     }
 }

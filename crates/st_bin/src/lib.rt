@@ -5,7 +5,6 @@
 mod base;
 mod conversion;
 mod operations;
-mod products;
 
 pub use operations::binary;
 pub use st_field::{Acc, Done, Field, Shape, digits_value, read_field, to_digits, write_field};

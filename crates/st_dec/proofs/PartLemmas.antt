@@ -53,11 +53,6 @@ joined-field n p m = joined-padded n (drop p (bytes 4 32 m)) (from-below p m)
 pub field-below : (n p m : ℕ) → AllBelow 4 (padded n (drop p (bytes 4 32 m)))
 field-below n p m = padded-below n (drop p (bytes 4 32 m)) (from-below p m)
 
-pub value-field : (n p m d : ℕ) → n ≤ 32 → d ≡ joined 4 (padded n (drop p (bytes 4 32 m))) → value_of 32 d ≡ value (padded n (drop p (bytes 4 32 m)))
-value-field n p m d few is =
-    let short : length (padded n (drop p (bytes 4 32 m))) ≤ 32 = rw (length-padded n (drop p (bytes 4 32 m))) few in
-    rw is (value-joined 32 (padded n (drop p (bytes 4 32 m))) (field-below n p m) short)
-
 -- the codes of a field
 pub length-codes : (b n m : ℕ) → length (map (λ d. d % 16) (bytes b n m)) ≡ n
 length-codes b n m = rw (length-map, length-bytes) refl

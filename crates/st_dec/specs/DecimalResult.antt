@@ -11,15 +11,10 @@ use Rattle.st_field.specs.declared.operand.Kept.{Kept}
 use Rattle.st_field.specs.declared.outcome.Done.{Done}
 use Rattle.st_field.specs.Bases.{InBase, taken, result_of}
 use Rattle.st_field.specs.Indicators.{flag_indicators}
-use Rattle.st_field.specs.Fields.{zone_of, HasRoom}
+use Rattle.st_field.specs.Fields.{zone_of}
 use Rattle.st_field.specs.Results.{operand, cut, aligned, loaded, transit_loaded}
 use Rattle.st_dec.specs.DigitLists.{bytes, joined, value, decimal}
-use Rattle.st_dec.specs.DecimalOperand.{IsDecimalShape, digit_count, digit_bytes, codes, field_value, recoded, zoned, acc_codes, codes_from_place, field_codes, codes_left_out, codes_kept, codes_lost, any_code}
-
--- what a decimal operation takes
-pub record IsDecimal (t : Taken) : Type 0 where
-  pub shape : IsDecimalShape t.shape
-  pub room : HasRoom t.field t.shape
+use Rattle.st_dec.specs.DecimalOperand.{digit_count, digit_bytes, codes, field_value, recoded, zoned, acc_codes, codes_from_place, field_codes, codes_left_out, codes_kept, codes_lost, any_code}
 
 -- ---- what is kept
 
@@ -74,7 +69,6 @@ abbrev pub base : Taken → InBase
 base t = record {
   whole = value (acc_codes t.acc);
   part = value (codes_from_place t.acc t.shape);
-  side = value (field_codes t.acc t.shape);
   value = field_value t.field t.shape;
   content = joined 4 (codes t.field t.shape);
   transit = indicator DECIMAL_TRANSIT;

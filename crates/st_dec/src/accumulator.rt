@@ -49,11 +49,3 @@ pub fn value_from_place(acc: &Acc, shape: &Shape) -> u128
 {
     digits_value(codes_from_place(acc, shape))
 }
-
-/// The value of as many of these as the field has digits.
-pub fn field_side(acc: &Acc, shape: &Shape) -> u128
-    requires { IsDecimalShape shape.now }
-    ensures { result ≡ value (field_codes_of acc.now shape.now) }
-{
-    digits_value(u128::from(field_codes(acc, shape)))
-}

@@ -1,17 +1,17 @@
 //! Base 10: what it makes of the accumulator and a field.
 ghost use Rattle.std.specs.Prelude.{◌^◌};
-ghost use Rattle.st_dec.specs.DecimalResult.{IsDecimal, base as base_ten};
+ghost use Rattle.st_dec.specs.DecimalOperand.{IsDecimalShape};
+ghost use Rattle.st_dec.specs.DecimalResult.{base as base_ten};
 
-use crate::accumulator::{field_side, value_from_place, whole_value};
-use crate::digits::codes;
-use crate::loads::{load_converted, load_transit};
-use crate::operand::{field_value, place};
-use crate::stores::store;
-use crate::sums::{sum_in_accumulator, sum_in_field};
+use crate::accumulator::{digit_place, value_from_place, whole_value};
+use crate::digits::{codes, to_decimal};
+use crate::loads::load_transit;
+use crate::operand::{field_value, in_field, with_digits};
+use crate::stores::{is_code_lost, stored_magnitude};
 use st_bits::indicator;
 use st_bits::indicators::DECIMAL_TRANSIT;
 use st_field::signed::Sum;
-use st_field::{Base, Done, Kept, Taken};
+use st_field::{Base, Done, Kept, Taken, align, digits_value, load, shift};
 
 /// Base 10.
 pub struct Ten;
@@ -19,7 +19,7 @@ pub struct Ten;
 impl Base for Ten {
     ghost base = { base_ten };
 
-    ghost Fits = { IsDecimal };
+    ghost Allows = { IsDecimalShape };
 
     ghost limit = { 2 ^ 127 };
 
@@ -29,10 +29,6 @@ impl Base for Ten {
 
     fn part(taken: &Taken) -> u128 {
         value_from_place(&taken.acc, &taken.shape)
-    }
-
-    fn side(taken: &Taken) -> u128 {
-        field_side(&taken.acc, &taken.shape)
     }
 
     fn value(taken: &Taken) -> u64 {
@@ -48,19 +44,31 @@ impl Base for Ten {
     }
 
     fn placed(taken: &Taken) -> Kept {
-        place(&taken.field, &taken.shape)
+        let codes = codes(&taken.field, &taken.shape);
+        let codes = shift(u128::from(codes), 4 * digit_place(&taken.shape));
+        Kept {
+            value: digits_value(codes.bits),
+            ..codes
+        }
     }
 
     fn stored(taken: &Taken) -> Kept {
-        store(taken)
+        let mag = stored_magnitude(&taken.acc, &taken.shape);
+        let is_lost = is_code_lost(&taken.acc, &taken.shape);
+        in_field(&taken.field, &taken.shape, mag, is_lost)
     }
 
     fn summed(_taken: &Taken, sum: Sum) -> Kept {
-        sum_in_accumulator(sum.number.mag)
+        let (bits, is_lost) = to_decimal(sum.number.mag, 32);
+        Kept {
+            bits,
+            value: whole_value(bits),
+            is_lost,
+        }
     }
 
     fn replaced(taken: &Taken, sum: Sum) -> Kept {
-        sum_in_field(&taken.field, &taken.shape, sum.number.mag)
+        with_digits(&taken.field, &taken.shape, sum.number.mag)
     }
 
     fn multiply(taken: &Taken) -> Done {
@@ -75,7 +83,10 @@ impl Base for Ten {
         load_transit(&taken.acc, &taken.field, &taken.shape)
     }
 
+    #[tactic(auto, unfolding(crate::specs::DecimalResult::converted))]
     fn convert(taken: &Taken) -> Done {
-        load_converted(&taken.field, &taken.shape)
+        let value = u128::from(field_value(&taken.field, &taken.shape));
+        let value = shift(value, taken.shape.offset);
+        load(align(&taken.field, &taken.shape, value))
     }
 }

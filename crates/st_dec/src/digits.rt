@@ -5,13 +5,14 @@
 //! field, byte of 5   zcccc zcccc zcccc
 //! codes              cccccccccccc
 //! ```
-ghost use Rattle.std.specs.Prelude.{◌≡◌, ◌-◌, ◌*◌, ◌<◌, ◌≤◌, ◌^◌};
+ghost use Rattle.std.specs.Prelude.{◌≡◌, ◌-◌, ◌*◌, ◌<◌, ◌≤◌, ◌^◌, nat_le};
 ghost use Rattle.st_field.specs.Fields.{HasRoom, magnitude_bits as magnitude_bits_of};
-ghost use Rattle.st_dec.specs.DigitLists.{bytes, joined};
+ghost use Rattle.st_dec.specs.DigitLists.{bytes, joined, decimal as decimal_of};
 ghost use Rattle.st_dec.specs.DecimalOperand.{IsDecimalShape, digit_count as digit_count_of, digit_bytes, codes as codes_of};
 ghost use Rattle.st_dec.specs.DecimalOperand.{zoned, recoded as recoded_of};
 
 use st_field::fields::{Field, Shape, magnitude_bits};
+use st_field::{power_of_ten, to_digits};
 
 /// How many digits a field has.
 #[tactic(auto, using(crate::proofs::ShapeLemmas::count_rules))]
@@ -66,4 +67,15 @@ pub fn recoded(f: &Field, new_codes: u64, shape: &Shape) -> u64
 {
     let zones = f.mag - spread(codes(f, shape), 0, shape);
     zones + spread(new_codes, 0, shape)
+}
+
+/// The `count` lowest decimal digits of a number, four bits each, and whether it has more.
+pub fn to_decimal(mag: u128, count: u8) -> (u128, bool)
+    requires { count ≤ 32 }
+    ensures digits { result.0 ≡ joined 4 (decimal_of count mag) }
+    ensures fits { result.0 < 2 ^ (4 * count) }
+    ensures lost { result.1 ≡ nat_le (10 ^ count) mag }
+{
+    let limit = power_of_ten(count);
+    (to_digits(mag % limit), mag >= limit)
 }

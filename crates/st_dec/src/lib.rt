@@ -9,7 +9,6 @@ mod loads;
 mod operand;
 mod operations;
 mod stores;
-mod sums;
 
 pub use operations::decimal;
 

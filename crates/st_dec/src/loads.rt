@@ -1,8 +1,8 @@
-//! A decimal field in the transit register, and its value as a binary number.
+//! A decimal field in the transit register.
 ghost use Rattle.std.specs.Prelude.{◌≡◌};
 ghost use Rattle.st_field.specs.Fields.{HasRoom};
 ghost use Rattle.st_dec.specs.DecimalOperand.{IsDecimalShape};
-ghost use Rattle.st_dec.specs.DecimalResult.{transit_set, converted};
+ghost use Rattle.st_dec.specs.DecimalResult.{transit_set};
 
 use crate::digits::codes;
 use crate::operand::field_value;
@@ -11,7 +11,7 @@ use st_bits::indicators::DECIMAL_TRANSIT;
 use st_field::fields::{Field, Shape};
 use st_field::indicators::flag_indicators;
 use st_field::operand::operand;
-use st_field::{Acc, Done, align, load, load_transit as load_in_transit, shift};
+use st_field::{Acc, Done, load_transit as load_in_transit};
 
 /// What stands for multiply and divide: the codes go to the transit register.
 pub fn load_transit(acc: &Acc, f: &Field, shape: &Shape) -> Done
@@ -22,15 +22,4 @@ pub fn load_transit(acc: &Acc, f: &Field, shape: &Shape) -> Done
     let operand = operand(f, shape, u128::from(field_value(f, shape)));
     let on = flag_indicators(f.flags) + indicator(DECIMAL_TRANSIT);
     load_in_transit(acc, operand, codes(f, shape), on)
-}
-
-/// Load converted: the value of the operand, loaded as a binary number.
-#[tactic(auto, unfolding(crate::specs::DecimalResult::converted))]
-pub fn load_converted(f: &Field, shape: &Shape) -> Done
-    requires shape { IsDecimalShape shape.now }
-    requires room { HasRoom f.now shape.now }
-    ensures { result ≡ converted f.now shape.now }
-{
-    let value = shift(u128::from(field_value(f, shape)), shape.offset);
-    load(align(f, shape, value))
 }

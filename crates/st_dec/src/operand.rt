@@ -1,13 +1,12 @@
-//! The operand of a decimal operation, as its field holds it and at its place in the accumulator.
+//! A decimal field: its value, and other digits in it.
 ghost use Rattle.std.specs.Prelude.{◌≡◌, ◌<◌, ◌^◌};
-ghost use Rattle.st_field.specs.Fields.{magnitude_bits as magnitude_bits_of};
+ghost use Rattle.st_field.specs.Fields.{HasRoom, magnitude_bits as magnitude_bits_of};
 ghost use Rattle.st_dec.specs.DecimalOperand.{IsDecimalShape, field_value as field_value_of};
-ghost use Rattle.st_dec.specs.DecimalResult.{placed, in_field as in_field_of};
+ghost use Rattle.st_dec.specs.DecimalResult.{in_field as in_field_of, replaced};
 
-use crate::accumulator::digit_place;
-use crate::digits::codes;
+use crate::digits::{codes, digit_count, recoded, to_decimal};
 use st_field::fields::{Field, Shape};
-use st_field::{Kept, digits_value, shift};
+use st_field::{Kept, digits_value};
 
 /// The value of a field without its sign.
 pub fn field_value(f: &Field, shape: &Shape) -> u64
@@ -33,15 +32,13 @@ pub fn in_field(f: &Field, shape: &Shape, mag: u64, is_lost: bool) -> Kept
     }
 }
 
-/// The operand with its last digit at the digit place.
-pub fn place(f: &Field, shape: &Shape) -> Kept
-    requires { IsDecimalShape shape.now }
-    ensures value { result ≡ placed f.now shape.now }
-    ensures bound { result.value < 2 ^ 127 }
+/// A field with decimal digits of a number, as many as there is room for. The zones stay.
+pub fn with_digits(f: &Field, shape: &Shape, number: u128) -> Kept
+    requires shape { IsDecimalShape shape.now }
+    requires room { HasRoom f.now shape.now }
+    ensures value { result ≡ replaced f.now shape.now number }
+    ensures room { result.bits < 2 ^ magnitude_bits_of shape.now }
 {
-    let codes = shift(u128::from(codes(f, shape)), 4 * digit_place(shape));
-    Kept {
-        value: digits_value(codes.bits),
-        ..codes
-    }
+    let (digits, is_lost) = to_decimal(number, digit_count(shape));
+    in_field(f, shape, recoded(f, digits as u64, shape), is_lost)
 }

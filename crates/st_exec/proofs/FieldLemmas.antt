@@ -11,7 +11,7 @@ use Rattle.st_field.specs.declared.accumulator.Acc.{Acc}
 use Rattle.st_field.specs.declared.base.Taken.{Taken}
 use Rattle.st_field.specs.declared.fields.Shape.{Shape}
 use Rattle.st_field.specs.declared.outcome.Done.{Done}
-use Rattle.st_field.specs.Bases.{InBase, taken, result_of, transit_set, factor_set, stored, added, magnitude_added, added_to_field, magnitude_added_to_field, one_added_to_field}
+use Rattle.st_field.specs.Bases.{InBase, taken, result_of, stored}
 use Rattle.st_bin.specs.BinaryResult as binary
 use Rattle.st_dec.specs.DecimalResult as decimal
 use Rattle.st_prep.specs.Entry.{no_words, field_words}
@@ -35,7 +35,7 @@ record OwnLeaveNone (b : InBase) : Type 0 where
 
 based-field : (op : VflOp) (b : InBase) (t : Taken) (ft ind : ℕ) → OwnLeaveNone b
     → OnlyIf (writes_field (Variable op)) (result_of op b t ft ind)
-unfolding transit_set factor_set stored added magnitude_added added_to_field magnitude_added_to_field one_added_to_field
+unfolding stored
 based-field L b t ft ind own = tt
 based-field Lwf b t ft ind own = tt
 based-field Ltrs b t ft ind own = tt

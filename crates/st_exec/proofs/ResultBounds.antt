@@ -15,7 +15,7 @@ use Rattle.st_format.specs.Formats.{FitsField}
 use Rattle.st_format.specs.Validity.{misfits}
 use Rattle.st_field.specs.declared.accumulator.Acc.{Acc}
 use Rattle.st_field.specs.declared.base.Taken.{Taken}
-use Rattle.st_field.specs.Bases.{InBase, taken, result_of, transit_set, factor_set, stored, added, magnitude_added, added_to_field, magnitude_added_to_field, one_added_to_field}
+use Rattle.st_field.specs.Bases.{InBase, taken, result_of, stored}
 use Rattle.st_field.specs.declared.fields.Field.{Field}
 use Rattle.st_field.specs.declared.fields.Shape.{Shape}
 use Rattle.st_field.specs.declared.outcome.Done.{Done}
@@ -98,7 +98,7 @@ record FitsBase (b : InBase) : Type 0 where
   converted : FitsRegisters b.converted
 
 based-fits : (op : VflOp) (b : InBase) (t : Taken) (ft ind : ℕ) → t.acc.mag < 2 ^ 128 → FitsBase b → FitsRegisters (result_of op b t ft ind)
-unfolding transit_set factor_set stored added magnitude_added added_to_field magnitude_added_to_field one_added_to_field
+unfolding stored
 based-fits L b t ft ind acc fits = fits_alone _ fits.placed refl refl refl
 based-fits Lwf b t ft ind acc fits = fits_alone _ fits.placed refl refl refl
 based-fits Ltrs b t ft ind acc fits = record { acc = acc; rm = tt; ft = tt; tr = fits.content }

@@ -1,5 +1,5 @@
 -- What an operation does once its operands are there.
-use Rattle.std.specs.Prelude.{ℕ, zero, suc, ◌+◌, ◌-◌, ◌*◌, ◌/◌, ◌%◌, ◌≤◌, ◌<◌, ◌^◌, Bool, true, false, if◌then◌else◌, Option, Some, is_some, IfSome}
+use Rattle.std.specs.Prelude.{ℕ, zero, suc, ◌+◌, ◌*◌, ◌/◌, ◌%◌, ◌≤◌, ◌<◌, ◌^◌, ◌==◌, Bool, true, false, if◌then◌else◌, Option, Some, is_some, IfSome}
 use Rattle.st_bits.specs.Bits.{bits}
 use Rattle.st_bits.specs.Storage.{words_of_storage}
 use Rattle.st_bits.specs.declared.operations.HalfOp.{HalfOp}
@@ -46,7 +46,7 @@ abbrev pub bit_deed : ℕ → ℕ → ℕ → Deed
 bit_deed zero e b = Rest
 bit_deed (suc zero) e b = Put e 1 0
 bit_deed (suc (suc zero)) e b = Put e 1 1
-bit_deed (suc (suc (suc _))) e b = Put e 1 (1 - b)
+bit_deed (suc (suc (suc _))) e b = Put e 1 (if b == 0 then 1 else 0)
 
 -- BI turns its indicator off, where it is to
 abbrev pub indicator_deed : Bool → ℕ → Deed

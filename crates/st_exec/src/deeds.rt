@@ -99,7 +99,8 @@ fn bit_deed(change: u8, e: u32, bit: u64) -> Deed
         0 => return Deed::Rest,
         1 => 0,
         2 => 1,
-        _ => 1 - bit,
+        _ if bit == 0 => 1,
+        _ => 0,
     };
     Deed::Put {
         at: e,

@@ -5,9 +5,9 @@ use Rattle.st_bits.specs.declared.operations.VflOp.{VflOp}
 use Rattle.st_bits.specs.declared.operations.VflOp.TheVariants.{L, Lwf, Ltrs, Lft, St, Add, AddMg, MAdd, MAddMg, MAdd1, K, Kf, Ke, Kfe, Kr, Kfr, Mul, MulAdd, Div, Lcv}
 use Rattle.st_field.specs.declared.base.Taken.{Taken}
 use Rattle.st_field.specs.declared.outcome.Done.{Done}
-use Rattle.st_field.specs.Fields.{magnitude_bits}
+use Rattle.st_field.specs.Fields.{IsShape, HasRoom, magnitude_bits}
 use Rattle.st_field.specs.Results.{stored_field}
-use Rattle.st_field.specs.Bases.{IsTaken, InBase, result_of, transit_set, factor_set, stored, added, magnitude_added, added_to_field, magnitude_added_to_field, one_added_to_field}
+use Rattle.st_field.specs.Bases.{InBase, result_of, stored}
 use Rattle.st_field.proofs.FieldLemmas.{field_bits-below}
 
 -- the bits of a field that is written are its length
@@ -23,25 +23,25 @@ pub record KeepsLength (b : InBase) (t : Taken) : Type 0 where
   pub quotient : IsInField t b.quotient
   pub converted : IsInField t b.converted
 
-pub result_of-fits : (op : VflOp) (b : InBase) (t : Taken) (ft ind : ℕ) → IsTaken t → KeepsLength b t → IsInField t (result_of op b t ft ind)
-unfolding transit_set factor_set stored added magnitude_added added_to_field magnitude_added_to_field one_added_to_field
-result_of-fits L b t ft ind is keeps = tt
-result_of-fits Lwf b t ft ind is keeps = tt
-result_of-fits Ltrs b t ft ind is keeps = tt
-result_of-fits Lft b t ft ind is keeps = tt
-result_of-fits St b t ft ind is keeps = field_bits-below (stored_field t.acc t.shape b.stored.bits) t.shape is.shape keeps.stored (omega arith)
-result_of-fits Add b t ft ind is keeps = tt
-result_of-fits AddMg b t ft ind is keeps = tt
-result_of-fits MAdd b t ft ind is keeps = field_bits-below _ t.shape is.shape (keeps.replaced _) is.room.three_flags
-result_of-fits MAddMg b t ft ind is keeps = field_bits-below _ t.shape is.shape (keeps.replaced _) is.room.three_flags
-result_of-fits MAdd1 b t ft ind is keeps = field_bits-below _ t.shape is.shape (keeps.replaced _) is.room.three_flags
-result_of-fits K b t ft ind is keeps = tt
-result_of-fits Kf b t ft ind is keeps = tt
-result_of-fits Ke b t ft ind is keeps = tt
-result_of-fits Kfe b t ft ind is keeps = tt
-result_of-fits Kr b t ft ind is keeps = tt
-result_of-fits Kfr b t ft ind is keeps = tt
-result_of-fits Mul b t ft ind is keeps = keeps.product
-result_of-fits MulAdd b t ft ind is keeps = keeps.product_added ft
-result_of-fits Div b t ft ind is keeps = keeps.quotient
-result_of-fits Lcv b t ft ind is keeps = keeps.converted
+pub result_of-fits : (op : VflOp) (b : InBase) (t : Taken) (ft ind : ℕ) → IsShape t.shape → HasRoom t.field t.shape → KeepsLength b t → IsInField t (result_of op b t ft ind)
+unfolding stored
+result_of-fits L b t ft ind shape room keeps = tt
+result_of-fits Lwf b t ft ind shape room keeps = tt
+result_of-fits Ltrs b t ft ind shape room keeps = tt
+result_of-fits Lft b t ft ind shape room keeps = tt
+result_of-fits St b t ft ind shape room keeps = field_bits-below (stored_field t.acc t.shape b.stored.bits) t.shape shape keeps.stored (omega arith)
+result_of-fits Add b t ft ind shape room keeps = tt
+result_of-fits AddMg b t ft ind shape room keeps = tt
+result_of-fits MAdd b t ft ind shape room keeps = field_bits-below _ t.shape shape (keeps.replaced _) room.three_flags
+result_of-fits MAddMg b t ft ind shape room keeps = field_bits-below _ t.shape shape (keeps.replaced _) room.three_flags
+result_of-fits MAdd1 b t ft ind shape room keeps = field_bits-below _ t.shape shape (keeps.replaced _) room.three_flags
+result_of-fits K b t ft ind shape room keeps = tt
+result_of-fits Kf b t ft ind shape room keeps = tt
+result_of-fits Ke b t ft ind shape room keeps = tt
+result_of-fits Kfe b t ft ind shape room keeps = tt
+result_of-fits Kr b t ft ind shape room keeps = tt
+result_of-fits Kfr b t ft ind shape room keeps = tt
+result_of-fits Mul b t ft ind shape room keeps = keeps.product
+result_of-fits MulAdd b t ft ind shape room keeps = keeps.product_added ft
+result_of-fits Div b t ft ind shape room keeps = keeps.quotient
+result_of-fits Lcv b t ft ind shape room keeps = keeps.converted

@@ -17,9 +17,10 @@ use Rattle.st_field.specs.Indicators.{lost_carry, partial_field, flag_indicators
 use Rattle.st_field.specs.Numbers.{number_of, sum_of, magnitude_sum}
 use Rattle.st_field.specs.Results.{number_in, number_of_field, operand as operand_of, addend as addend_of, aligned as aligned_of, with_number, stored_field, in_accumulator, in_field, loaded, loaded_with_flags, transit_loaded, factor_loaded}
 
--- what an operation takes: its shape is one, and the field has room in it
-pub record IsTaken (t : Taken) : Type 0 where
+-- what an operation takes: a shape that the base allows, and a field that has room in it
+pub record IsTaken (Allows : Shape → Type 0) (t : Taken) : Type 0 where
   pub shape : IsShape t.shape
+  pub allowed : Allows t.shape
   pub room : HasRoom t.field t.shape
 
 -- what an operation takes of a field with the bits x
@@ -28,10 +29,9 @@ taken a x h = record { acc = a; field = field_of x h; shape = h }
 
 -- what a base makes of what an operation takes
 pub record InBase : Type 0 where
-  -- the value of the accumulator, of it from the offset on, and of as much of that as the field has room for
+  -- the value of the accumulator, and of it from the offset on
   pub whole : ℕ
   pub part : ℕ
-  pub side : ℕ
   -- the value of the field, its bits as a register takes them, and the indicators of the transit register
   pub value : ℕ
   pub content : ℕ
@@ -69,8 +69,8 @@ abbrev pub addend : InBase → Taken → Signed
 addend b t = addend_of t.acc t.shape b.part
 
 -- M+1: one, which is minus where the operation is negated
-abbrev pub one : Taken → Signed
-one t = record { negative = t.shape.negated; mag = 1 }
+abbrev pub one : Shape → Signed
+one h = record { negative = h.negated; mag = 1 }
 
 -- K: the accumulator, and the operand at its place
 unfoldable pub numbers : InBase → Taken → Compared
@@ -79,10 +79,10 @@ numbers b t = record {
   on = (aligned b t).on;
 }
 
--- KF: as much of the accumulator from the offset on as the field has room for, and the operand
+-- KF: the accumulator from the offset on as the field would store it, and the operand
 unfoldable pub fields : InBase → Taken → Compared
 fields b t = record {
-  order = int_cmp (number_of (number_in t.acc b.side)) (number_of (operand b t));
+  order = int_cmp (number_of (number_in t.acc b.stored.value)) (number_of (operand b t));
   on = flag_indicators t.field.flags;
 }
 
@@ -103,52 +103,24 @@ put_in_field b t n =
 
 -- ---- the operations
 
--- LTRS: the content of the field goes to the transit register
-unfoldable pub transit_set : InBase → Taken → Done
-transit_set b t = transit_loaded t.acc (operand b t) b.content (flag_indicators t.field.flags + b.transit)
-
--- LFT: it goes to the factor register
-unfoldable pub factor_set : InBase → Taken → Done
-factor_set b t = factor_loaded t.acc (operand b t) b.content (flag_indicators t.field.flags)
-
 -- ST: the accumulator from the offset on goes to the field
 unfoldable pub stored : InBase → Taken → Done
 stored b t =
     in_field t.acc (stored_field t.acc t.shape b.stored.bits) t.shape b.stored.value
     (partial_field b.stored.is_lost)
 
--- +
-unfoldable pub added : InBase → Taken → Done
-added b t = put_in_accumulator b t (sum_of (number b t) (aligned b t).number) (aligned b t).on
-
--- +MG: the sign of the accumulator stays
-unfoldable pub magnitude_added : InBase → Taken → Done
-magnitude_added b t = put_in_accumulator b t (magnitude_sum (number b t) (aligned b t).number) (aligned b t).on
-
--- M+
-unfoldable pub added_to_field : InBase → Taken → Done
-added_to_field b t = put_in_field b t (sum_of (field_number b t) (addend b t))
-
--- M+MG: the sign of the field stays
-unfoldable pub magnitude_added_to_field : InBase → Taken → Done
-magnitude_added_to_field b t = put_in_field b t (magnitude_sum (field_number b t) (addend b t))
-
--- M+1
-unfoldable pub one_added_to_field : InBase → Taken → Done
-one_added_to_field b t = put_in_field b t (sum_of (field_number b t) (one t))
-
 -- the result of an operation; ft is the factor register and ind the indicators
 abbrev pub result_of : VflOp → InBase → Taken → ℕ → ℕ → Done
 result_of L b t ft ind = loaded (aligned b t)
 result_of Lwf b t ft ind = loaded_with_flags t.field (aligned b t)
-result_of Ltrs b t ft ind = transit_set b t
-result_of Lft b t ft ind = factor_set b t
+result_of Ltrs b t ft ind = transit_loaded t.acc (operand b t) b.content (flag_indicators t.field.flags + b.transit)
+result_of Lft b t ft ind = factor_loaded t.acc (operand b t) b.content (flag_indicators t.field.flags)
 result_of St b t ft ind = stored b t
-result_of Add b t ft ind = added b t
-result_of AddMg b t ft ind = magnitude_added b t
-result_of MAdd b t ft ind = added_to_field b t
-result_of MAddMg b t ft ind = magnitude_added_to_field b t
-result_of MAdd1 b t ft ind = one_added_to_field b t
+result_of Add b t ft ind = put_in_accumulator b t (sum_of (number b t) (aligned b t).number) (aligned b t).on
+result_of AddMg b t ft ind = put_in_accumulator b t (magnitude_sum (number b t) (aligned b t).number) (aligned b t).on
+result_of MAdd b t ft ind = put_in_field b t (sum_of (field_number b t) (addend b t))
+result_of MAddMg b t ft ind = put_in_field b t (magnitude_sum (field_number b t) (addend b t))
+result_of MAdd1 b t ft ind = put_in_field b t (sum_of (field_number b t) (one t.shape))
 result_of K b t ft ind = compared t.acc (numbers b t)
 result_of Kf b t ft ind = compared t.acc (fields b t)
 result_of Ke b t ft ind = compared_if_equal t.acc (numbers b t) ind

@@ -5,8 +5,7 @@ ghost use Rattle.st_field.specs.Numbers.{exceeds};
 ghost use Rattle.st_field.specs.Bases.{IsTaken, number as number_of, operand as operand_of, aligned as aligned_of};
 ghost use Rattle.st_field.specs.Bases.{field_number, addend as addend_of, numbers as numbers_of, fields as fields_of};
 ghost use Rattle.st_field.specs.Bases.{put_in_accumulator as put_in_accumulator_of, put_in_field as put_in_field_of};
-ghost use Rattle.st_field.specs.Bases.{transit_set, factor_set, stored, added, magnitude_added};
-ghost use Rattle.st_field.specs.Bases.{added_to_field, magnitude_added_to_field, one_added_to_field, result_of};
+ghost use Rattle.st_field.specs.Bases.{one as one_of, stored, result_of};
 
 use crate::accumulator::{addend, signed_as, stored_field, with_number};
 use crate::base::{Base, Taken};
@@ -16,12 +15,12 @@ use crate::indicators::{flag_indicators, lost_carry, partial_field};
 use crate::loads::{load, load_factor, load_transit, load_with_flags};
 use crate::operand::{Aligned, Kept, align, operand, signed_as as field_as};
 use crate::outcome::{Done, in_accumulator, in_field};
-use crate::signed::{Signed, Sum, add as sum_of, add_to_magnitude as magnitude_sum, order};
+use crate::signed::{Signed, Sum, add, add_to_magnitude, order};
 use st_bits::VflOp;
 
 // The accumulator as a number.
 fn number<B: Base>(taken: &Taken) -> Signed
-    requires { B.Fits taken.now }
+    requires { IsTaken B.Allows taken.now }
     ensures value { result ≡ number_of (B.base taken.now) taken.now }
     ensures bound { result.mag < B.limit }
 {
@@ -30,7 +29,7 @@ fn number<B: Base>(taken: &Taken) -> Signed
 
 // The operand as its field holds it.
 fn operand_in<B: Base>(taken: &Taken) -> Signed
-    requires { B.Fits taken.now }
+    requires { IsTaken B.Allows taken.now }
     ensures { result ≡ operand_of (B.base taken.now) taken.now }
 {
     operand(&taken.field, &taken.shape, u128::from(B::value(taken)))
@@ -38,8 +37,7 @@ fn operand_in<B: Base>(taken: &Taken) -> Signed
 
 // The operand at its place in the accumulator.
 fn aligned<B: Base>(taken: &Taken) -> Aligned
-    requires fits { B.Fits taken.now }
-    requires taken { IsTaken taken.now }
+    requires { IsTaken B.Allows taken.now }
     ensures value { result ≡ aligned_of (B.base taken.now) taken.now }
     ensures bound { result.number.mag < B.limit }
     ensures few { result.on < 2 ^ 42 }
@@ -49,7 +47,7 @@ fn aligned<B: Base>(taken: &Taken) -> Aligned
 
 // The field as a number.
 fn number_in_field<B: Base>(taken: &Taken) -> Signed
-    requires { B.Fits taken.now }
+    requires { IsTaken B.Allows taken.now }
     ensures value { result ≡ field_number (B.base taken.now) taken.now }
     ensures bound { result.mag < B.limit }
 {
@@ -58,7 +56,7 @@ fn number_in_field<B: Base>(taken: &Taken) -> Signed
 
 // What is added to the field: the accumulator from the offset on.
 fn part_added<B: Base>(taken: &Taken) -> Signed
-    requires { B.Fits taken.now }
+    requires { IsTaken B.Allows taken.now }
     ensures value { result ≡ addend_of (B.base taken.now) taken.now }
     ensures bound { result.mag < B.limit }
 {
@@ -68,8 +66,7 @@ fn part_added<B: Base>(taken: &Taken) -> Signed
 // The accumulator, and the operand at its place.
 #[tactic(auto, unfolding(crate::specs::Bases::numbers))]
 fn numbers<B: Base>(taken: &Taken) -> Compared
-    requires fits { B.Fits taken.now }
-    requires taken { IsTaken taken.now }
+    requires { IsTaken B.Allows taken.now }
     ensures sides { result ≡ numbers_of (B.base taken.now) taken.now }
     ensures few { result.on < 2 ^ 63 }
 {
@@ -80,15 +77,14 @@ fn numbers<B: Base>(taken: &Taken) -> Compared
     }
 }
 
-// As much of the accumulator from the offset on as the field has room for, and the operand.
+// The accumulator from the offset on as the field would store it, and the operand.
 #[tactic(auto, unfolding(crate::specs::Bases::fields))]
 fn fields<B: Base>(taken: &Taken) -> Compared
-    requires fits { B.Fits taken.now }
-    requires taken { IsTaken taken.now }
+    requires { IsTaken B.Allows taken.now }
     ensures sides { result ≡ fields_of (B.base taken.now) taken.now }
     ensures few { result.on < 2 ^ 63 }
 {
-    let side = signed_as(&taken.acc, B::side(taken));
+    let side = signed_as(&taken.acc, B::stored(taken).value);
     Compared {
         order: order(side, operand_in::<B>(taken)),
         on: flag_indicators(taken.field.flags),
@@ -97,7 +93,7 @@ fn fields<B: Base>(taken: &Taken) -> Compared
 
 // A sum goes to the accumulator: its sign, and what the base keeps of its magnitude. The indicators `on` go on too.
 fn put_in_accumulator<B: Base>(taken: &Taken, sum: Sum, on: u64) -> Done
-    requires fits { B.Fits taken.now }
+    requires taken { IsTaken B.Allows taken.now }
     requires large { sum.carry ≡ true → 2 ^ 127 < B.limit }
     requires few { on < 2 ^ 62 }
     ensures { (n : ℕ) → sum.number.mag ≡ n % 2 ^ 128 → sum.carry ≡ exceeds n 128 →
@@ -127,8 +123,7 @@ fn magnitude(kept: Kept, shape: &Shape) -> u64
 
 // A sum goes to the field: its sign, and what the base keeps of its magnitude. Flags and zones stay.
 fn put_in_field<B: Base>(taken: &Taken, sum: Sum) -> Done
-    requires fits { B.Fits taken.now }
-    requires taken { IsTaken taken.now }
+    requires taken { IsTaken B.Allows taken.now }
     requires large { sum.carry ≡ true → 2 ^ 127 < B.limit }
     ensures { (n : ℕ) → sum.number.mag ≡ n % 2 ^ 128 → sum.carry ≡ exceeds n 128 →
         result ≡ put_in_field_of (B.base taken.now) taken.now
@@ -144,33 +139,10 @@ fn put_in_field<B: Base>(taken: &Taken, sum: Sum) -> Done
     in_field(&taken.acc, &field, &taken.shape, kept.value, on)
 }
 
-// Load transit and set.
-#[tactic(auto, unfolding(crate::specs::Bases::transit_set))]
-fn set_transit<B: Base>(taken: &Taken) -> Done
-    requires fits { B.Fits taken.now }
-    requires taken { IsTaken taken.now }
-    ensures { result ≡ transit_set (B.base taken.now) taken.now }
-{
-    let on = flag_indicators(taken.field.flags) + B::transit(taken);
-    load_transit(&taken.acc, operand_in::<B>(taken), B::content(taken), on)
-}
-
-// Load factor.
-#[tactic(auto, unfolding(crate::specs::Bases::factor_set))]
-fn set_factor<B: Base>(taken: &Taken) -> Done
-    requires fits { B.Fits taken.now }
-    requires taken { IsTaken taken.now }
-    ensures { result ≡ factor_set (B.base taken.now) taken.now }
-{
-    let on = flag_indicators(taken.field.flags);
-    load_factor(&taken.acc, operand_in::<B>(taken), B::content(taken), on)
-}
-
 // Store: the accumulator from the offset on goes to the field.
 #[tactic(auto, unfolding(crate::specs::Bases::stored))]
 fn store<B: Base>(taken: &Taken) -> Done
-    requires fits { B.Fits taken.now }
-    requires taken { IsTaken taken.now }
+    requires { IsTaken B.Allows taken.now }
     ensures { result ≡ stored (B.base taken.now) taken.now }
 {
     let kept = B::stored(taken);
@@ -184,83 +156,55 @@ fn store<B: Base>(taken: &Taken) -> Done
     )
 }
 
-// Add: the operand at its place is added to the accumulator.
-#[tactic(auto, unfolding(crate::specs::Bases::added))]
-fn add<B: Base>(taken: &Taken) -> Done
-    requires fits { B.Fits taken.now }
-    requires taken { IsTaken taken.now }
-    ensures { result ≡ added (B.base taken.now) taken.now }
+// One, which is minus where the operation is negated.
+fn one(shape: &Shape) -> Signed
+    ensures { result ≡ one_of shape.now }
 {
-    let operand = aligned::<B>(taken);
-    let sum = sum_of(number::<B>(taken), operand.number);
-    put_in_accumulator::<B>(taken, sum, operand.on)
-}
-
-// Add to magnitude: the operand at its place is added to the magnitude of the accumulator, whose sign stays.
-#[tactic(auto, unfolding(crate::specs::Bases::magnitude_added))]
-fn add_to_magnitude<B: Base>(taken: &Taken) -> Done
-    requires fits { B.Fits taken.now }
-    requires taken { IsTaken taken.now }
-    ensures { result ≡ magnitude_added (B.base taken.now) taken.now }
-{
-    let operand = aligned::<B>(taken);
-    let sum = magnitude_sum(number::<B>(taken), operand.number);
-    put_in_accumulator::<B>(taken, sum, operand.on)
-}
-
-// Add to memory: the accumulator from the offset on is added to the field.
-#[tactic(auto, unfolding(crate::specs::Bases::added_to_field))]
-fn add_to_field<B: Base>(taken: &Taken) -> Done
-    requires fits { B.Fits taken.now }
-    requires taken { IsTaken taken.now }
-    ensures { result ≡ added_to_field (B.base taken.now) taken.now }
-{
-    let sum = sum_of(number_in_field::<B>(taken), part_added::<B>(taken));
-    put_in_field::<B>(taken, sum)
-}
-
-// Add to memory, magnitude: the accumulator from the offset on is added to the field's magnitude; its sign stays.
-#[tactic(auto, unfolding(crate::specs::Bases::magnitude_added_to_field))]
-fn add_to_field_magnitude<B: Base>(taken: &Taken) -> Done
-    requires fits { B.Fits taken.now }
-    requires taken { IsTaken taken.now }
-    ensures { result ≡ magnitude_added_to_field (B.base taken.now) taken.now }
-{
-    let sum = magnitude_sum(number_in_field::<B>(taken), part_added::<B>(taken));
-    put_in_field::<B>(taken, sum)
-}
-
-// Add one to memory: one is added to the field, or taken from it where the operation is negated.
-#[tactic(auto, unfolding(crate::specs::Bases::one_added_to_field))]
-fn add_one_to_field<B: Base>(taken: &Taken) -> Done
-    requires fits { B.Fits taken.now }
-    requires taken { IsTaken taken.now }
-    ensures { result ≡ one_added_to_field (B.base taken.now) taken.now }
-{
-    let one = Signed {
-        negative: taken.shape.negated,
+    Signed {
+        negative: shape.negated,
         mag: 1,
-    };
-    put_in_field::<B>(taken, sum_of(number_in_field::<B>(taken), one))
+    }
 }
 
 /// What an operation leaves, with the factor register `ft` and the indicators `ind`.
 pub fn operate<B: Base>(op: VflOp, taken: &Taken, ft: u64, ind: u64) -> Done
-    requires fits { B.Fits taken.now }
-    requires taken { IsTaken taken.now }
+    requires { IsTaken B.Allows taken.now }
     ensures { result ≡ result_of op (B.base taken.now) taken.now ft ind }
 {
     match op {
         VflOp::L => load(aligned::<B>(taken)),
         VflOp::Lwf => load_with_flags(&taken.field, aligned::<B>(taken)),
-        VflOp::Ltrs => set_transit::<B>(taken),
-        VflOp::Lft => set_factor::<B>(taken),
+        VflOp::Ltrs => {
+            let on = flag_indicators(taken.field.flags) + B::transit(taken);
+            load_transit(&taken.acc, operand_in::<B>(taken), B::content(taken), on)
+        }
+        VflOp::Lft => {
+            let on = flag_indicators(taken.field.flags);
+            load_factor(&taken.acc, operand_in::<B>(taken), B::content(taken), on)
+        }
         VflOp::St => store::<B>(taken),
-        VflOp::Add => add::<B>(taken),
-        VflOp::AddMg => add_to_magnitude::<B>(taken),
-        VflOp::MAdd => add_to_field::<B>(taken),
-        VflOp::MAddMg => add_to_field_magnitude::<B>(taken),
-        VflOp::MAdd1 => add_one_to_field::<B>(taken),
+        VflOp::Add => {
+            let operand = aligned::<B>(taken);
+            let sum = add(number::<B>(taken), operand.number);
+            put_in_accumulator::<B>(taken, sum, operand.on)
+        }
+        VflOp::AddMg => {
+            let operand = aligned::<B>(taken);
+            let sum = add_to_magnitude(number::<B>(taken), operand.number);
+            put_in_accumulator::<B>(taken, sum, operand.on)
+        }
+        VflOp::MAdd => {
+            let sum = add(number_in_field::<B>(taken), part_added::<B>(taken));
+            put_in_field::<B>(taken, sum)
+        }
+        VflOp::MAddMg => {
+            let sum = add_to_magnitude(number_in_field::<B>(taken), part_added::<B>(taken));
+            put_in_field::<B>(taken, sum)
+        }
+        VflOp::MAdd1 => {
+            let sum = add(number_in_field::<B>(taken), one(&taken.shape));
+            put_in_field::<B>(taken, sum)
+        }
         VflOp::K => compare(&taken.acc, numbers::<B>(taken)),
         VflOp::Kf => compare(&taken.acc, fields::<B>(taken)),
         VflOp::Ke => compare_if_equal(&taken.acc, numbers::<B>(taken), ind),

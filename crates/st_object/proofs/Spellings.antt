@@ -1,5 +1,5 @@
 -- What is spelled is read as the same item, and what is read is spelled so.
-use Rattle.std.proofs.Common.{◌≡◌, ◌≢◌, ◌≤◌, ◌<◌, ◌+◌, ◌-◌, ◌*◌, ◌/◌, ◌%◌, ◌^◌, ◌==◌, ◌&&◌, ℕ, suc, zero, Bool, true, false, not, nat_le, nat_lt, List, [], ◌∷◌, ◌++◌, Option, Some, None, if◌then◌else◌, length, decimal, refl, ap, sym, ◌∙◌, arith, rules, append_assoc}
+use Rattle.std.proofs.Common.{◌≡◌, ◌≢◌, ◌≤◌, ◌<◌, ◌+◌, ◌*◌, ◌/◌, ◌%◌, ◌^◌, ◌==◌, ◌&&◌, ℕ, suc, zero, Bool, true, false, not, nat_le, nat_lt, List, [], ◌∷◌, ◌++◌, Option, Some, None, if◌then◌else◌, length, decimal, refl, ap, sym, ◌∙◌, arith, rules, append_assoc}
 use Rattle.std.proofs.lemmas.Bool.{and_from as and_true, le-leb as within}
 use Rattle.std.specs.Char.{is_ascii_digit}
 use Rattle.std.specs.List.{list_all}
@@ -79,15 +79,12 @@ lacks-hex at (suc k) x low =
 low_digit : (d : ℕ) → d < 10 → hex_digit_in (48 + d) ≡ d
 low_digit d small =
     let low : nat_lt (48 + d) 65 ≡ true = grind (arith, nat_tests) in
-    ap (λ b. (if b then 48 + d - 48 else 48 + d - 55) % 16) low
-    ∙ (let same : 48 + d - 48 ≡ d = omega arith in
-    let fits : d < 16 = omega arith in ap (λ n. n % 16) same ∙ mod-eq_of_lt fits)
+    ap (λ b. (if b then 48 + d else 48 + d + 9) % 16) low ∙ omega arith
 
 high_digit : (d : ℕ) → 10 ≤ d → d < 16 → hex_digit_in (55 + d) ≡ d
 high_digit d large fits =
     let high : nat_lt (55 + d) 65 ≡ false = grind (arith, nat_tests) in
-    ap (λ b. (if b then 55 + d - 48 else 55 + d - 55) % 16) high
-    ∙ (let same : 55 + d - 55 ≡ d = omega arith in ap (λ n. n % 16) same ∙ mod-eq_of_lt fits)
+    ap (λ b. (if b then 55 + d else 55 + d + 9) % 16) high ∙ omega arith
 
 is_low : (d : ℕ) → nat_lt d 10 ≡ true → d < 10
 is_low d test = grind (arith, nat_tests)

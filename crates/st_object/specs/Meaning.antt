@@ -1,8 +1,8 @@
 -- What a line of an object text means.
-use Rattle.std.specs.Prelude.{ℕ, ◌≤◌, ◌<◌, ◌+◌, ◌*◌, ◌-◌, ◌/◌, ◌%◌, ◌^◌, ◌==◌, nat_lt, List, [], ◌∷◌, codes, Option, Some, None, if◌then◌else◌}
+use Rattle.std.specs.Prelude.{ℕ, ◌≤◌, ◌<◌, ◌+◌, ◌*◌, ◌/◌, ◌%◌, ◌^◌, ◌==◌, nat_lt, List, [], ◌∷◌, codes, Option, Some, None, if◌then◌else◌}
 use Rattle.std.specs.Option.{option_map, option_and_then}
 use Rattle.st_card.specs.declared.limits.TheConstants.{MOST_NUMBER}
-use Rattle.st_text.specs.Bytes.{blank, period, digit_zero, letter_a}
+use Rattle.st_text.specs.Bytes.{blank, period, letter_a}
 use Rattle.st_text.specs.Number.{number_up_to}
 use Rattle.st_text.specs.Tables.{is_same, row_of}
 use Rattle.st_object.specs.Lines.{spelled}
@@ -30,9 +30,9 @@ both None y = None
 abbrev pub two_numbers : ℕ → List ℕ → Option (ℕ × ℕ)
 two_numbers at text = option_and_then (λ p. both (short_number p.0) (short_number p.1)) (parts_at at text)
 
--- a hexadecimal digit
+-- a hexadecimal digit: the character of 0 is a multiple of 16, and nine behind that of A, which is 10, stands ten behind one
 abbrev pub hex_digit_in : ℕ → ℕ
-hex_digit_in c = (if nat_lt c letter_a then c - digit_zero else c - (letter_a - 10)) % 16
+hex_digit_in c = (if nat_lt c letter_a then c else c + 9) % 16
 
 -- the number that the last sixteen hexadecimal digits are
 abbrev pub hex_after : ℕ → List ℕ → ℕ

@@ -57,12 +57,7 @@ fn hex_digit_in(c: u8) -> u8
     ensures value { result ≡ spec.hex_digit_in c }
     ensures small { result < 16 }
 {
-    let digit = if c < b'A' {
-        c.saturating_sub(b'0')
-    } else {
-        c - 55
-    };
-    digit % 16
+    if c < b'A' { c % 16 } else { (c % 16 + 9) % 16 }
 }
 
 // The number that the last sixteen hexadecimal digits are.

@@ -2,7 +2,7 @@ use Rattle.std.proofs.Common.{◌≡◌, ap, refl, ◌∙◌}
 use Rattle.st_dec.specs.DigitLists.{joined, decimal}
 use Rattle.st_dec.specs.DecimalOperand.{digit_count, digit_bytes, recoded}
 use Rattle.st_dec.proofs.RecodeLemmas.{bytes-decimal}
-use Rattle.st_dec.proofs.sums.sum_in_field.Goals as goal
+use Rattle.st_dec.proofs.operand.with_digits.Goals as goal
 
 magnitude : (c : goal.After-in_field) → c.recoded.result ≡ joined c.args.shape.now.byte (recoded (digit_bytes c.args.f.now c.args.shape.now) (decimal (digit_count c.args.shape.now) c.args.number))
 magnitude c =

@@ -1,7 +1,7 @@
 use Rattle.std.proofs.Common.{◌%◌, ap, ◌∙◌}
 use Rattle.st_field.specs.Digits.{digits_of}
 use Rattle.st_dec.proofs.RecodeLemmas.{digits_of-cut, cut_small, decimal_fits}
-use Rattle.st_dec.proofs.sums.to_decimal.Goals as goal
+use Rattle.st_dec.proofs.digits.to_decimal.Goals as goal
 
 pub to_digits-requires : goal.to_digits-requires
 to_digits-requires c = rw c.power_of_ten-limit.ensures.value (cut_small c.args.count c.args.mag c.requires)
