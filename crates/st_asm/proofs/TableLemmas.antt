@@ -1,21 +1,11 @@
 -- Tables of names, and which names are in them.
-use Rattle.std.proofs.Common.{◌≡◌, ◌||◌, ℕ, Bool, true, false, cond, List, [], ◌∷◌, ◌++◌, Some, None, is_some, nat_eq, refl, ap, sym, ◌∙◌}
-use Rattle.std.proofs.lemmas.Bool.{eqb-true, and_parts as both_true}
-use Rattle.std.specs.Cmp.Lexicographic.{pointwise}
+use Rattle.std.proofs.Common.{◌≡◌, ◌||◌, ℕ, Bool, true, false, cond, List, [], ◌∷◌, ◌++◌, Some, None, is_some, refl, ap, sym, ◌∙◌}
 use Rattle.std.specs.List.{cons_option}
 use Rattle.st_text.specs.Tables.{is_same, row_of}
 use Rattle.st_expr.specs.Value.{Defines}
+use Rattle.st_strap.proofs.Apart.{same_words}
 use Rattle.st_asm.specs.Symbols.{has_name, is_defined, names_of}
 use Rattle.st_asm.specs.declared.line.Line.{Line}
-
--- words that are the same are equal
-pub same_words : (a b : List ℕ) → is_same a b ≡ true → a ≡ b
-same_words [] [] e = refl
-same_words [] (y ∷ ys) e = let no : ⊥ = cc in absurd no
-same_words (x ∷ xs) [] e = let no : ⊥ = cc in absurd no
-same_words (x ∷ xs) (y ∷ ys) e =
-    let parts = both_true (nat_eq x y) (pointwise nat_eq xs ys) e in
-    ap (λ c. c ∷ xs) (eqb-true x y parts.0) ∙ ap (λ cs. y ∷ cs) (same_words xs ys parts.1)
 
 -- a name put at the end of a table
 pub defined-behind : (table : List (List ℕ × ℕ)) (name query : List ℕ) (value : ℕ) →

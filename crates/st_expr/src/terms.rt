@@ -42,6 +42,7 @@ pub(crate) enum AtomReading {
 }
 
 // What a piece of an expression says: a name, a word for the system, or a number.
+#[inline(always)]
 pub(crate) fn read_atom(word: &[u8]) -> AtomReading
     ensures { result ≡ spec.atom_of word.now }
 {

@@ -8,3 +8,4 @@ pub mod NumberCards
 pub mod PlaceCards
 pub mod OperandCards
 pub mod FirstFields
+pub mod Apart

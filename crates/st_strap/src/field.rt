@@ -17,8 +17,8 @@ impl Default for Field<'_> {
     }
 }
 
-// The first fields of a text. No operation has more of them, so that one more is enough to tell too many.
-pub(crate) type Fields<'a> = ArrayVec<Field<'a>, MOST_FIELDS>;
+// How many fields of a text are kept: LVS has sixteen, and one behind those is too many.
+const MOST_FIELDS: usize = 17;
 
-// How many of them are kept: LVS has sixteen, and one behind those is too many.
-pub(crate) const MOST_FIELDS: usize = 17;
+// The first fields of a text.
+pub(crate) type Fields<'a> = ArrayVec<Field<'a>, MOST_FIELDS>;

@@ -1,6 +1,7 @@
 //! The operations by their words.
 
-ghost use Rattle.std.specs.Prelude.{◌≡◌};
+ghost use Rattle.std.specs.Prelude.{◌≡◌, false};
+ghost use Rattle.std.specs.Option.{option_or};
 ghost use Rattle.st_text.specs.Tables.{row_of};
 ghost use Rattle.st_strap.specs.Table as spec;
 
@@ -222,19 +223,27 @@ const TRUTH_TABLES: [(&[u8], u8); 16] = [
 pub(crate) fn operation_of(word: &[u8]) -> Option<Operation>
     ensures { result ≡ spec.operation_of word.now }
 {
-    if let Some(op) = other_operation(word) {
-        return Some(op);
-    }
-    if let Some(op) = index_operation(word) {
-        return Some(op);
-    }
-    if let Some(op) = field_operation(word, false) {
+    if let Some(op) = listed_operation(word) {
         return Some(op);
     }
     if let Some(op) = negated_operation(word) {
         return Some(op);
     }
     connective(word)
+}
+
+// The operation whose word stands in a table. No word stands in two of them, so those come first that cards have most.
+fn listed_operation(word: &[u8]) -> Option<Operation>
+    ensures { result ≡ option_or (option_or (row_of word.now spec.other_operations) (spec.index_operation word.now))
+        (spec.field_operation false word.now) }
+{
+    if let Some(op) = field_operation(word, false) {
+        return Some(op);
+    }
+    if let Some(op) = index_operation(word) {
+        return Some(op);
+    }
+    other_operation(word)
 }
 
 #[tactic(auto, unfolding(crate::specs::Table::other_operations))]
