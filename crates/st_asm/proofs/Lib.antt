@@ -6,4 +6,3 @@ pub mod FaultLemmas
 pub mod KeptLemmas
 pub mod ImageLemmas
 pub mod FaultlessLemmas
-pub mod ValueLemmas

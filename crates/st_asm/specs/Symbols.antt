@@ -1,6 +1,7 @@
 -- Which names a statement speaks of, and whether they are known.
 use Rattle.std.specs.Prelude.{ℕ, Bool, true, List, [], ◌∷◌, map, Some, None, is_some}
 use Rattle.std.specs.List.{list_all, list_any, filter_map}
+use Rattle.arrayvec.specs.ArrayVec.{ArrayVec}
 use Rattle.st_text.specs.Tables.{is_same, row_of}
 use Rattle.st_expr.specs.declared.terms.Term.{Term}
 use Rattle.st_expr.specs.declared.terms.Atom.{Atom}
@@ -15,7 +16,7 @@ abbrev pub table : List Symbol → List (List ℕ × ℕ)
 table symbols = map (λ s. (s.name, s.value)) symbols
 
 -- the expressions of a statement
-abbrev pub expressions : Statement → List (List Term)
+abbrev pub expressions : Statement → List (ArrayVec Term)
 expressions (Half op j at) = at.expr ∷ []
 expressions (Sum j listed) = []
 expressions (Refill j) = []
@@ -47,7 +48,7 @@ accepts test terms = list_all (λ term. accepts_atom test term.atom) terms
 
 -- whether a test accepts each name that a statement speaks of
 unfoldable pub accepts_all : (List ℕ → Bool) → Statement → Bool
-accepts_all test statement = list_all (λ e. accepts test e) (expressions statement)
+accepts_all test statement = list_all (λ e. accepts test e.items) (expressions statement)
 
 -- whether a name is one of a list
 abbrev pub has_name : List (List ℕ) → List ℕ → Bool

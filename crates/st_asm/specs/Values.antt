@@ -1,5 +1,6 @@
 -- What the expressions of a statement are worth.
 use Rattle.std.specs.Prelude.{ℕ, ℤ, pos, negsuc, ◌-◌, ◌%◌, ◌^◌, List, [], ◌∷◌, unwrap_or}
+use Rattle.arrayvec.specs.ArrayVec.{ArrayVec}
 use Rattle.st_expr.specs.Value.{sum_of}
 use Rattle.st_expr.specs.declared.terms.Term.{Term}
 use Rattle.st_strap.specs.declared.statement.Statement.{Statement}
@@ -7,11 +8,11 @@ use Rattle.st_asm.specs.declared.values.Values.{Values}
 use Rattle.st_asm.specs.Symbols.{expressions}
 
 -- the value of an expression, 0 where a name is not defined
-abbrev pub value_in : List (List ℕ × ℕ) → List Term → ℤ
-value_in symbols e = unwrap_or (sum_of symbols e) (pos 0)
+abbrev pub value_in : List (List ℕ × ℕ) → ArrayVec Term → ℤ
+value_in symbols e = unwrap_or (sum_of symbols e.items) (pos 0)
 
 -- the values of two expressions, one or none: 0 where there is none
-abbrev pub values_in : List (List ℕ × ℕ) → List (List Term) → Values
+abbrev pub values_in : List (List ℕ × ℕ) → List (ArrayVec Term) → Values
 values_in symbols [] = record { first = pos 0; second = pos 0 }
 values_in symbols (e ∷ []) = record { first = value_in symbols e; second = pos 0 }
 values_in symbols (e ∷ f ∷ more) = record { first = value_in symbols e; second = value_in symbols f }

@@ -1,4 +1,3 @@
 pub mod ExprLemmas
 pub mod TermLemmas
 pub mod SymbolLemmas
-pub mod ValueLemmas

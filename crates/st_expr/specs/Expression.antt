@@ -2,6 +2,7 @@
 use Rattle.std.specs.Prelude.{ℕ, ◌==◌, Bool, true, false, List, [], ◌∷◌, Option, Some, None, Result, Ok, Err, if◌then◌else◌}
 use Rattle.std.specs.List.{list_any, filter_map}
 use Rattle.st_text.specs.Bytes.{plus_sign, minus_sign}
+use Rattle.arrayvec.specs.ArrayVec.{ArrayVec}
 use Rattle.st_card.specs.declared.faults.Fault.{Fault}
 use Rattle.st_card.specs.declared.faults.Fault.TheVariants.{BadExpression, NumberTooLarge}
 use Rattle.st_expr.specs.Term.{atom_of}
@@ -63,11 +64,11 @@ abbrev pub terms_of : List (Bool × List ℕ) → List Term
 terms_of parts = filter_map term_of parts
 
 -- what parts say: a bad one counts before one that is too large
-abbrev pub expr_in : List (Bool × List ℕ) → Result (List Term) Fault
+abbrev pub expr_in : List (Bool × List ℕ) → Result (ArrayVec Term) Fault
 expr_in parts =
     if any_bad parts then Err BadExpression
-    else (if any_large parts then Err NumberTooLarge else Ok (terms_of parts))
+    else (if any_large parts then Err NumberTooLarge else Ok (record { items = terms_of parts }))
 
 -- what a text says where an expression is wanted
-abbrev pub expr_of : List ℕ → Result (List Term) Fault
+abbrev pub expr_of : List ℕ → Result (ArrayVec Term) Fault
 expr_of text = expr_in (parts text)

@@ -1,5 +1,5 @@
 -- The terms of an expression.
-use Rattle.std.specs.Prelude.{ℕ, ◌+◌, ◌*◌, List, [], ◌∷◌, if◌then◌else◌}
+use Rattle.std.specs.Prelude.{◌≡◌, ℕ, ◌+◌, ◌*◌, false, List, [], ◌∷◌, if◌then◌else◌}
 use Rattle.std.specs.Option.{option_map_or}
 use Rattle.st_expr.specs.declared.terms.TheConstants.{LAST_ADDRESS, LAST_BIT}
 use Rattle.st_text.specs.Bytes.{period}
@@ -41,3 +41,7 @@ abbrev pub atom_of : List ℕ → AtomReading
 atom_of word =
     if is_name word then GoodAtom (Name (padded word))
     else (if is_system_word word then GoodAtom (system_atom word) else place_of (parted period word))
+
+-- a term that adds nothing
+abbrev pub IsZero : Term → Type 0
+IsZero term = (term.minus ≡ false) × (term.atom ≡ Number 0)

@@ -1,54 +1,14 @@
 //! Reading an expression.
 
-ghost use Rattle.std.specs.Prelude.{◌≡◌, ◌+◌, ◌≤◌, Bool, List, [], ◌∷◌, length, take, Ok, Err, IfOk, IfErr, MatchOption};
+ghost use Rattle.std.specs.Prelude.{◌≡◌, ◌+◌, ◌≤◌, Bool, [], ◌∷◌, length, MatchOption};
 ghost use Rattle.st_expr.specs.Expression as spec;
-ghost use Rattle.st_expr.specs.declared.terms.Term.{Term as TermOf};
 
-use crate::terms::{AtomReading, read_atom};
+use crate::terms::{AtomReading, Term, read_atom};
+use arrayvec::ArrayVec;
 use st_card::Fault;
-use std::marker::Model;
 
 /// An expression: the sum of its terms, each added or taken away.
-///
-/// It is kept as its text, which takes less room than its terms.
-#[derive(Drop, Debug)]
-pub struct Expr {
-    // How many bytes its text has.
-    length: u8,
-    // Its text, and what stands behind it.
-    bytes: [u8; 63],
-}
-
-impl Model for Expr {
-    ghost Value = { List TermOf };
-
-    ghost view = { λ e. spec.terms_of (spec.parts (take e.length e.bytes)) };
-
-    ghost invariant = { λ e. e.length ≤ 63 };
-}
-
-impl Expr {
-    // The expression that a text is.
-    fn new(text: &[u8]) -> Expr
-        requires { length text.now ≤ 63 }
-        ensures { result ≡ spec.terms_of (spec.parts text.now) }
-    {
-        let mut bytes = [0; 63];
-        bytes[..text.len()].copy_from_slice(text);
-        Expr {
-            length: text.len() as u8,
-            bytes,
-        }
-    }
-
-    // Its text.
-    pub(crate) fn text(&self) -> &[u8]
-        ensures terms { spec.terms_of (spec.parts result.now) ≡ self.now }
-        ensures short { length result.now ≤ 63 }
-    {
-        &self.bytes[..usize::from(self.length)]
-    }
-}
+pub type Expr = ArrayVec<Term, 32>;
 
 /// The expression that a text of at most 63 bytes says.
 ///
@@ -59,50 +19,40 @@ pub fn read_expr(text: &[u8]) -> Result<Expr, Fault>
     requires { length text.now ≤ 63 }
     ensures { result ≡ spec.expr_of text.now }
 {
-    let (minus, rest) = behind_sign(text);
-    check_parts(minus, rest)?;
-    Ok(Expr::new(text))
-}
-
-// Whether a text begins with a minus, and what stands behind its first sign, if it has one.
-pub(crate) fn behind_sign(text: &[u8]) -> (bool, &[u8])
-    ensures parts { spec.parts_after result.0 result.1.now ≡ spec.parts text.now }
-    ensures shorter { length result.1.now ≤ length text.now }
-{
     match text {
-        [b'+', rest @ ..] => (false, rest),
-        [b'-', rest @ ..] => (true, rest),
-        _ => (false, text),
+        [b'+', rest @ ..] => read_parts(false, rest),
+        [b'-', rest @ ..] => read_parts(true, rest),
+        _ => read_parts(false, text),
     }
 }
 
-// Finds the fault of an expression by what stands behind its first sign.
-fn check_parts(minus: bool, text: &[u8]) -> Result<(), Fault>
-    ensures ok { IfOk result (λ _. spec.expr_in (spec.parts_after minus text.now)
-        ≡ Ok (spec.terms_of (spec.parts_after minus text.now))) }
-    ensures err { IfErr result (λ fault. spec.expr_in (spec.parts_after minus text.now) ≡ Err fault) }
+// The expression that a text says behind its first sign.
+fn read_parts(minus: bool, text: &[u8]) -> Result<Expr, Fault>
+    requires { length text.now ≤ 63 }
+    ensures { result ≡ spec.expr_in (spec.parts_after minus text.now) }
 {
+    let mut terms = Expr::new();
     let mut large = false;
     let mut left = Some((minus, text));
-    'parts: while let Some((_, text)) = left {
+    'parts: while let Some((minus, text)) = left {
         let (word, behind) = first_part(text);
         match read_atom(word) {
             AtomReading::Bad => return Err(Fault::BadExpression),
             AtomReading::Large => large = true,
-            AtomReading::Good(_) => {}
+            AtomReading::Good(atom) => terms.push(Term { minus, atom }),
         }
         left = behind;
     }
     if large {
         Err(Fault::NumberTooLarge)
     } else {
-        Ok(())
+        Ok(terms)
     }
 }
 
 // The first part of a text that is cut at its signs; and where a sign stands behind it, whether it
 // is a minus and what stands behind that.
-pub(crate) fn first_part(text: &[u8]) -> (&[u8], Option<(bool, &[u8])>)
+fn first_part(text: &[u8]) -> (&[u8], Option<(bool, &[u8])>)
     ensures parts { MatchOption result.1
         ((m : Bool) → spec.parts_after m text.now ≡ (m, result.0.now) ∷ [])
         (λ p. (m : Bool) → spec.parts_after m text.now

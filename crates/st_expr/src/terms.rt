@@ -33,6 +33,17 @@ pub struct Term {
     pub atom: Atom,
 }
 
+impl Default for Term {
+    ghost is_default = { spec.IsZero };
+
+    fn default() -> Term {
+        Term {
+            minus: false,
+            atom: Atom::Number(0),
+        }
+    }
+}
+
 // What a piece of an expression says.
 #[derive(Clone, Copy)]
 pub(crate) enum AtomReading {

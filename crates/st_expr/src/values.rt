@@ -1,12 +1,11 @@
 //! Symbols, and the values of expressions.
 
-ghost use Rattle.std.specs.Prelude.{◌≡◌, ◌+◌, ◌≤◌, ◌*◌, ◌^◌, ℕ, ℤ, pos, ◌-ℤ◌, ◌≤ℤ◌, Bool, List, [], ◌∷◌, length, None, IfOk, OnErr, IfSome};
+ghost use Rattle.std.specs.Prelude.{◌≡◌, ◌≤◌, ◌*◌, ◌^◌, ℤ, pos, ◌-ℤ◌, ◌≤ℤ◌, [], length, None, IfOk, OnErr, IfSome};
 ghost use Rattle.st_text.specs.Tables.{row_of};
-ghost use Rattle.st_expr.specs.Expression.{parts_after, terms_of};
 ghost use Rattle.st_expr.specs.Value as spec;
 
-use crate::expressions::{Expr, behind_sign, first_part};
-use crate::terms::{Atom, AtomReading, Term, read_atom};
+use crate::expressions::Expr;
+use crate::terms::{Atom, Term};
 use indexmap::IndexMap;
 use st_bits::NoMemory;
 use std::alloc::Global;
@@ -78,39 +77,24 @@ fn define_in(
 ///
 /// `None` where a name is not defined.
 pub fn value_of(e: &Expr, s: &Symbols) -> Option<i64>
-    ensures { result ≡ spec.sum_of s.now e.now }
+    ensures { result ≡ spec.sum_of s.now e.now.items }
 {
-    let (minus, text) = behind_sign(e.text());
-    sum_of(minus, text, s)
+    sum_of(e.as_slice(), s)
 }
 
-// The value of the terms that a text says behind a sign.
-fn sum_of(minus: bool, text: &[u8], symbols: &Symbols) -> Option<i64>
-    requires { length text.now ≤ 63 }
-    ensures value { result ≡ spec.sum_of symbols.now (terms_of (parts_after minus text.now)) }
-    ensures low { IfSome result (λ n. (pos 0 -ℤ pos ((length text.now + 1) * 2 ^ 32)) ≤ℤ n) }
-    ensures high { IfSome result (λ n. n ≤ℤ pos ((length text.now + 1) * 2 ^ 32)) }
+fn sum_of(terms: &[Term], symbols: &Symbols) -> Option<i64>
+    requires { length terms.now ≤ 32 }
+    ensures value { result ≡ spec.sum_of symbols.now terms.now }
+    ensures low { IfSome result (λ n. (pos 0 -ℤ pos (length terms.now * 2 ^ 32)) ≤ℤ n) }
+    ensures high { IfSome result (λ n. n ≤ℤ pos (length terms.now * 2 ^ 32)) }
 {
-    match first_part(text) {
-        (word, None) => part_value(minus, word, symbols),
-        (word, Some((next, rest))) => {
-            let value = part_value(minus, word, symbols)?;
-            let sum = sum_of(next, rest, symbols)?;
+    match terms {
+        [] => Some(0),
+        [term, rest @ ..] => {
+            let value = term_value(*term, symbols)?;
+            let sum = sum_of(rest, symbols)?;
             Some(value + sum)
         }
-    }
-}
-
-// The value of the term that a part says; a part that says none adds nothing.
-fn part_value(minus: bool, word: &[u8], symbols: &Symbols) -> Option<i64>
-    ensures value { (parts : List (Bool × List ℕ)) → spec.plus result (spec.sum_of symbols.now (terms_of parts))
-        ≡ spec.sum_of symbols.now (terms_of ((minus, word.now) ∷ parts)) }
-    ensures low { IfSome result (λ n. (pos 0 -ℤ pos (2 ^ 32)) ≤ℤ n) }
-    ensures high { IfSome result (λ n. n ≤ℤ pos (2 ^ 32)) }
-{
-    match read_atom(word) {
-        AtomReading::Good(atom) => term_value(Term { minus, atom }, symbols),
-        AtomReading::Bad | AtomReading::Large => Some(0),
     }
 }
 

@@ -3,6 +3,7 @@ use Rattle.std.proofs.Common.{◌≡◌, ◌≤◌, ◌<◌, ◌||◌, ℕ, zero
 use Rattle.std.specs.List.{list_any, zip}
 use Rattle.std.specs.Option.{option_map, ok_or}
 use Rattle.std.proofs.lemmas.Bool.Decides.{nat_tests}
+use Rattle.arrayvec.specs.ArrayVec.{ArrayVec}
 use Rattle.st_card.specs.Cards.{first_fault}
 use Rattle.st_text.specs.Number.{is_filled}
 use Rattle.st_text.specs.Tables.{row_of}
@@ -118,7 +119,7 @@ tests-fault false true a = refl
 tests-fault false false a = refl
 
 expr-fault : (text : List ℕ) → fault_in (expr_of text) ≡ first-of false (any_bad (parts text)) false (any_large (parts text))
-expr-fault text = tests-fault {A = List Term} (any_bad (parts text)) (any_large (parts text)) (terms_of (parts text))
+expr-fault text = tests-fault {A = ArrayVec Term} (any_bad (parts text)) (any_large (parts text)) (record { items = terms_of (parts text) })
 
 pub address-fault : (must : Bool) (field : List ℕ) → fault_in (spot must field) ≡ field-fault (an_address must) field
 unfolding spot

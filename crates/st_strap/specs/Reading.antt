@@ -2,6 +2,7 @@
 use Rattle.std.specs.Prelude.{ℕ, ◌+◌, ◌==◌, ◌^◌, ◌/◌, Bool, true, false, bit_or, List, [], ◌∷◌, length, take, drop, codes, Option, None, Some, unwrap_or, Result, Ok, Err, if◌then◌else◌}
 use Rattle.std.specs.Option.{option_map, option_or, ok_or}
 use Rattle.st_text.specs.Bytes.{open_parenthesis, close_parenthesis, plus_sign, minus_sign}
+use Rattle.arrayvec.specs.ArrayVec.{ArrayVec}
 use Rattle.st_text.specs.Number.{reading}
 use Rattle.st_text.specs.Tables.{row_of}
 use Rattle.st_card.specs.declared.faults.Fault.{Fault}
@@ -70,7 +71,7 @@ unindexed (c ∷ cs) (Ok a) = Err BadIndex
 unindexed (c ∷ cs) (Err e) = Err (earlier e BadIndex)
 
 -- an address without an index part
-unfoldable pub expression : List ℕ → Result (List Term) Fault
+unfoldable pub expression : List ℕ → Result (ArrayVec Term) Fault
 expression field = unindexed (index_part field) (expr_of (front field))
 
 -- a number that was read
@@ -114,5 +115,5 @@ selected [] = Ok 0
 selected (field ∷ more) = with_selected (index_field field) (selected more)
 
 -- the expression that is one number
-abbrev pub number_expr : ℕ → List Term
-number_expr n = record { minus = false; atom = Number n } ∷ []
+abbrev pub number_expr : ℕ → ArrayVec Term
+number_expr n = record { items = record { minus = false; atom = Number n } ∷ [] }

@@ -1,6 +1,7 @@
 -- What a statement says.
 use Rattle.std.specs.Prelude.{ℕ, ◌&&◌, ◌||◌, Bool, false, not, nat_le, List, [], ◌∷◌, length, Option, None, Some, Result, Ok, Err, if◌then◌else◌}
 use Rattle.std.specs.Option.{option_and_then, option_map_or}
+use Rattle.arrayvec.specs.ArrayVec.{ArrayVec}
 use Rattle.st_bits.specs.declared.operations.HalfOp.TheVariants.{Ex}
 use Rattle.st_text.specs.Number.{is_filled}
 use Rattle.st_card.specs.declared.faults.Fault.{Fault}
@@ -34,7 +35,7 @@ spot_alone (place ∷ []) = spot false place
 spot_alone _ = Err BadFieldCount
 
 -- one address without an index part
-unfoldable pub expression_alone : List (List ℕ) → Result (List Term) Fault
+unfoldable pub expression_alone : List (List ℕ) → Result (ArrayVec Term) Fault
 expression_alone (place ∷ []) = expression place
 expression_alone _ = Err BadFieldCount
 
@@ -61,7 +62,7 @@ operand form (place ∷ offset ∷ []) = both_of (spot (nat_le 2 form.p) place) 
 operand form _ = Err BadFieldCount
 
 -- an address and a second one
-unfoldable pub two_addresses : List (List ℕ) → Result (Spot × List Term) Fault
+unfoldable pub two_addresses : List (List ℕ) → Result (Spot × ArrayVec Term) Fault
 two_addresses (place ∷ second ∷ []) = both_of (spot false place) (expression second)
 two_addresses _ = Err BadFieldCount
 
@@ -71,7 +72,7 @@ spot_and_number (place ∷ n ∷ []) = both_of (spot false place) (plain_number 
 spot_and_number _ = Err BadFieldCount
 
 -- an address and a number that were read
-abbrev pub address_with_number : Result (List Term) Fault → Result ℕ Fault → Result AddressAndNumber Fault
+abbrev pub address_with_number : Result (ArrayVec Term) Fault → Result ℕ Fault → Result AddressAndNumber Fault
 address_with_number address number = mapped (λ p. record { address = p.0; number = p.1 }) (both_of address number)
 
 -- an address without an index part and a number
@@ -85,7 +86,7 @@ two_addresses_and_number [] = Err BadFieldCount
 two_addresses_and_number (place ∷ more) = both_of (spot false place) (address_and_number more)
 
 -- a refill address and flags that were read
-abbrev pub refill_with_flags : Result (List Term) Fault → Result ℕ Fault → Result RefillAndFlags Fault
+abbrev pub refill_with_flags : Result (ArrayVec Term) Fault → Result ℕ Fault → Result RefillAndFlags Fault
 refill_with_flags refill flags = mapped (λ p. record { refill = p.0; flags = p.1 }) (both_of refill flags)
 
 -- a refill address, and flags or none
@@ -105,7 +106,7 @@ count_and_refill [] = Err BadFieldCount
 count_and_refill (count ∷ more) = count_with_refill (plain_number count) (refill_and_flags more)
 
 -- the parts of an index word: a value, and those
-unfoldable pub index_word_parts : List (List ℕ) → Result (List Term × CountAndRefill) Fault
+unfoldable pub index_word_parts : List (List ℕ) → Result (ArrayVec Term × CountAndRefill) Fault
 index_word_parts [] = Err BadFieldCount
 index_word_parts (value ∷ more) = both_of (expression value) (count_and_refill more)
 

@@ -4,7 +4,7 @@ use st_bits::{BranchOp, ConnKind, HalfOp, VflOp};
 use st_expr::Expr;
 
 /// An address, and the index word that changes it.
-#[derive(Drop, Debug)]
+#[derive(Drop, Debug, PartialEq)]
 pub struct Spot {
     /// The address, a bit address.
     pub expr: Expr,
@@ -31,7 +31,7 @@ pub struct Form {
 /// A statement: an instruction, or an order to the assembler. `at` is its first address, and `second` is another one, in bits,
 /// without an index part. Numbers (`offset`, `count`, `number`, `flags`) are as they were read, below 2^64; only the
 /// assembler tries them against what has room.
-#[derive(Drop, Debug)]
+#[derive(Drop, Debug, PartialEq)]
 pub enum Statement {
     /// An operation on the index word `j`, 0 to 15; EX has `j` 0.
     Half {

@@ -1,39 +1,43 @@
 //! Expressions and the terms that they spell.
 use super::*;
-use crate::values::{Symbols, value_of};
+use crate::terms::Atom;
 use std::test::Fail;
+
+fn plus(atom: Atom) -> Term {
+    Term { minus: false, atom }
+}
+
+fn minus(atom: Atom) -> Term {
+    Term { minus: true, atom }
+}
 
 #[test]
 fn reads_names_numbers_and_system_symbols(rt: HostRuntime) -> Result<(), Fail> {
-    let mut symbols = Symbols::new(rt.alloc());
-    let names: [([u8; 8], u32); 5] = [
-        (*b"A       ", 1),
-        (*b"LOOP4567", 2),
-        (*b"Z9      ", 3),
-        (*b"$X01    ", 4),
-        (*b"$ABCDEFG", 5),
-    ];
-    for (name, value) in names {
-        assert_eq!(rt; symbols.define(name, value), Ok(true));
-    }
-    let rows: [(&[u8], i64); 12] = [
-        (b"A", 1),
-        (b"+LOOP4567", 2),
-        (b"-Z9", -3),
-        (b"262143.63", 16_777_215),
-        (b"007.05", 453),
-        (b"5", 320),
-        (b"$BC", 249),
-        (b"$X15", 1984),
-        (b"$AH", 766),
-        (b"$X01", 4),
-        (b"$ABCDEFG", 5),
-        (b"A-1.1+$Z", -64),
+    let rows: [(&[u8], &[Term]); 12] = [
+        (b"A", &[plus(Atom::Name(*b"A       "))]),
+        (b"+LOOP4567", &[plus(Atom::Name(*b"LOOP4567"))]),
+        (b"-Z9", &[minus(Atom::Name(*b"Z9      "))]),
+        (b"262143.63", &[plus(Atom::Number(16_777_215))]),
+        (b"007.05", &[plus(Atom::Number(453))]),
+        (b"5", &[plus(Atom::Number(320))]),
+        (b"$BC", &[plus(Atom::Number(249))]),
+        (b"$X15", &[plus(Atom::Number(1984))]),
+        (b"$AH", &[plus(Atom::Number(766))]),
+        (b"$X01", &[plus(Atom::Name(*b"$X01    "))]),
+        (b"$ABCDEFG", &[plus(Atom::Name(*b"$ABCDEFG"))]),
+        (
+            b"A-1.1+$Z",
+            &[
+                plus(Atom::Name(*b"A       ")),
+                minus(Atom::Number(65)),
+                plus(Atom::Number(0)),
+            ],
+        ),
     ];
     for (text, wanted) in rows {
         assert!(rt; text.len() <= 63);
         let expr = read_expr(text).ok().ok_or("refused")?;
-        assert_eq!(rt; value_of(&expr, &symbols), Some(wanted));
+        assert_eq!(rt; expr.as_slice(), wanted);
     }
     Ok(())
 }
@@ -78,6 +82,6 @@ fn a_number_has_its_limits(rt: HostRuntime) {
 fn as_many_terms_as_a_text_holds_are_read(rt: HostRuntime) -> Result<(), Fail> {
     let text = b"1-1-1-1-1-1-1-1-1-1-1-1-1-1-1-1-1-1-1-1-1-1-1-1-1-1-1-1-1-1-1-1";
     let expr = read_expr(text).ok().ok_or("refused")?;
-    assert_eq!(rt; value_of(&expr, &Symbols::new(rt.alloc())), Some(-30 * 64));
+    assert_eq!(rt; expr.len(), 32);
     Ok(())
 }

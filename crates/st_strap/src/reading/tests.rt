@@ -2,23 +2,24 @@
 use super::*;
 use crate::statement::Spot;
 use st_bits::{ConnKind, VflOp};
-use st_expr::{Expr, read_expr};
+use st_expr::{Atom, Expr, Term};
 use std::process::Abort;
-use std::test::Fail;
 
-// A text as an expression.
-fn expr(text: &[u8]) -> Result<Expr, Fail> {
-    if text.len() > 63 {
-        return Err("too long".into());
-    }
-    Ok(read_expr(text).ok().ok_or("no expression")?)
+// A number as an expression.
+fn bits(number: u32) -> Expr {
+    let mut expr = Expr::new();
+    expr.push(Term {
+        minus: false,
+        atom: Atom::Number(number),
+    });
+    expr
 }
 
-fn spot(text: &[u8], index: u8) -> Result<Spot, Fail> {
-    Ok(Spot {
-        expr: expr(text)?,
+fn spot(number: u32, index: u8) -> Spot {
+    Spot {
+        expr: bits(number),
         index,
-    })
+    }
 }
 
 fn form(decimal: bool, unsigned: bool, length: u8, byte: u8, p: u8) -> Form {
@@ -31,22 +32,13 @@ fn form(decimal: bool, unsigned: bool, length: u8, byte: u8, p: u8) -> Form {
     }
 }
 
-// Statements are compared as their fields are shown.
-fn says(
-    rt: &(impl Abort + AllocGlobal),
-    name: &[u8],
-    text: &[u8],
-    wanted: Statement,
-) -> Result<(), Fail> {
+fn says(rt: &impl Abort, name: &[u8], text: &[u8], wanted: Statement) {
     assert!(rt; text.len() <= 63);
-    let read = read_statement(name, text).ok().ok_or("refused")?;
-    let shown = format!(in rt.alloc(); "{read:?}")?;
-    assert_eq!(rt; shown, format!(in rt.alloc(); "{wanted:?}")?);
-    Ok(())
+    assert_eq!(rt; read_statement(name, text), Ok(wanted));
 }
 
 #[test]
-fn reads_operations_on_fields(rt: HostRuntime) -> Result<(), Fail> {
+fn reads_operations_on_fields(rt: HostRuntime) {
     says(
         &rt,
         b"",
@@ -55,10 +47,10 @@ fn reads_operations_on_fields(rt: HostRuntime) -> Result<(), Fail> {
             op: VflOp::MulAdd,
             negated: false,
             form: form(false, true, 64, 8, 0),
-            at: spot(b"2.0", 0)?,
+            at: spot(128, 0),
             offset: 0,
         },
-    )?;
+    );
     says(
         &rt,
         b"",
@@ -67,10 +59,10 @@ fn reads_operations_on_fields(rt: HostRuntime) -> Result<(), Fail> {
             op: VflOp::MAdd,
             negated: true,
             form: form(true, false, 12, 6, 7),
-            at: spot(b"2.0", 1)?,
+            at: spot(128, 1),
             offset: 4,
         },
-    )?;
+    );
     says(
         &rt,
         b"",
@@ -79,15 +71,14 @@ fn reads_operations_on_fields(rt: HostRuntime) -> Result<(), Fail> {
             kind: ConnKind::Cm,
             table: 6,
             form: form(false, true, 3, 8, 0),
-            at: spot(b"1.5", 0)?,
+            at: spot(69, 0),
             offset: 0,
         },
-    )?;
-    Ok(())
+    );
 }
 
 #[test]
-fn reads_orders_to_the_assembler(rt: HostRuntime) -> Result<(), Fail> {
+fn reads_orders_to_the_assembler(rt: HostRuntime) {
     says(
         &rt,
         b"",
@@ -97,51 +88,43 @@ fn reads_orders_to_the_assembler(rt: HostRuntime) -> Result<(), Fail> {
             minus: true,
             number: 5,
         },
-    )?;
+    );
     says(
         &rt,
         b"",
         b"XW,5,2,7.0,3",
         Statement::IndexWord {
-            value: expr(b"5")?,
+            value: bits(320),
             count: 2,
-            refill: expr(b"7.0")?,
+            refill: bits(448),
             flags: 3,
         },
-    )?;
+    );
     says(
         &rt,
         b"",
         b"XW,5,2,7.0",
         Statement::IndexWord {
-            value: expr(b"5")?,
+            value: bits(320),
             count: 2,
-            refill: expr(b"7.0")?,
+            refill: bits(448),
             flags: 0,
         },
-    )?;
+    );
     says(
         &rt,
         b"A",
         b"SYN,100.0",
-        Statement::Synonym {
-            at: expr(b"100.0")?,
-        },
-    )?;
+        Statement::Synonym { at: bits(6400) },
+    );
     says(
         &rt,
         b"",
         b"SLC,40.0",
-        Statement::SetLocation { at: expr(b"40.0")? },
-    )?;
-    says(
-        &rt,
-        b"A",
-        b"DR,3.0",
-        Statement::Reserve { at: expr(b"3.0")? },
-    )?;
-    says(&rt, b"", b"END,32.0", Statement::End { at: expr(b"32.0")? })?;
-    Ok(())
+        Statement::SetLocation { at: bits(2560) },
+    );
+    says(&rt, b"A", b"DR,3.0", Statement::Reserve { at: bits(192) });
+    says(&rt, b"", b"END,32.0", Statement::End { at: bits(2048) });
 }
 
 #[test]
@@ -209,6 +192,6 @@ fn the_earliest_fault_counts(rt: HostRuntime) {
     ];
     for (name, text, fault) in rows {
         assert!(rt; text.len() <= 63);
-        assert_eq!(rt; read_statement(name, text).err(), Some(fault));
+        assert_eq!(rt; read_statement(name, text), Err(fault));
     }
 }

@@ -2,4 +2,4 @@ use Rattle.std.proofs.Common.{length}
 use Rattle.st_expr.proofs.values.+sum_of.Given as goal
 
 abbrev pub decreases-sum_of : goal.decreases-sum_of
-decreases-sum_of l = length l.text.now
+decreases-sum_of l = length l.terms.now
