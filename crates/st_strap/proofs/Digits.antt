@@ -72,10 +72,15 @@ unequal false is = refl
 pub lacks-ends : (at : ℕ) (text : List ℕ) → lacks at text ≡ true → ends_with at text ≡ false
 lacks-ends at [] lack = refl
 lacks-ends at (c ∷ []) lack = unequal (c == at) (both (not (c == at)) true lack).0
-lacks-ends at (c ∷ d ∷ cs) lack =
+lacks-ends at (c ∷ d ∷ cs) lack = lacks-ends at (d ∷ cs) (both (not (c == at)) (lacks at (d ∷ cs)) lack).1
+
+-- the last byte of a text, as the code finds it
+pub ends_last : (at : ℕ) (text : List ℕ) → option_map_or (λ x. x == at) (slice_get text (length text - 1)) false ≡ ends_with at text
+ends_last at [] = refl
+ends_last at (c ∷ []) = refl
+ends_last at (c ∷ d ∷ cs) =
     let last : length (c ∷ d ∷ cs) - 1 ≡ suc (length (d ∷ cs) - 1) = omega arith in
-    ap (λ i. option_map_or (λ x. x == at) (slice_get (c ∷ d ∷ cs) i) false) last
-    ∙ lacks-ends at (d ∷ cs) (both (not (c == at)) (lacks at (d ∷ cs)) lack).1
+    ap (λ i. option_map_or (λ x. x == at) (slice_get (c ∷ d ∷ cs) i) false) last ∙ ends_last at (d ∷ cs)
 
 pub lacks-begins : (at : ℕ) (text : List ℕ) → lacks at text ≡ true → begins_with at text ≡ false
 lacks-begins at [] lack = refl

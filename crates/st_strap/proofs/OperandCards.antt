@@ -7,8 +7,7 @@ use Rattle.std.proofs.lemmas.Bool.Decides.{nat_tests}
 use Rattle.std.proofs.lemmas.Fmt.{decimal_digit}
 use Rattle.std.proofs.lemmas.List.{take_at, take_all, drop_all}
 use Rattle.std.proofs.lemmas.List.Folds.{list_all-append}
-use Rattle.std.specs.Option.{option_map, option_map_or, option_and_then}
-use Rattle.std.specs.Prelude.{slice_get}
+use Rattle.std.specs.Option.{option_map, option_and_then}
 use Rattle.st_bits.specs.declared.operations.HalfOp.{HalfOp}
 use Rattle.st_bits.specs.declared.operations.HalfOp.TheVariants.{Lvi, VPlusI}
 use Rattle.st_bits.specs.declared.operations.BranchOp.TheVariants.{Bew}
@@ -192,10 +191,8 @@ stop-at at (c ∷ cs) back lack =
 
 ends-append : (at : ℕ) (ahead : List ℕ) → ends_with at (ahead ++ at ∷ []) ≡ true
 ends-append at [] = let same : (at == at) ≡ true = grind (arith, nat_tests) in same
-ends-append at (c ∷ cs) =
-    let size = length-append cs (at ∷ []) in
-    let last : length (c ∷ (cs ++ at ∷ [])) - 1 ≡ suc (length (cs ++ at ∷ []) - 1) = omega (arith, size) in
-    ap (λ i. option_map_or (λ x. x == at) (slice_get (c ∷ (cs ++ at ∷ [])) i) false) last ∙ ends-append at cs
+ends-append at (c ∷ []) = ends-append at []
+ends-append at (c ∷ d ∷ cs) = ends-append at (d ∷ cs)
 
 module _ (inside : List ℕ) (lack : lacks 41 inside ≡ true) where
   group-length : (rest : List ℕ) → group_length (group_text inside ++ rest) ≡ length (group_text inside)

@@ -1,5 +1,5 @@
 -- The text of a statement, cut into its parts.
-use Rattle.std.specs.Prelude.{ℕ, ◌+◌, ◌-◌, ◌==◌, ◌||◌, Bool, not, min, List, [], ◌∷◌, length, take, drop, filter, slice_get, false, if◌then◌else◌}
+use Rattle.std.specs.Prelude.{ℕ, ◌+◌, ◌==◌, ◌||◌, Bool, not, min, List, [], ◌∷◌, length, take, drop, filter, slice_get, false, if◌then◌else◌}
 use Rattle.std.specs.Option.{option_map_or}
 use Rattle.st_text.specs.Bytes.{blank, open_parenthesis, close_parenthesis, comma, semicolon}
 use Rattle.st_text.specs.Pieces.{parted}
@@ -15,7 +15,9 @@ begins_with c text = option_map_or (λ first. first == c) (slice_get text 0) fal
 
 -- whether a text ends with a byte
 abbrev pub ends_with : ℕ → List ℕ → Bool
-ends_with c text = option_map_or (λ last. last == c) (slice_get text (length text - 1)) false
+ends_with c [] = false
+ends_with c (last ∷ []) = last == c
+ends_with c (_ ∷ next ∷ text) = ends_with c (next ∷ text)
 
 -- a statement without its comment and its blanks
 unfoldable pub clean : List ℕ → List ℕ
