@@ -1,6 +1,6 @@
 //! The lines of the chart and of a snapshot.
 
-ghost use Rattle.std.specs.Prelude.{◌≡◌, [], ◌+◌, ◌≤◌, ◌++◌};
+ghost use Rattle.std.specs.Prelude.{◌≡◌, ◌+◌, ◌≤◌, ◌++◌};
 ghost use Rattle.arrayvec.specs.ArrayString.{array_string_len};
 ghost use Rattle.st_report.specs.Line.{row_line, drop_line, snap_line, change_text, lev_line};
 
@@ -9,11 +9,11 @@ use crate::{Line, LineFromEnd};
 use st_text::{begun, push_decimal, push_flag, push_half_address, push_hex, push_short_decimal};
 
 /// `ROW n a P p R r C c`: the n-th instruction done, its half-word address, and the ticks at
-/// which it was prepared, its result was ready, and it was complete.
+/// which it was prepared, its result was ready, and it was complete. What the line had is gone.
 pub fn fill_row(line: &mut LineFromEnd, n: u64, address: u32, p: u64, r: u64, c: u64)
-    requires { line.old ≡ [] }
     ensures { line.new ≡ row_line n address p r c }
 {
+    line.clear();
     line.put(b"\n");
     line.put_decimal(c);
     line.put(b" C ");

@@ -1,6 +1,6 @@
 //! The lines that tell of the run.
 
-ghost use Rattle.std.specs.Prelude.{◌≡◌, []};
+ghost use Rattle.std.specs.Prelude.{◌≡◌};
 ghost use Rattle.st_report.specs.Line.{trc_line, prt_line, int_line, time_line, end_line, done_line, ticks_line, back_line};
 
 use crate::pieces::ended;
@@ -8,11 +8,11 @@ use crate::{Line, LineFromEnd};
 use arrayvec::ArrayString;
 use st_text::{begun, push_decimal, push_short_decimal};
 
-/// `TRC n a`: the n-th instruction is done. The address is a half-word address.
+/// `TRC n a`: the n-th instruction is done. The address is a half-word address. What the line had is gone.
 pub fn fill_trc(line: &mut LineFromEnd, n: u64, address: u32)
-    requires { line.old ≡ [] }
     ensures { line.new ≡ trc_line n address }
 {
+    line.clear();
     line.put(b"\n");
     line.put_half_address(address);
     line.put(b" ");

@@ -2,16 +2,15 @@
 //! overlapped machine shows. `docs/report.md` has the rules.
 #![tactic(auto)]
 
-ghost use Rattle.std.specs.Prelude.{◌≡◌, ◌≤◌, [], length, option_map};
+ghost use Rattle.std.specs.Prelude.{◌≡◌, ◌≤◌, length, option_map};
 ghost use Rattle.st_report.specs.Line.{row_line, drop_line as drop_line_of, snap_line as snap_line_of, lev_line};
 ghost use Rattle.st_time.specs.Shown.{standing, change_of};
 
 use st_ahead::{LevelView, Row, View};
 use st_report::{Line, LineFromEnd, fill_row, line_drop, line_lev, line_snap};
 
-/// `ROW n a P p R r C c`: an entry that is done.
+/// `ROW n a P p R r C c`: an entry that is done. What the line had is gone.
 pub fn chart(line: &mut LineFromEnd, row: &Row)
-    requires { line.old ≡ [] }
     ensures { line.new ≡ row_line row.now.number row.now.address row.now.p row.now.r row.now.c }
 {
     fill_row(line, row.number, row.address, row.p, row.r, row.c);
