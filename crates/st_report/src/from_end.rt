@@ -47,6 +47,14 @@ impl LineFromEnd {
         &self.bytes[self.start..]
     }
 
+    // Takes all bytes away.
+    #[inline(always)]
+    pub(crate) fn clear(&mut self)
+        ensures { self.new ≡ [] }
+    {
+        self.start = ROOM;
+    }
+
     // Puts a piece before the line.
     #[inline(always)]
     pub(crate) fn put(&mut self, piece: &[u8])

@@ -1,6 +1,6 @@
 //! The lines of the chart and of a snapshot.
 
-ghost use Rattle.std.specs.Prelude.{◌≡◌, [], ◌+◌, ◌≤◌, ◌++◌};
+ghost use Rattle.std.specs.Prelude.{◌≡◌, ◌+◌, ◌≤◌, ◌++◌};
 ghost use Rattle.arrayvec.specs.ArrayString.{array_string_len};
 ghost use Rattle.st_report.specs.Line.{row_line, drop_line, snap_line, change_text, lev_line};
 
@@ -26,11 +26,11 @@ pub fn line_row(n: u64, address: u32, p: u64, r: u64, c: u64) -> Line
     ended(line)
 }
 
-/// The same, filled into a line of no bytes.
+/// The same, filled into a line; what the line had is gone.
 pub fn fill_row(line: &mut LineFromEnd, n: u64, address: u32, p: u64, r: u64, c: u64)
-    requires { line.old ≡ [] }
     ensures { line.new ≡ row_line n address p r c }
 {
+    line.clear();
     line.put(b"\n");
     line.put_decimal(c);
     line.put(b" C ");

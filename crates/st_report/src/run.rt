@@ -1,6 +1,6 @@
 //! The lines that tell of the run.
 
-ghost use Rattle.std.specs.Prelude.{◌≡◌, []};
+ghost use Rattle.std.specs.Prelude.{◌≡◌};
 ghost use Rattle.st_report.specs.Line.{trc_line, prt_line, int_line, time_line, end_line, done_line, ticks_line, back_line};
 
 use crate::pieces::ended;
@@ -19,11 +19,11 @@ pub fn line_trc(n: u64, address: u32) -> Line
     ended(line)
 }
 
-/// The same, filled into a line of no bytes.
+/// The same, filled into a line; what the line had is gone.
 pub fn fill_trc(line: &mut LineFromEnd, n: u64, address: u32)
-    requires { line.old ≡ [] }
     ensures { line.new ≡ trc_line n address }
 {
+    line.clear();
     line.put(b"\n");
     line.put_half_address(address);
     line.put(b" ");

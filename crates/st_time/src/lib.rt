@@ -2,7 +2,7 @@
 //! overlapped machine shows. `docs/report.md` has the rules.
 #![tactic(auto)]
 
-ghost use Rattle.std.specs.Prelude.{◌≡◌, ◌≤◌, [], length, option_map};
+ghost use Rattle.std.specs.Prelude.{◌≡◌, ◌≤◌, length, option_map};
 ghost use Rattle.st_report.specs.Line.{row_line, drop_line as drop_line_of, snap_line as snap_line_of, lev_line};
 ghost use Rattle.st_time.specs.Shown.{standing, change_of};
 
@@ -16,9 +16,8 @@ pub fn chart(row: &Row) -> Line
     line_row(row.number, row.address, row.p, row.r, row.c)
 }
 
-/// The same, filled into a line of no bytes.
+/// The same, filled into a line; what the line had is gone.
 pub fn fill_chart(line: &mut LineFromEnd, row: &Row)
-    requires { line.old ≡ [] }
     ensures { line.new ≡ row_line row.now.number row.now.address row.now.p row.now.r row.now.c }
 {
     fill_row(line, row.number, row.address, row.p, row.r, row.c);
