@@ -22,6 +22,7 @@ returns-clause-next c =
       place = refl;
       own = refl;
       target = refl;
+      awaited = c.form-self.ensures.awaited;
       planned = refl;
       found = refl;
       needed = c.requires.needed;
