@@ -16,9 +16,9 @@ returns-then-k-len g c =
 pub returns : goal.returns
 returns g c =
     let i = c.self.inside in
-    let level = c.get-level.result.now in
+    let level = c.level-level.result.now in
     let ready = nat_le c.plan.result.now.r c.args.tick in
-    let there = subst (λ (r : List Level). slice_get r c.args.k ≡ Some level) c.ring.ensures c.get-level.ensures.level in
+    let there = subst (λ (r : List Level). slice_get r c.args.k ≡ Some level) c.ring.ensures c.level-level.ensures.level in
     subst (λ (v : LookView). Some (level-of level.prepared.place.address level.p c.number_of.result c.kept_of.result ready)
     ≡ kept_at c.args.tick v.levels.ring v.levels.plans c.args.k) c.self.view_is
     (some-kept level.prepared.place.address level.p c.number_of.result (option_map (λ x. x.number) level.prepared.index)
