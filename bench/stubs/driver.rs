@@ -1,0 +1,41 @@
+//! Runs an object text with so many instructions and these delays, and shows sums of what is told and of the last state.
+use crate::st_banks::Delays;
+use crate::st_exch::Hopper;
+use crate::st_run::{Run, What};
+use crate::st_state::State;
+use crate::stubs::Global;
+
+pub fn main() {
+    let words: Vec<String> = std::env::args().collect();
+    let text = std::fs::read_to_string(&words[1]).unwrap();
+    let budget = words[2].parse().unwrap();
+    let delays: Vec<u8> = words[3].split(',').map(|delay| delay.parse().unwrap()).collect();
+    let mut image = vec![0u64; 98304];
+    let mut start = 0;
+    for line in text.lines() {
+        let fields: Vec<&str> = line.split(' ').collect();
+        match fields[0] {
+            "W" => image[fields[1].parse::<usize>().unwrap()] = u64::from_str_radix(fields[2], 16).unwrap(),
+            "START" => {
+                let (word, bit) = fields[1].split_once('.').unwrap();
+                start = word.parse::<u32>().unwrap() * 2 + u32::from(bit == "32");
+            }
+            _ => {}
+        }
+    }
+    let Ok(state) = State::new(Global, &image, start) else { panic!() };
+    let Ok(delays) = Delays::new(Global, &delays) else { panic!() };
+    let mut run: Run<4> = Run::new(state, delays, &[], Hopper::empty(), &[], budget);
+    let (mut told, mut tick, mut rows, mut last) = (0u64, 0, 0u64, 0u64);
+    while let Some(next) = run.next() {
+        told += 1;
+        tick = next.tick;
+        if let What::Done { address, p, r } = next.what {
+            rows = rows.wrapping_mul(31).wrapping_add(p * 3 + r * 5 + tick * 7 + u64::from(address));
+        }
+    }
+    for w in 0..98304 {
+        last = last.wrapping_mul(1_000_003).wrapping_add(run.seen().word(w));
+    }
+    println!("told {told}, ticks {tick}, rows {rows:x}, state {last:x}");
+}
