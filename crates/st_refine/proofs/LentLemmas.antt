@@ -140,7 +140,8 @@ rows_of : List ℕ → ℕ → ℕ → Option ℕ → Machine → Front → List
 rows_of ds n zero t s f = []
 rows_of ds n (suc k) t s f =
     let r = row ds n f (entry t s) in
-    record { front = f; r = r.r; c = r.c; fills = fills ds n f (entry t s) } ∷ rows_of ds n k None (guess t s) (after ds n f (entry t s))
+    record { front = record { marker = record {}; value = f }; r = r.r; c = r.c; fills = fills ds n f (entry t s) }
+    ∷ rows_of ds n k None (guess t s) (after ds n f (entry t s))
 
 levels-from : (ds : List ℕ) (n tick : ℕ) (t : Option ℕ) (s : Machine) (f : Front) (ring : List Level)
     → AllZip (IsLevelOf ds n tick) ring (ahead ds n (length ring) t s f)
