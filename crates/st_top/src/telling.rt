@@ -67,6 +67,14 @@ fn write_trace<K: Sink>(
     if !is_traced(controls) {
         return Ok(());
     }
+    write_traced(out, done, address)
+}
+
+// Writes that line. It is apart, so that a run that is not traced makes no room for it.
+#[inline(never)]
+fn write_traced<K: Sink>(out: &mut K, done: u64, address: u32) -> Result<(), Failed>
+    ensures { WritesLines (K.output out.old) (K.output out.new) (trc_line done address ∷ []) result }
+{
     let mut line = LineFromEnd::new();
     fill_trc(&mut line, done, address);
     write_line(out, line.as_bytes())
@@ -81,6 +89,15 @@ fn write_row<K: Sink>(out: &mut K, row: Row, controls: &Controls) -> Result<(), 
     if !is_charted(controls) {
         return Ok(());
     }
+    write_charted(out, row)
+}
+
+// Writes that line. It is apart, so that a run without a chart makes no room for it.
+#[inline(never)]
+fn write_charted<K: Sink>(out: &mut K, row: Row) -> Result<(), Failed>
+    ensures { WritesLines (K.output out.old) (K.output out.new)
+        (row_line row.number row.address row.p row.r row.c ∷ []) result }
+{
     let mut line = LineFromEnd::new();
     fill_chart(&mut line, &row);
     write_line(out, line.as_bytes())
