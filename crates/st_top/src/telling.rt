@@ -67,14 +67,6 @@ fn write_trace<K: Sink>(
     if !is_traced(controls) {
         return Ok(());
     }
-    write_traced(out, done, address)
-}
-
-// Writes that line. It is apart, so that a run that is not traced makes no room for it.
-#[inline(never)]
-fn write_traced<K: Sink>(out: &mut K, done: u64, address: u32) -> Result<(), Failed>
-    ensures { WritesLines (K.output out.old) (K.output out.new) (trc_line done address ∷ []) result }
-{
     let mut line = LineFromEnd::new();
     fill_trc(&mut line, done, address);
     write_line(out, line.as_bytes())
@@ -89,15 +81,6 @@ fn write_row<K: Sink>(out: &mut K, row: Row, controls: &Controls) -> Result<(), 
     if !is_charted(controls) {
         return Ok(());
     }
-    write_charted(out, row)
-}
-
-// Writes that line. It is apart, so that a run without a chart makes no room for it.
-#[inline(never)]
-fn write_charted<K: Sink>(out: &mut K, row: Row) -> Result<(), Failed>
-    ensures { WritesLines (K.output out.old) (K.output out.new)
-        (row_line row.number row.address row.p row.r row.c ∷ []) result }
-{
     let mut line = LineFromEnd::new();
     fill_chart(&mut line, &row);
     write_line(out, line.as_bytes())
@@ -230,6 +213,22 @@ fn write_snapshot<K: Sink>(
     write_levels(out, &view.levels)
 }
 
+// Writes the snapshot that a run shows. It is apart, so that what is told without one makes no room for a view.
+#[inline(never)]
+fn write_shown<K: Sink, const N: usize>(
+    out: &mut K,
+    run: &Run<'_, N>,
+    at: u64,
+    done: u64,
+    controls: &Controls,
+) -> Result<(), Failed>
+    requires { AllPass is_part controls.now.dumps }
+    ensures { WritesLines (K.output out.old) (K.output out.new)
+        (snapshot_lines controls.now done at run.now.seen run.now.ahead) result }
+{
+    write_snapshot(out, at, done, &run.seen(), &run.view(), controls)
+}
+
 // Writes the line that says how the run ended.
 fn write_ended<K: Sink>(out: &mut K, rests: bool) -> Result<(), Failed>
     ensures { WritesLines (K.output out.old) (K.output out.new) (end_line rests ∷ []) result }
@@ -314,9 +313,7 @@ fn write_told<K: Sink, const N: usize>(
         What::Dropped { address, p } => write_dropped(out, address, p, controls),
         What::Printed => write_printed(out, run.printed()),
         What::Interrupted(i) => write_interrupt(out, moment, i, &run.seen(), controls),
-        What::Shown(at) => {
-            write_snapshot(out, at, moment.done, &run.seen(), &run.view(), controls)
-        }
+        What::Shown(at) => write_shown(out, run, at, moment.done, controls),
         What::Ended(rests) => write_end(out, moment, rests, &run.seen(), controls),
     }
 }
