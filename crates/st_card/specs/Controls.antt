@@ -1,5 +1,5 @@
 -- What the control cards of a job ask for.
-use Rattle.std.specs.Prelude.{ℕ, ◌+◌, ◌-◌, ◌==◌, ◌&&◌, Bool, true, false, nat_le, nat_lt, List, [], ◌∷◌, ◌++◌, length, slice_get, codes, Option, Some, None, if◌then◌else◌}
+use Rattle.std.specs.Prelude.{ℕ, ◌+◌, ◌==◌, ◌&&◌, Bool, true, false, nat_le, nat_lt, List, [], ◌∷◌, ◌++◌, length, slice_get, codes, Option, Some, None, if◌then◌else◌}
 use Rattle.std.specs.List.{list_all}
 use Rattle.std.specs.Option.{option_map_or}
 use Rattle.st_bits.specs.declared.limits.TheConstants.{LAST_WORD, MOST_INSTRUCTIONS, LONGEST_LIST}
@@ -69,7 +69,8 @@ is_in_range least most n = nat_le least n && nat_le n most
 
 -- whether the last item, if there is any, passes
 abbrev pub last_passes : {X : Type 0} → (X → Bool) → List X → Bool
-last_passes test items = option_map_or test (slice_get items (length items - 1)) true
+last_passes test [] = true
+last_passes test (item ∷ more) = option_map_or test (slice_get (item ∷ more) (length more)) true
 
 -- `/BUDGET n`, once, n from 1 to 10,000,000
 abbrev pub with_budget : Asked → List ℕ → Option Asked

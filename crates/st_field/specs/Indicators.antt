@@ -3,16 +3,12 @@ use Rattle.std.specs.Prelude.{ℕ, ◌+◌, ◌/◌, ◌%◌, Bool, ◌==◌, if
 use Rattle.std.specs.declared.cmp.Ordering.{Ordering}
 use Rattle.std.specs.declared.cmp.Ordering.TheVariants.{Less, Equal, Greater}
 use Rattle.st_bits.specs.declared.storage.Ind.{Ind}
-use Rattle.st_bits.specs.Indicators.{indicator, indicators}
+use Rattle.st_bits.specs.Indicators.{indicator, indicators, is_on}
 use Rattle.st_bits.specs.declared.indicators.TheConstants.{LOST_CARRY, PARTIAL_FIELD, FLAG_T, FLAG_U, FLAG_V, TO_MEMORY_OPERATION, RESULT_LESS, RESULT_ZERO, RESULT_GREATER, RESULT_NEGATIVE, ACCUMULATOR_LOW, ACCUMULATOR_EQUAL, ACCUMULATOR_HIGH}
 
 -- indicator n, where b holds
 abbrev pub on_if : Bool → ℕ → ℕ
 on_if b n = if b then indicator n else 0
-
--- whether indicator n is on
-abbrev pub is_on : ℕ → ℕ → Bool
-is_on ind n = ind / indicator n % 2 == 1
 
 -- LC, where a carry is lost
 abbrev pub lost_carry : Bool → ℕ

@@ -5,10 +5,8 @@ ghost use Rattle.st_bits.specs.declared.register.TheConstants.{COUNTS, FIRST_IND
 ghost use Rattle.st_bits.specs.Registers.{fixed};
 ghost use Rattle.st_bits.specs.Storage.{words_of_storage};
 ghost use Rattle.st_field.specs.Digits.{value_of, digits_of};
-ghost use Rattle.st_field.specs.Indicators.{is_on as is_on_in_operands};
 ghost use Rattle.st_dec.specs.DigitLists.{bytes, joined, value, decimal as digits};
 ghost use Rattle.st_conn.specs.Connective.{leading_zeros};
-ghost use Rattle.st_state.specs.Interrupts.{is_on};
 ghost use Rattle.st_conn.specs.Connection.{counts_of};
 ghost use Rattle.st_card.specs.Controls.{card_number};
 ghost use Rattle.st_card.specs.Limits.{is_part};
@@ -43,11 +41,6 @@ pub fn symbols_agree()
         ≡ map (λ row. (row.0, 64 * (FIRST_INDEX_WORD + row.1))) index_fields }
     ensures zeros_count { row_of (codes "$LZC") system_symbols ≡ Some (64 * COUNTS + 17) }
     ensures ones_count { row_of (codes "$AOC") system_symbols ≡ Some (64 * COUNTS + 44) }
-{}
-
-/// An indicator is on for an operation where it is on for an interrupt.
-pub fn indicators_agree()
-    ensures { (x n : ℕ) → n < 64 → is_on_in_operands x n ≡ is_on x n }
 {}
 
 /// What is laid, and what is shown of storage, ends where storage does.

@@ -1,15 +1,10 @@
 -- Indicators: indicator n is bit n of the indicator register, and bit n of the mask register is its mask.
 use Rattle.std.specs.Prelude.{ℕ, zero, suc, ◌+◌, ◌*◌, ◌^◌, Bool, ◌==◌, ◌&&◌, if◌then◌else◌, Option, None, Some}
 use Rattle.std.specs.Int.{bit_at}
-use Rattle.st_bits.specs.Bits.{part}
 use Rattle.st_bits.specs.declared.storage.Ind.{Ind}
 use Rattle.st_bits.specs.declared.register.TheConstants.{INDICATORS, MASK}
-use Rattle.st_bits.specs.Indicators.{indicator}
+use Rattle.st_bits.specs.Indicators.{indicator, is_on}
 use Rattle.st_state.specs.Machine.{Machine, word, with_word}
-
--- indicator n is on in the word x
-abbrev pub is_on : ℕ → ℕ → Bool
-is_on x n = part x n 1 == 1
 
 -- an indicator after its turn: on where it is to be on, else off where it is to be off, else as it was
 abbrev pub turned_bit : ℕ → ℕ → ℕ → ℕ
