@@ -108,9 +108,11 @@ dump-kept kept new (first ∷ last ∷ n ∷ ns) same limits = cc
 -- a test of the last item is one of the item at the last place
 last_item : {X : Type 0} (test : X → Bool) (items : List X) → last_passes test items ≡ true → (d : X) → 0 < length items →
     test (get_or items (length items - 1) d) ≡ true
-last_item test [] passes d some = cc
+last_item test [] passes d some = absurd (omega (arith, some))
 last_item {X} test (x ∷ xs) passes d some =
-    sym (ap (λ (o : Option X). option_map_or test o true) (slice_get-get_or (x ∷ xs) (length xs) d (omega arith))) ∙ passes
+    let here : length (x ∷ xs) - 1 ≡ length xs = omega arith in
+    let last = slice_get-get_or (x ∷ xs) (length xs) d (omega arith) in
+    ap (λ k. test (get_or (x ∷ xs) k d)) here ∙ sym (ap (λ (o : Option X). option_map_or test o true) last) ∙ passes
 
 pub signal-kept : (kept new : Asked) (numbers : List ℕ) → spec.with_signal kept numbers ≡ Some new →
     IsWithinLimits kept → IsWithinLimits new

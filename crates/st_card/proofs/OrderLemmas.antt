@@ -26,7 +26,9 @@ last_ok : {X : Type 0} (test : X → Bool) (items : List X) →
     ((d : X) → 0 < length items → test (get_or items (length items - 1) d) ≡ true) → last_passes test items ≡ true
 last_ok test [] passes = refl
 last_ok {X} test (x ∷ xs) passes =
-    ap (λ (o : Option X). option_map_or test o true) (slice_get-get_or (x ∷ xs) (length xs) x (omega arith)) ∙ passes x (omega arith)
+    let here : length xs ≡ length (x ∷ xs) - 1 = omega arith in
+    ap (λ (o : Option X). option_map_or test o true) (slice_get-get_or (x ∷ xs) (length xs) x (omega arith))
+    ∙ ap (λ k. test (get_or (x ∷ xs) k x)) here ∙ passes x (omega arith)
 
 -- counts that do not fall
 last_count : (done rest : List Signal) (s : Signal) → IsNonDecreasingBy (λ x. x.count) (done ++ s ∷ rest) →
