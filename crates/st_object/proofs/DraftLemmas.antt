@@ -1,8 +1,11 @@
 -- What holds of a draft holds of it with a further line.
-use Rattle.std.proofs.Common.{Option, IfSome, ◌≡◌, ◌≤◌, ◌<◌, ◌-◌, ◌^◌, ◌==◌, ◌&&◌, ℕ, Bool, true, false, not, nat_le, nat_lt, List, [], ◌∷◌, ◌++◌, length, get_or, replicate, Some, None, if◌then◌else◌, refl, ap, sym, subst, ◌∙◌, length-append, arith, lit<}
-use Rattle.std.proofs.lemmas.Bool.{and_parts as holds_both, leb-true as at_most, ltb-false as not_below, ltb-true as below}
-use Rattle.std.specs.List.{All, AllPass}
-use Rattle.std.proofs.lemmas.List.{length-replicate, get_or_append_left, get_or-append_right, get_or-replicate}
+use Rattle.std.proofs.Common.{◌≡◌, ◌+◌, ◌≤◌, ◌<◌, ◌-◌, ◌^◌, ◌==◌, ◌&&◌, ℕ, Bool, true, false, not, nat_le, nat_lt, List, [], ◌∷◌, ◌++◌, length, get_or, replicate, Option, Some, None, if◌then◌else◌, refl, sym, subst, ◌∙◌, length-append, arith, lit<}
+use Rattle.std.proofs.lemmas.Option.{same_Some}
+use Rattle.std.proofs.lemmas.Bool.{and_parts as holds_both, and_from as both_true, leb-true as at_most, ltb-true as below}
+use Rattle.std.proofs.lemmas.Grind.{common_steps}
+use Rattle.std.specs.List.{All}
+use Rattle.std.specs.Option.{option_map}
+use Rattle.std.proofs.lemmas.List.{length-replicate}
 use Rattle.std.proofs.lemmas.List.Elements.{All-append, All-replicate}
 use Rattle.std.proofs.lemmas.List.Sums.{AllPass-from_list_all}
 use Rattle.std.proofs.lemmas.Bool.Decides.{nat_tests}
@@ -12,57 +15,15 @@ use Rattle.st_card.specs.declared.keywords.Keyword.{Keyword}
 use Rattle.st_card.specs.declared.keywords.Keyword.TheVariants as keywords
 use Rattle.st_card.specs.Limits.{is_tick, IsWithinLimits}
 use Rattle.st_card.proofs.LimitLemmas.{budget-kept, delays-kept, signal-kept, dump-kept, trace-kept, time-kept, chart-kept, snap-kept, back-kept}
-use Rattle.st_object.specs.Draft.{Draft, IsDraft, has_place, may_hold, with_start, with_word, with_order, with_value, with_item}
+use Rattle.st_object.specs.Draft.{Draft, IsDraft, may_hold, with_order, with_value, with_item}
 use Rattle.st_object.specs.declared.items.Item.{Item}
 use Rattle.st_object.specs.declared.items.Item.TheVariants.{Object, Start, Word, Budget, Delay, Signal, Dump, Trace, Time, Chart, Snap, Back, Fin}
-use Rattle.st_object.specs.declared.items.Kind.TheVariants as kinds
-use Rattle.st_object.proofs.LineMeanings.{given, mapped, the_one, IsNarrow}
+use Rattle.st_object.proofs.LineMeanings.{by_value, IsNarrow}
 
 -- a word above the registers leaves them zero
-registers_kept : (xs : List ℕ) (w x : ℕ) → length xs ≤ w → 32 ≤ w → ((k : ℕ) → k < 32 → get_or xs k 0 ≡ 0) →
-    (k : ℕ) → k < 32 → get_or (xs ++ replicate (w - length xs) 0 ++ x ∷ []) k 0 ≡ 0
-registers_kept xs w x within above zero_below k low =
-    let zeros : List ℕ = replicate (w - length xs) 0 in
-    let size : length (xs ++ zeros) ≡ w = omega (arith, length-append xs zeros, length-replicate {A = ℕ} (w - length xs) 0) in
-    let inside : k < length (xs ++ zeros) = omega arith in
-    let step : (b : Bool) → nat_lt k (length xs) ≡ b → get_or (xs ++ zeros) k 0 ≡ 0 =
-    λ b. elim b as (λ v. nat_lt k (length xs) ≡ v → get_or (xs ++ zeros) k 0 ≡ 0) [
-      | true ↦ λ test. get_or_append_left xs zeros 0 k (below k (length xs) test) ∙ zero_below k low
-      | false ↦ λ test.
-          let behind : length xs ≤ k = not_below k (length xs) test in
-          let count : k - length xs < w - length xs = omega arith in
-          get_or-append_right xs zeros (length xs) k 0 refl behind ∙ get_or-replicate (w - length xs) (k - length xs) 0 0 count
-    ] in
-    get_or_append_left (xs ++ zeros) (x ∷ []) 0 k inside ∙ step (nat_lt k (length xs)) refl
-
--- each word has 64 bits
-words_kept : (xs : List ℕ) (w x : ℕ) → All (λ y. y < 2 ^ 64) xs → x < 2 ^ 64 →
-    All (λ y. y < 2 ^ 64) (xs ++ replicate (w - length xs) 0 ++ x ∷ [])
-words_kept xs w x each small =
-    All-append (λ y. y < 2 ^ 64) (xs ++ replicate (w - length xs) 0) (x ∷ [])
-    (All-append (λ y. y < 2 ^ 64) xs (replicate (w - length xs) 0) each (All-replicate (λ y. y < 2 ^ 64) (w - length xs) 0 (lit< tt)))
-    (All-replicate (λ y. y < 2 ^ 64) 1 x small)
-
-pub kept_with : (d : Draft) (new : Asked) → IsDraft d → IsWithinLimits new → new.list ≡ false → IsDraft (record d { asked = new })
-kept_with d new draft limits unlisted = record {
-  few = draft.few;
-  each = draft.each;
-  registers = draft.registers;
-  start = draft.start;
-  limits = limits;
-  unlisted = unlisted;
-}
-
-pub kept_ends : (d : Draft) (begun ended : Bool) (start : Option ℕ) → IsDraft d → IfSome start (λ h. h < 2 ^ 19) →
-    IsDraft (record d { begun = begun; start = start; ended = ended })
-kept_ends d begun ended start draft small = record {
-  few = draft.few;
-  each = draft.each;
-  registers = draft.registers;
-  start = small;
-  limits = draft.limits;
-  unlisted = draft.unlisted;
-}
+registers_kept : (xs : List ℕ) (n w x : ℕ) → length xs + n ≡ w → 32 ≤ w → ((k : ℕ) → k < 32 → get_or xs k 0 ≡ 0) →
+    (k : ℕ) → k < 32 → get_or (xs ++ replicate n 0 ++ x ∷ []) k 0 ≡ 0
+registers_kept xs n w x whole above zero_below k low = grind (arith, common_steps)
 
 kept_word : (d : Draft) (w x : ℕ) → IsDraft d → may_hold (length d.words) w x ≡ true → x < 2 ^ 64 →
     IsDraft (record d { words = d.words ++ replicate (w - length d.words) 0 ++ x ∷ [] })
@@ -74,70 +35,57 @@ kept_word d w x draft fits small =
     let above : 32 ≤ w = at_most 32 w places.0 in
     let within : length d.words ≤ w = at_most (length d.words) w places.1 in
     let zeros : List ℕ = replicate (w - length d.words) 0 in
+    let whole : length d.words + (w - length d.words) ≡ w = omega arith in
+    let fit = λ (y : ℕ). y < 2 ^ 64 in
     record {
       few = omega (arith, length-append (d.words ++ zeros) (x ∷ []), length-append d.words zeros, length-replicate {A = ℕ} (w - length d.words) 0);
-      each = words_kept d.words w x draft.each small;
-      registers = registers_kept d.words w x within above draft.registers;
+      each = All-append fit (d.words ++ zeros) (x ∷ []) (All-append fit d.words zeros draft.each (All-replicate fit (w - length d.words) 0 (lit< tt)))
+          (All-replicate fit 1 x small);
+      registers = registers_kept d.words (w - length d.words) w x whole above draft.registers;
       start = draft.start;
       limits = draft.limits;
       unlisted = draft.unlisted;
     }
 
+-- only listings are asked for by a keyword of their own
+unlisted : (keyword : Keyword) (old new : Asked) (numbers : List ℕ) → (keyword ≡ keywords.Listing → ⊥) →
+    with_keyword keyword old numbers ≡ Some new → old.list ≡ new.list
+unlisted keyword old new numbers other same = grind arith
+
 -- what is asked for, where it is within its limits
-kept_asked : (d e : Draft) (place : Bool) (keyword : Keyword) (numbers : List ℕ) →
-    (if place then with_order d keyword numbers else None) ≡ Some e →
-    ((new : Asked) → with_keyword keyword d.asked numbers ≡ Some new → IsWithinLimits new) →
-    ((new : Asked) → with_keyword keyword d.asked numbers ≡ Some new → d.asked.list ≡ new.list) → IsDraft d → IsDraft e
-kept_asked d e place keyword numbers same limits unlisted draft =
-    let step = given place (with_order d keyword numbers) e same in
-    let parts = mapped (λ (a : Asked). record d { asked = a }) (with_keyword keyword d.asked numbers) e step.1 in
-    subst (λ (x : Draft). IsDraft x) parts.1.1
-    (kept_with d parts.0 draft (limits parts.0 parts.1.0) (sym (unlisted parts.0 parts.1.0) ∙ draft.unlisted))
-
-unlisted_test : (b : Bool) (new given_new : Asked) → (if b then Some given_new else None) ≡ Some new → given_new.list ≡ new.list
-unlisted_test true new given_new same = ap (λ (a : Asked). a.list) (the_one given_new new same)
-unlisted_test false new given_new same = cc
-
-unlisted_mark : (b : Bool) (new given_new : Asked) → (if b then None else Some given_new) ≡ Some new → given_new.list ≡ new.list
-unlisted_mark true new given_new same = cc
-unlisted_mark false new given_new same = ap (λ (a : Asked). a.list) (the_one given_new new same)
+kept_asked : (d e : Draft) (place : Bool) (keyword : Keyword) (numbers : List ℕ) → (if place then with_order d keyword numbers else None) ≡ Some e →
+    (keyword ≡ keywords.Listing → ⊥) →
+    ((new : Asked) → with_keyword keyword d.asked numbers ≡ Some new → IsWithinLimits d.asked → IsWithinLimits new) → IsDraft d → IsDraft e
+kept_asked d e false keyword numbers same other limits draft = cc
+kept_asked d e true keyword numbers same other limits draft = go (with_keyword keyword d.asked numbers) refl same
+  where
+    go : (o : Option Asked) → with_keyword keyword d.asked numbers ≡ o → option_map (λ a. record d { asked = a }) o ≡ Some e → IsDraft e
+    go None found put = cc
+    go (Some new) found put =
+        let within = limits new found draft.limits in
+        let none : new.list ≡ false = sym (unlisted keyword d.asked new numbers other found) ∙ draft.unlisted in
+        let here : IsDraft (record d { asked = new }) = assumption in subst (λ x. IsDraft x) (same_Some _ e put) here
 
 -- each line that is added keeps what holds of drafts
 pub kept : (d e : Draft) (item : Item) → with_item d item ≡ Some e → IsNarrow item → IsDraft d → IsDraft e
 unfolding with_value
-kept d e Object same narrow draft =
-    let step = given (has_place d kinds.Object) (Some (record d { begun = true })) e same in
-    subst (λ (x : Draft). IsDraft x) (the_one _ e step.1) (kept_ends d true d.ended d.start draft draft.start)
-kept d e (Start h) same narrow draft =
-    let step = given (has_place d kinds.Start) (with_start d h) e same in
-    let fits = given (nat_lt h (2 ^ 19)) (Some (record d { start = Some h })) e step.1 in
-    subst (λ (x : Draft). IsDraft x) (the_one _ e fits.1) (kept_ends d d.begun d.ended (Some h) draft (below h (2 ^ 19) fits.0))
+kept d e Object same narrow draft = by_value IsDraft d e _ true (record d { begun = true }) same (λ placed test. assumption)
+kept d e (Start h) same narrow draft = by_value IsDraft d e _ (nat_lt h (2 ^ 19)) (record d { start = Some h }) same
+    (λ placed fits. let small = below h (2 ^ 19) fits in assumption)
 kept d e (Word w x) same narrow draft =
-    let step = given (has_place d kinds.Word) (with_word d w x) e same in
-    let fits = given (may_hold (length d.words) w x)
-    (Some (record d { words = d.words ++ replicate (w - length d.words) 0 ++ x ∷ [] })) e step.1 in
-    subst (λ (y : Draft). IsDraft y) (the_one _ e fits.1) (kept_word d w x draft fits.0 narrow)
-kept d e (Budget n) same narrow draft = kept_asked d e _ keywords.Budget (n ∷ []) same
-    (λ new fits. budget-kept d.asked new (n ∷ []) fits draft.limits) (λ new fits. unlisted_test _ new _ fits) draft
-kept d e (Delay n) same narrow draft = kept_asked d e _ keywords.Delays (n ∷ []) same
-    (λ new fits. delays-kept d.asked new (n ∷ []) fits draft.limits) (λ new fits. unlisted_test _ new _ fits) draft
-kept d e (Signal c i) same narrow draft = kept_asked d e _ keywords.Signals (c ∷ i ∷ []) same
-    (λ new fits. signal-kept d.asked new (c ∷ i ∷ []) fits draft.limits) (λ new fits. unlisted_test _ new _ fits) draft
-kept d e (Dump f t) same narrow draft = kept_asked d e _ keywords.Dump (f ∷ t ∷ []) same
-    (λ new fits. dump-kept d.asked new (f ∷ t ∷ []) fits draft.limits) (λ new fits. unlisted_test _ new _ fits) draft
-kept d e Trace same narrow draft = kept_asked d e _ keywords.Trace [] same
-    (λ new fits. trace-kept d.asked new [] fits draft.limits) (λ new fits. unlisted_mark _ new _ fits) draft
-kept d e Time same narrow draft = kept_asked d e _ keywords.Time [] same
-    (λ new fits. time-kept d.asked new [] fits draft.limits) (λ new fits. unlisted_mark _ new _ fits) draft
-kept d e Chart same narrow draft = kept_asked d e _ keywords.Chart [] same
-    (λ new fits. chart-kept d.asked new [] fits draft.limits) (λ new fits. unlisted_mark _ new _ fits) draft
+    by_value IsDraft d e _ (may_hold (length d.words) w x) (record d { words = d.words ++ replicate (w - length d.words) 0 ++ x ∷ [] }) same
+    (λ placed fits. kept_word d w x draft fits narrow)
+kept d e (Budget n) same narrow draft = kept_asked d e _ keywords.Budget (n ∷ []) same (λ no. cc) (λ a. budget-kept d.asked a (n ∷ [])) draft
+kept d e (Delay n) same narrow draft = kept_asked d e _ keywords.Delays (n ∷ []) same (λ no. cc) (λ a. delays-kept d.asked a (n ∷ [])) draft
+kept d e (Signal c i) same narrow draft =
+    kept_asked d e _ keywords.Signals (c ∷ i ∷ []) same (λ no. cc) (λ a. signal-kept d.asked a (c ∷ i ∷ [])) draft
+kept d e (Dump f t) same narrow draft = kept_asked d e _ keywords.Dump (f ∷ t ∷ []) same (λ no. cc) (λ a. dump-kept d.asked a (f ∷ t ∷ [])) draft
+kept d e Trace same narrow draft = kept_asked d e _ keywords.Trace [] same (λ no. cc) (λ a. trace-kept d.asked a []) draft
+kept d e Time same narrow draft = kept_asked d e _ keywords.Time [] same (λ no. cc) (λ a. time-kept d.asked a []) draft
+kept d e Chart same narrow draft = kept_asked d e _ keywords.Chart [] same (λ no. cc) (λ a. chart-kept d.asked a []) draft
 kept d e (Snap t) same narrow draft =
     let tick : is_tick t ≡ true = grind (arith, nat_tests) in
-    let short : AllPass is_tick (t ∷ []) = AllPass-from_list_all is_tick (t ∷ []) (ap (λ b. b && true) tick) in
-    kept_asked d e _ keywords.Snap (t ∷ []) same
-    (λ new fits. snap-kept d.asked new (t ∷ []) short fits draft.limits) (λ new fits. unlisted_test _ new _ fits) draft
-kept d e (Back k) same narrow draft = kept_asked d e _ keywords.Back (k ∷ []) same
-    (λ new fits. back-kept d.asked new (k ∷ []) fits draft.limits) (λ new fits. unlisted_test _ new _ fits) draft
-kept d e Fin same narrow draft =
-    let step = given (has_place d kinds.Fin) (Some (record d { ended = true })) e same in
-    subst (λ (x : Draft). IsDraft x) (the_one _ e step.1) (kept_ends d d.begun true d.start draft draft.start)
+    let short = AllPass-from_list_all is_tick (t ∷ []) (both_true (is_tick t) true tick refl) in
+    kept_asked d e _ keywords.Snap (t ∷ []) same (λ no. cc) (λ a. snap-kept d.asked a (t ∷ []) short) draft
+kept d e (Back k) same narrow draft = kept_asked d e _ keywords.Back (k ∷ []) same (λ no. cc) (λ a. back-kept d.asked a (k ∷ [])) draft
+kept d e Fin same narrow draft = by_value IsDraft d e _ true (record d { ended = true }) same (λ placed test. assumption)

@@ -1,37 +1,25 @@
 -- A text cut at its first byte of a kind.
-use Rattle.std.proofs.Common.{◌≡◌, ℕ, ◌==◌, ◌&&◌, Bool, true, false, not, IsTrue, List, [], ◌∷◌, ◌++◌, Option, Some, None, if◌then◌else◌, MatchOption, IfSome, refl, ap, sym, ◌∙◌, arith}
+use Rattle.std.proofs.Common.{◌≡◌, ℕ, ◌==◌, ◌&&◌, Bool, true, false, not, IsTrue, List, [], ◌∷◌, ◌++◌, Option, Some, None, MatchOption, IfSome, refl, ap, sym, ◌∙◌, arith}
+use Rattle.std.proofs.lemmas.Bool.{eq-eqb}
 use Rattle.std.specs.Option.{option_map}
 use Rattle.std.specs.Borrow.{Bor}
-use Rattle.std.proofs.lemmas.Bool.Decides.{nat_tests}
 use Rattle.st_text.specs.Pieces.{lacks}
 use Rattle.st_object.specs.Meaning.{parts_at}
 
 -- a first byte that is another, and a rest that lacks the byte
 pub other_first : (a b : Bool) → (not a && b) ≡ true → (a ≡ false) × (b ≡ true)
-other_first true b lacking = cc
-other_first false b lacking = (refl, lacking)
-
-itself : (at : ℕ) → (at == at) ≡ true
-itself at = grind (arith, nat_tests)
+other_first a b lacking = grind arith
 
 -- a text around the byte
 pub parts_around : (at : ℕ) (front back : List ℕ) → lacks at front ≡ true → parts_at at (front ++ at ∷ back) ≡ Some (front, back)
-parts_around at [] back lacking =
-    ap (λ (b : Bool). if b then Some ([], back) else option_map (λ (p : List ℕ × List ℕ). (at ∷ p.0, p.1)) (parts_at at back)) (itself at)
+parts_around at [] back lacking = rw (eq-eqb at at refl)
 parts_around at (c ∷ cs) back lacking =
-    let tests = other_first (c == at) (lacks at cs) lacking in
-    let later = parts_around at cs back tests.1 in
-    ap (λ (b : Bool). if b then Some ([], cs ++ at ∷ back) else option_map (λ (p : List ℕ × List ℕ). (c ∷ p.0, p.1)) (parts_at at (cs ++ at ∷ back))) tests.0
-    ∙ ap (λ (o : Option (List ℕ × List ℕ)). option_map (λ (p : List ℕ × List ℕ). (c ∷ p.0, p.1)) o) later
+    let tests = other_first (c == at) (lacks at cs) lacking in rw (tests.0, parts_around at cs back tests.1)
 
 -- a text without the byte
 pub parts_none : (at : ℕ) (text : List ℕ) → lacks at text ≡ true → parts_at at text ≡ None
 parts_none at [] lacking = refl
-parts_none at (c ∷ cs) lacking =
-    let tests = other_first (c == at) (lacks at cs) lacking in
-    let later = parts_none at cs tests.1 in
-    ap (λ (b : Bool). if b then Some ([], cs) else option_map (λ (p : List ℕ × List ℕ). (c ∷ p.0, p.1)) (parts_at at cs)) tests.0
-    ∙ ap (λ (o : Option (List ℕ × List ℕ)). option_map (λ (p : List ℕ × List ℕ). (c ∷ p.0, p.1)) o) later
+parts_none at (c ∷ cs) lacking = grind (arith, parts_none at cs)
 
 -- what was cut is the two parts
 pub parts_found : (at : ℕ) (text : List ℕ) (r : Option (Bor (List ℕ) × Bor (List ℕ))) →
@@ -39,5 +27,4 @@ pub parts_found : (at : ℕ) (text : List ℕ) (r : Option (Bor (List ℕ) × Bo
     IfSome r (λ p. text ≡ p.0.now ++ at ∷ p.1.now) →
     option_map (λ p. (p.0.now, p.1.now)) r ≡ parts_at at text
 parts_found at text None lacking whole = sym (parts_none at text lacking)
-parts_found at text (Some p) lacking whole =
-    sym (ap (λ (s : List ℕ). parts_at at s) whole ∙ parts_around at p.0.now p.1.now lacking)
+parts_found at text (Some p) lacking whole = sym (ap (λ s. parts_at at s) whole ∙ parts_around at p.0.now p.1.now lacking)
