@@ -19,27 +19,21 @@ use Rattle.st_object.proofs.ProgramLines.{Leads, made_again}
 lacks_number : (n : ℕ) → IsShort n → lacks 10 (decimal n) ≡ true
 lacks_number n short = lacks-decimal 10 n (omega arith) (short_small n short)
 
-lacks_numbers : (c a b : ℕ) → not (c == 10) ≡ true → IsShort a → IsShort b → lacks 10 (decimal a ++ c ∷ [] ++ decimal b) ≡ true
-lacks_numbers c a b other short_a short_b =
-    list_all-append (λ x. not (x == 10)) (decimal a ++ c ∷ []) (decimal b)
-    ∙ and_true _ _ (list_all-append (λ x. not (x == 10)) (decimal a) (c ∷ []) ∙ and_true _ _ (lacks_number a short_a) (and_true _ true other refl))
-    (lacks_number b short_b)
-
-lacks_word : (w x : ℕ) → IsShort w → lacks 10 (decimal w ++ 32 ∷ [] ++ hex_word x) ≡ true
-lacks_word w x short =
-    list_all-append (λ c. not (c == 10)) (decimal w ++ 32 ∷ []) (hex_word x)
-    ∙ and_true _ _ (list_all-append (λ c. not (c == 10)) (decimal w) (32 ∷ []) ∙ and_true _ _ (lacks_number w short) refl) (lacks-hex 10 16 x (omega arith))
+lacks_behind : (n c : ℕ) (back : List ℕ) → IsShort n → not (c == 10) ≡ true → lacks 10 back ≡ true → lacks 10 (decimal n ++ c ∷ [] ++ back) ≡ true
+lacks_behind n c back short other lacking =
+    rw (list_all-append (λ x. not (x == 10)) (decimal n ++ c ∷ []) back, list_all-append (λ x. not (x == 10)) (decimal n) (c ∷ []), lacks_number n short, other)
+    lacking
 
 -- no line end stands in a line
 lacks-spelled : (item : Item) → IsItem item → lacks 10 (spelled item) ≡ true
 unfolding spelled
 lacks-spelled Object short = refl
-lacks-spelled (Start h) short = let bit : IsShort (32 * (h % 2)) = omega arith in lacks_numbers 46 (h / 2) (32 * (h % 2)) refl short bit
-lacks-spelled (Word w x) short = lacks_word w x short.0
+lacks-spelled (Start h) short = lacks_behind (h / 2) 46 _ short refl (lacks_number (32 * (h % 2)) (omega arith))
+lacks-spelled (Word w x) short = lacks_behind w 32 _ short.0 refl (lacks-hex 10 16 x (omega arith))
 lacks-spelled (Budget n) short = lacks_number n short
 lacks-spelled (Delay n) short = lacks_number n short
-lacks-spelled (Signal c i) short = lacks_numbers 32 c i refl short.0 short.1
-lacks-spelled (Dump f t) short = lacks_numbers 32 f t refl short.0 short.1
+lacks-spelled (Signal c i) short = lacks_behind c 32 _ short.0 refl (lacks_number i short.1)
+lacks-spelled (Dump f t) short = lacks_behind f 32 _ short.0 refl (lacks_number t short.1)
 lacks-spelled Trace short = refl
 lacks-spelled Time short = refl
 lacks-spelled Chart short = refl
@@ -51,33 +45,27 @@ lacks-spelled Fin short = refl
 pub parted_line : (line rest : List ℕ) → lacks 10 line ≡ true → parted 10 (line ++ 10 ∷ rest) ≡ line ∷ parted 10 rest
 parted_line [] rest lacking = refl
 parted_line (c ∷ cs) rest lacking =
-    let tests = other_first (c == 10) (lacks 10 cs) lacking in
-    ap (λ (b : Bool). if b then [] ∷ parted 10 (cs ++ 10 ∷ rest) else onto_first c (parted 10 (cs ++ 10 ∷ rest))) tests.0
-    ∙ ap (λ (pieces : List (List ℕ)). onto_first c pieces) (parted_line cs rest tests.1)
+    let tests = other_first (c == 10) (lacks 10 cs) lacking in rw (tests.0, parted_line cs rest tests.1)
 
 -- the lines of a text that lines were written to
 pub parted-text_of : (items : List Item) (d e : Draft) → Leads d items e → parted 10 (text_of items) ≡ map spelled items ++ [] ∷ []
 parted-text_of [] d e leads = refl
 parted-text_of (item ∷ more) d e leads =
-    ap (λ (s : List ℕ). parted 10 s) (append_assoc (spelled item) (10 ∷ []) (text_of more))
-    ∙ (parted_line (spelled item) (text_of more) (lacks-spelled item leads.2)
-    ∙ ap (λ (pieces : List (List ℕ)). spelled item ∷ pieces) (parted-text_of more leads.0 e leads.3))
+    rw (append_assoc (spelled item) (10 ∷ []) (text_of more), parted_line (spelled item) (text_of more) (lacks-spelled item leads.2))
+    (ap (λ (pieces : List (List ℕ)). spelled item ∷ pieces) (parted-text_of more leads.0 e leads.3))
 
 -- a line that may follow is read
 pub with_spelled : (d e : Draft) (item : Item) → with_item d item ≡ Some e → IsItem item → with_line d (spelled item) ≡ Some e
-with_spelled d e item added readable =
-    ap (λ (o : Option Item). option_and_then (λ i. with_item d i) o) (spelled_again item readable) ∙ added
+with_spelled d e item added readable = rw (spelled_again item readable) added
 
 read_step : (d e : Draft) (n : ℕ) (line : List ℕ) (before : List (List ℕ)) → with_line d line ≡ Some e →
     read_from d n (line ∷ before ++ [] ∷ []) ≡ read_from e (n + 1) (before ++ [] ∷ [])
-read_step d e n line [] good = ap (λ (o : Option Draft). option_map_or (λ x. read_from x (n + 1) ([] ∷ [])) o (Err n)) good
-read_step d e n line (next ∷ more) good =
-    ap (λ (o : Option Draft). option_map_or (λ x. read_from x (n + 1) (next ∷ more ++ [] ∷ [])) o (Err n)) good
+read_step d e n line [] good = rw good
+read_step d e n line (next ∷ more) good = rw good
 
 read_lines : (items : List Item) (d e : Draft) (n : ℕ) → Leads d items e → is_whole e ≡ true →
     read_from d n (map spelled items ++ [] ∷ []) ≡ Ok (program_of e)
-read_lines [] d e n leads whole =
-    ap (λ (x : Draft). finished x n) leads ∙ ap (λ (b : Bool). if b then Ok (program_of e) else Err n) whole
+read_lines [] d e n leads whole = rw (leads, whole)
 read_lines (item ∷ more) d e n leads whole =
     read_step d leads.0 n (spelled item) (map spelled more) (with_spelled d leads.0 item leads.1 leads.2)
     ∙ read_lines more leads.0 e (n + 1) leads.3 whole
@@ -87,6 +75,4 @@ pub read_back : (p : Program) → IsProgram p → AreWords p.words → read_text
 unfolding read_text
 read_back p is each =
     let makes = made_again p is each in
-    ap (λ (pieces : List (List ℕ)). read_from blank 1 pieces) (parted-text_of (object_lines p) blank makes.last makes.steps)
-    ∙ (read_lines (object_lines p) blank makes.last 1 makes.steps makes.ended
-    ∙ ap (λ (q : Program). Ok q) makes.program)
+    rw (parted-text_of (object_lines p) blank makes.last makes.steps, read_lines (object_lines p) blank makes.last 1 makes.steps makes.ended, makes.program)

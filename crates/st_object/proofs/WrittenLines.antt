@@ -16,27 +16,17 @@ text_of-append xs ys = flat_map-append (λ i. spelled i ++ lf) xs ys
 -- lines behind those that are written
 pub written_further : (old now new : List ℕ) (done next all : List Item) → now ≡ old ++ text_of done → new ≡ now ++ text_of next →
     all ≡ done ++ next → new ≡ old ++ text_of all
-written_further old now new done next all before then_written whole =
-    then_written
-    ∙ (ap (λ (s : List ℕ). s ++ text_of next) before
-    ∙ (append_assoc old (text_of done) (text_of next)
-    ∙ ap (λ (s : List ℕ). old ++ s) (sym (text_of-append done next) ∙ sym (ap (λ (s : List Item). text_of s) whole))))
+written_further old now new done next all before then_written whole = rw (then_written, before, whole, text_of-append done next, append_assoc)
 
 -- the line of a further word, where it is not zero
 pub words_more : (old now new : List ℕ) (xs : List ℕ) (i x : ℕ) (b : Bool) → i < length xs → get_or xs i 0 ≡ x →
     b ≡ not (x == 0) → now ≡ old ++ text_of (word_lines 0 (take i xs)) → new ≡ now ++ text_of (marked b (Word i x)) →
     new ≡ old ++ text_of (word_lines 0 (take (i + 1) xs))
 words_more old now new xs i x b within here test before further =
-    let more : take (i + 1) xs ≡ take i xs ++ x ∷ [] = take_more xs i 0 within ∙ ap (λ (y : ℕ). take i xs ++ y ∷ []) here in
     let size : 0 + length (take i xs) ≡ i = omega (arith, length-take-le i xs (omega arith)) in
-    let one : word_lines i (x ∷ []) ≡ marked b (Word i x) =
-    elim (x == 0) as (λ v. (if v then [] else Word i x ∷ []) ≡ marked (not v) (Word i x)) [ true ↦ refl | false ↦ refl ]
-    ∙ ap (λ (v : Bool). marked v (Word i x)) (sym test) in
+    let one : (v : Bool) → (if v then [] else Word i x ∷ []) ≡ marked (not v) (Word i x) = λ v. grind arith in
     written_further old now new (word_lines 0 (take i xs)) (marked b (Word i x)) (word_lines 0 (take (i + 1) xs)) before further
-    (ap (λ (s : List ℕ). word_lines 0 s) more
-    ∙ (word_lines-append 0 (take i xs) (x ∷ [])
-    ∙ (ap (λ k. word_lines 0 (take i xs) ++ word_lines k (x ∷ [])) size
-    ∙ ap (λ (s : List Item). word_lines 0 (take i xs) ++ s) one)))
+    (rw (take_more xs i 0 within, here, word_lines-append 0 (take i xs) (x ∷ []), size, one (x == 0), test))
 
 -- the last lines, where there was memory for them
 pub written_last : {E : Type 0} (r : Result (Unit {0}) E) (old now new : List ℕ) (done next all : List Item) →
