@@ -1,139 +1,177 @@
--- A text that is read is the object text of what it holds.
-use Rattle.std.proofs.Common.{◌≡◌, ◌+◌, ◌==◌, ℕ, Bool, true, false, List, [], ◌∷◌, ◌++◌, Option, Some, None, is_some, Ok, Err, if◌then◌else◌, refl, ap, sym, subst, ◌∙◌, append_assoc, append-nil, arith}
+-- What reading a text leads to; a text that is read is the object text of what it holds.
+use Rattle.std.proofs.Common.{◌≡◌, ◌≤◌, ◌<◌, ◌+◌, ◌==◌, ℕ, suc, Bool, true, false, List, [], ◌∷◌, ◌++◌, length, take, Option, Some, None, is_some, Result, Ok, Err, if◌then◌else◌, refl, ap, sym, subst, ◌∙◌, append_assoc, append-nil, arith, rules}
+use Rattle.std.specs.List.{flat_map}
 use Rattle.std.specs.Option.{option_map_or}
+use Rattle.std.proofs.lemmas.Bool.{eqb-true}
 use Rattle.std.proofs.lemmas.Bool.Decides.{nat_tests}
-use Rattle.st_text.specs.Pieces.{onto_first, parted}
-use Rattle.st_text.proofs.PieceLemmas.{first_piece}
+use Rattle.st_text.specs.Bytes.{lf}
+use Rattle.st_text.specs.Pieces.{onto_first, parted, lacks}
 use Rattle.st_card.specs.Limits.{IsWithinLimits}
 use Rattle.st_card.specs.Controls.{nothing_asked}
-use Rattle.st_object.specs.Lines.{spelled, text_of}
-use Rattle.st_object.specs.Draft.{Draft, blank, IsDraft, is_empty, lines_of, is_whole, with_item}
-use Rattle.st_object.specs.Meaning.{item_in}
-use Rattle.st_object.specs.Object.{Program, IsProgram, AreWords, object_text, program_of, with_line, finished, unended, end_of, read_from, read_text}
+use Rattle.st_object.specs.Lines.{text_of}
+use Rattle.st_object.specs.Draft.{Draft, blank, IsDraft, is_empty, lines_of, is_whole}
+use Rattle.st_object.specs.Object.{Program, IsProgram, AreWords, object_text, program_of, with_line, finished, unended, end_of, read_from, read_text, lines_in, text_lines}
 use Rattle.st_object.specs.declared.items.Item.{Item}
-use Rattle.st_object.proofs.LineMeanings.{chained, told}
-use Rattle.st_object.proofs.FurtherLines.{grown}
-use Rattle.st_object.proofs.LineByLine.{line_kept}
-use Rattle.st_object.proofs.WrittenLines.{text_of-append}
+use Rattle.st_object.proofs.LineByLine.{read_step, IsGood, good_line}
 use Rattle.st_object.proofs.WholeDrafts.{whole_program, whole_words, whole_lines_of}
+use Rattle.st_object.proofs.Completions.{IsOrderly, blank_orderly}
 
--- pieces with line ends between them
-abbrev pub joined : List (List ℕ) → List ℕ
-joined [] = []
-joined (piece ∷ []) = piece
-joined (piece ∷ next ∷ more) = piece ++ 10 ∷ joined (next ∷ more)
+-- lines, each with its line end
+abbrev pub closed : List (List ℕ) → List ℕ
+closed lines = flat_map (λ line. line ++ lf) lines
 
-joined-onto_first : (c : ℕ) (pieces : List (List ℕ)) → joined (onto_first c pieces) ≡ c ∷ joined pieces
-joined-onto_first c [] = refl
-joined-onto_first c (piece ∷ []) = refl
-joined-onto_first c (piece ∷ next ∷ more) = refl
+-- lines without line ends
+abbrev pub AreLines : List (List ℕ) → Type 0
+AreLines [] = Unit {0}
+AreLines (line ∷ more) = (lacks 10 line ≡ true) × AreLines more
 
-joined-first : (pieces : List (List ℕ)) → (piece : List ℕ) × ((more : List (List ℕ)) × (pieces ≡ piece ∷ more)) →
-    joined ([] ∷ pieces) ≡ 10 ∷ joined pieces
-joined-first [] some = cc
-joined-first (piece ∷ more) some = refl
+-- a text cut at its line ends: its lines, and what stands behind the last line end
+pub record Cut (text : List ℕ) : Type 0 where
+  pub lines : List (List ℕ)
+  pub rest : List ℕ
+  pub lacking : AreLines (lines ++ rest ∷ [])
+  pub pieces : parted 10 text ≡ lines ++ rest ∷ []
+  pub whole : text ≡ closed lines ++ rest
 
--- what was cut, joined again
-pub joined-parted : (text : List ℕ) → joined (parted 10 text) ≡ text
-joined-parted [] = refl
-joined-parted (c ∷ cs) =
-    let step : (b : Bool) → (c == 10) ≡ b → joined (if b then [] ∷ parted 10 cs else onto_first c (parted 10 cs)) ≡ c ∷ cs =
-    λ b. elim b as (λ v. (c == 10) ≡ v → joined (if v then [] ∷ parted 10 cs else onto_first c (parted 10 cs)) ≡ c ∷ cs) [
-      | true ↦ λ test.
-          let here : 10 ≡ c = grind (arith, nat_tests) in
-          joined-first (parted 10 cs) (first_piece 10 cs)
-          ∙ (ap (λ (s : List ℕ). 10 ∷ s) (joined-parted cs) ∙ ap (λ (b : ℕ). b ∷ cs) here)
-      | false ↦ λ test. joined-onto_first c (parted 10 cs) ∙ ap (λ (s : List ℕ). c ∷ s) (joined-parted cs)
-    ] in
-    step (c == 10) refl
+cut_more : (c : ℕ) (cs : List ℕ) (lines : List (List ℕ)) (rest : List ℕ) → (c == 10) ≡ false → AreLines (lines ++ rest ∷ []) →
+    parted 10 cs ≡ lines ++ rest ∷ [] → cs ≡ closed lines ++ rest → Cut (c ∷ cs)
+cut_more c cs [] rest other lacking pieces whole =
+    record { lines = []; rest = c ∷ rest; lacking = (rw other lacking.0, tt); pieces = rw (other, pieces); whole = rw whole }
+cut_more c cs (line ∷ lines) rest other lacking pieces whole =
+    record { lines = (c ∷ line) ∷ lines; rest = rest; lacking = (rw other lacking.0, lacking.1); pieces = rw (other, pieces); whole = rw whole }
 
--- a good line stands behind the lines before it
-pub line_behind : (d e : Draft) (line : List ℕ) → with_line d line ≡ Some e → text_of (lines_of e) ≡ text_of (lines_of d) ++ line ++ 10 ∷ []
-line_behind d e line good =
-    let parts = chained (λ i. with_item d i) (item_in line) e good in
-    let item : Item = parts.0 in
-    ap (λ (s : List Item). text_of s) (grown d e item parts.1.1)
-    ∙ (text_of-append (lines_of d) (item ∷ [])
-    ∙ (ap (λ (s : List ℕ). text_of (lines_of d) ++ s) (append-nil (spelled item ++ 10 ∷ []) ∙ ap (λ (s : List ℕ). s ++ 10 ∷ []) (told line item parts.1.0).0)
-    ∙ sym (append_assoc (text_of (lines_of d)) line (10 ∷ []))))
+pub cut : (text : List ℕ) → Cut text
+cut [] = record { lines = []; rest = []; lacking = (refl, tt); pieces = refl; whole = refl }
+cut (c ∷ cs) = go (c == 10) refl (cut cs)
+  where
+    go : (b : Bool) → (c == 10) ≡ b → Cut cs → Cut (c ∷ cs)
+    go true here later =
+        let same : c ≡ 10 = eqb-true c 10 here in
+        record { lines = [] ∷ later.lines; rest = later.rest; lacking = (refl, later.lacking); pieces = rw (here, later.pieces); whole = cc (same, later.whole) }
+    go false other later = cut_more c cs later.lines later.rest other later.lacking later.pieces later.whole
 
--- what a text that is read leads to
-record Reads (start text : List ℕ) (p : Program) : Type 0 where
-  whole : Draft
-  draft : IsDraft whole
-  ended : is_whole whole ≡ true
-  program : program_of whole ≡ p
-  lines : text_of (lines_of whole) ≡ start ++ text
+-- what stands behind the last line end is a line too, where it is not empty
+abbrev pub last_line : List ℕ → List (List ℕ)
+last_line rest = if is_empty rest then [] else rest ∷ []
 
-ok_if : (b : Bool) (x p : Program) (n : ℕ) → (if b then Ok x else Err n) ≡ Ok p → (b ≡ true) × (x ≡ p)
-ok_if true x p n same = (refl, cc)
-ok_if false x p n same = cc
+pub lines_in_all : (lines : List (List ℕ)) (rest : List ℕ) → lines_in (lines ++ rest ∷ []) ≡ lines ++ last_line rest
+lines_in_all [] rest = refl
+lines_in_all (line ∷ []) rest = refl
+lines_in_all (line ∷ next ∷ more) rest = ap (λ (s : List (List ℕ)). line ∷ s) (lines_in_all (next ∷ more) rest)
 
-never_ok : (b : Bool) (m n : ℕ) (p : Program) → (if b then Err m else Err n) ≡ Ok p → ⊥
-never_ok true m n p same = cc
-never_ok false m n p same = cc
+-- what good lines make of a draft
+pub record ReadsOn (d : Draft) (front : List (List ℕ)) : Type 0 where
+  pub last : Draft
+  pub draft : IsDraft last
+  pub orderly : IsOrderly last
+  pub before : text_of (lines_of last) ≡ text_of (lines_of d) ++ closed front
 
-read_end : (d : Draft) (n : ℕ) (rest : List ℕ) (p : Program) → IsDraft d → end_of d n rest ≡ Ok p → Reads (text_of (lines_of d)) rest p
-read_end d n [] p draft same =
-    let parts = ok_if (is_whole d) (program_of d) p n same in
-    record { whole = d; draft = draft; ended = parts.0; program = parts.1; lines = sym (append-nil (text_of (lines_of d))) }
-read_end d n (c ∷ cs) p draft same =
-    let some : is_empty (c ∷ cs) ≡ false = grind (arith, nat_tests) in
-    let read = λ (b : Bool). if b then finished d n else unended d n (c ∷ cs) in
-    absurd (never_ok (is_some (with_line d (c ∷ cs))) (n + 1) n p (sym (ap read some) ∙ same))
+abbrev no_line_on : (d : Draft) → IsDraft d → IsOrderly d → ReadsOn d []
+no_line_on d draft orderly = record { last = d; draft = draft; orderly = orderly; before = sym (append-nil (text_of (lines_of d))) }
 
-ok_map : (d : Draft) (n : ℕ) (line : List ℕ) (pieces : List (List ℕ)) (o : Option Draft) (p : Program) →
-    option_map_or (λ e. read_from e (n + 1) pieces) o (Err n) ≡ Ok p → (e : Draft) × ((o ≡ Some e) × (read_from e (n + 1) pieces ≡ Ok p))
-ok_map d n line pieces None p same = cc
-ok_map d n line pieces (Some e) p same = (e, (refl, same))
-
-read_on : (pieces : List (List ℕ)) (d : Draft) (n : ℕ) (p : Program) → IsDraft d → read_from d n pieces ≡ Ok p →
-    Reads (text_of (lines_of d)) (joined pieces) p
-read_on [] d n p draft same = cc
-read_on (rest ∷ []) d n p draft same = read_end d n rest p draft same
-read_on (line ∷ next ∷ more) d n p draft same =
-    let parts = ok_map d n line (next ∷ more) (with_line d line) p same in
-    let e : Draft = parts.0 in
-    let later = read_on (next ∷ more) e (n + 1) p (line_kept d e line parts.1.0 draft) parts.1.1 in
+abbrev line_on : (d e : Draft) (line : List ℕ) (front : List (List ℕ)) → IsGood d e line → ReadsOn e front → ReadsOn d (line ∷ front)
+line_on d e line front good on =
+    let regrouped : (a l b : List ℕ) → (a ++ l ++ 10 ∷ []) ++ b ≡ a ++ ((l ++ 10 ∷ []) ++ b) = λ a l b. simp append_assoc in
     record {
-      whole = later.whole;
-      draft = later.draft;
-      ended = later.ended;
-      program = later.program;
-      lines = later.lines
-          ∙ (ap (λ (s : List ℕ). s ++ joined (next ∷ more)) (line_behind d e line parts.1.0)
-          ∙ (append_assoc (text_of (lines_of d) ++ line) (10 ∷ []) (joined (next ∷ more))
-          ∙ append_assoc (text_of (lines_of d)) line (10 ∷ joined (next ∷ more))));
+      last = on.last;
+      draft = on.draft;
+      orderly = on.orderly;
+      before = on.before ∙ (ap (λ (s : List ℕ). s ++ closed front) good.behind ∙ regrouped (text_of (lines_of d)) line (closed front));
     }
 
--- nothing is within the limits
-nothing_within : IsWithinLimits nothing_asked
-nothing_within = record {
-  budget = omega arith;
-  delays = record { each = λ k d within. absurd (omega (arith, within)); few = omega arith };
-  signals = record {
-    each = λ k d within. absurd (omega (arith, within));
-    counts = λ i j d before within. absurd (omega (arith, within));
-    few = omega arith;
-  };
-  dumps = record { each = λ k d within. absurd (omega (arith, within)); few = omega arith };
-  snaps = record {
-    each = λ k d within. absurd (omega (arith, within));
-    rising = λ k within. absurd (omega (arith, within));
-    few = omega arith;
-  };
-  back = omega arith;
+-- lines that are read as a program
+pub record Accepts (d : Draft) (lines : List (List ℕ)) (rest : List ℕ) (p : Program) : Type 0 where
+  pub on : ReadsOn d lines
+  pub none : rest ≡ []
+  pub ended : is_whole on.last ≡ true
+  pub program : program_of on.last ≡ p
+
+-- the m-th line is bad where lines are counted from the n-th, whatever stands behind it
+pub record Refuses (d : Draft) (n : ℕ) (all : List (List ℕ)) (m : ℕ) : Type 0 where
+  pub good : ℕ
+  pub counted : m ≡ n + good
+  pub within : good ≤ length all
+  pub on : ReadsOn d (take good all)
+  pub bad : good < length all → (next : List ℕ) (more : List (List ℕ)) → read_from d n (take (suc good) all ++ next ∷ more) ≡ Err m
+
+abbrev pub Outcome : Draft → ℕ → List (List ℕ) → List ℕ → List (List ℕ) → Result Program ℕ → Type 0
+Outcome d n lines rest all (Ok p) = Accepts d lines rest p
+Outcome d n lines rest all (Err m) = Refuses d n all m
+
+bad_at_once : (d : Draft) (n : ℕ) (line : List ℕ) (more : List (List ℕ)) → IsDraft d → IsOrderly d → with_line d line ≡ None → Refuses d n (line ∷ more) n
+bad_at_once d n line more draft orderly bad =
+    record { good = 0; counted = omega arith; within = omega arith; on = no_line_on d draft orderly; bad = λ inside next rest. rw bad }
+
+bad_at_end : (d : Draft) (n : ℕ) → IsDraft d → IsOrderly d → Refuses d n [] n
+bad_at_end d n draft orderly = record {
+  good = 0;
+  counted = omega arith;
+  within = omega arith;
+  on = no_line_on d draft orderly;
+  bad = λ inside. let no : ⊥ = omega (arith, inside) in absurd no;
 }
 
-pub blank_draft : IsDraft blank
+-- a good line before the others
+line_before : (d e : Draft) (n : ℕ) (line : List ℕ) (lines : List (List ℕ)) (rest : List ℕ) (all : List (List ℕ)) (r : Result Program ℕ) →
+    with_line d line ≡ Some e → Outcome e (n + 1) lines rest all r → Outcome d n (line ∷ lines) rest (line ∷ all) r
+line_before d e n line lines rest all (Ok p) good later =
+    record { on = line_on d e line lines (good_line d e line good) later.on; none = later.none; ended = later.ended; program = later.program }
+line_before d e n line lines rest all (Err m) good later = record {
+  good = suc later.good;
+  counted = omega (arith, later.counted);
+  within = omega (arith, later.within);
+  on = line_on d e line (take later.good all) (good_line d e line good) later.on;
+  bad = λ inside next more. rw (read_step d n line next (take (suc later.good) all) more, good) (later.bad (omega (arith, inside)) next more);
+}
+
+not_empty : (c : ℕ) (cs : List ℕ) → is_empty (c ∷ cs) ≡ false
+not_empty c cs = grind (arith, nat_tests)
+
+read_on : (lines : List (List ℕ)) (d : Draft) (n : ℕ) (rest : List ℕ) → IsDraft d → IsOrderly d →
+    Outcome d n lines rest (lines ++ last_line rest) (read_from d n (lines ++ rest ∷ []))
+read_on [] d n [] draft orderly = go (is_whole d) refl
+  where
+    go : (b : Bool) → is_whole d ≡ b → Outcome d n [] [] [] (if b then Ok (program_of d) else Err n)
+    go true ended = record { on = no_line_on d draft orderly; none = refl; ended = ended; program = refl }
+    go false lacking = bad_at_end d n draft orderly
+read_on [] d n (c ∷ cs) draft orderly = rw (not_empty c cs) (go (with_line d (c ∷ cs)) refl)
+  where
+    go : (o : Option Draft) → with_line d (c ∷ cs) ≡ o → Outcome d n [] (c ∷ cs) ((c ∷ cs) ∷ []) (if is_some o then Err (n + 1) else Err n)
+    go None bad = bad_at_once d n (c ∷ cs) [] draft orderly bad
+    go (Some e) good =
+        let is = good_line d e (c ∷ cs) good in
+        line_before d e n (c ∷ cs) [] [] [] (Err (n + 1)) good (bad_at_end e (n + 1) (is.kept draft) is.orderly)
+read_on (line ∷ lines) d n rest draft orderly =
+    rw (read_step d n line rest lines []) (go (with_line d line) refl (λ e later_draft later_orderly. read_on lines e (n + 1) rest later_draft later_orderly))
+  where
+    go : (o : Option Draft) → with_line d line ≡ o →
+        ((e : Draft) → IsDraft e → IsOrderly e → Outcome e (n + 1) lines rest (lines ++ last_line rest) (read_from e (n + 1) (lines ++ rest ∷ []))) →
+        Outcome d n (line ∷ lines) rest (line ∷ lines ++ last_line rest) (option_map_or (λ e. read_from e (n + 1) (lines ++ rest ∷ [])) o (Err n))
+    go None bad on = bad_at_once d n line (lines ++ last_line rest) draft orderly bad
+    go (Some e) good on =
+        let is = good_line d e line good in
+        line_before d e n line lines rest (lines ++ last_line rest) (read_from e (n + 1) (lines ++ rest ∷ [])) good (on e (is.kept draft) is.orderly)
+
+blank_draft : IsDraft blank
 blank_draft = record {
   few = omega arith;
   each = λ k d within. absurd (omega (arith, within));
   registers = λ w low. refl;
   start = tt;
-  limits = nothing_within;
+  limits = search (rules, arith);
   unlisted = refl;
 }
+
+-- what reading a whole text leads to
+pub outcome : (text : List ℕ) (r : Result Program ℕ) → read_text text ≡ r → Outcome blank 1 (cut text).lines (cut text).rest (text_lines text) r
+unfolding read_text
+outcome text r read =
+    let c = cut text in
+    let all : text_lines text ≡ c.lines ++ last_line c.rest = rw c.pieces (lines_in_all c.lines c.rest) in
+    let same : read_from blank 1 (c.lines ++ c.rest ∷ []) ≡ r = ap (λ (s : List (List ℕ)). read_from blank 1 s) (sym c.pieces) ∙ read in
+    subst (λ (x : Result Program ℕ). Outcome blank 1 c.lines c.rest (text_lines text) x) same
+    (subst (λ (s : List (List ℕ)). Outcome blank 1 c.lines c.rest s (read_from blank 1 (c.lines ++ c.rest ∷ []))) (sym all)
+    (read_on c.lines blank 1 c.rest blank_draft blank_orderly))
 
 -- a text that is read is the object text of a program
 pub record IsRead (text : List ℕ) (p : Program) : Type 0 where
@@ -142,14 +180,16 @@ pub record IsRead (text : List ℕ) (p : Program) : Type 0 where
   pub same : text ≡ object_text p
 
 pub accepted : (text : List ℕ) (p : Program) → read_text text ≡ Ok p → IsRead text p
-unfolding read_text
 accepted text p read =
-    let reads = read_on (parted 10 text) blank 1 p blank_draft read in
+    let c = cut text in
+    let is : Accepts blank c.lines c.rest p = outcome text (Ok p) read in
     record {
-      program = subst (λ (q : Program). IsProgram q) reads.program (whole_program reads.whole reads.draft reads.ended);
-      words = subst (λ (q : Program). AreWords q.words) reads.program (whole_words reads.whole reads.draft);
-      same = sym (joined-parted text)
-          ∙ (sym reads.lines
-          ∙ (ap (λ (s : List Item). text_of s) (sym (whole_lines_of reads.whole reads.ended))
-          ∙ ap (λ (q : Program). object_text q) reads.program));
+      program = subst (λ (q : Program). IsProgram q) is.program (whole_program is.on.last is.on.draft is.ended);
+      words = subst (λ (q : Program). AreWords q.words) is.program (whole_words is.on.last is.on.draft);
+      same = c.whole
+          ∙ (ap (λ (s : List ℕ). closed c.lines ++ s) is.none
+          ∙ (append-nil (closed c.lines)
+          ∙ (sym is.on.before
+          ∙ (ap (λ (s : List Item). text_of s) (sym (whole_lines_of is.on.last is.ended))
+          ∙ ap (λ (q : Program). object_text q) is.program))));
     }

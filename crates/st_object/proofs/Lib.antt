@@ -5,12 +5,12 @@ pub mod EmptyParts
 pub mod FurtherLines
 pub mod DraftLemmas
 pub mod WrittenLines
+pub mod Completions
 pub mod LineByLine
 pub mod LineCounts
 pub mod WholeDrafts
 pub mod AcceptedTexts
 pub mod ProgramLines
 pub mod ReadBack
-pub mod Completions
 pub mod BadLines
 pub mod AnswerLemmas

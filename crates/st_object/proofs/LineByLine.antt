@@ -1,42 +1,62 @@
 -- A text line by line.
-use Rattle.std.proofs.Common.{◌≡◌, ◌+◌, ℕ, List, ◌∷◌, Option, Some, None, Result, Err, ap, sym, ◌∙◌}
-use Rattle.std.specs.Option.{option_map_or}
+use Rattle.std.proofs.Common.{◌≡◌, ◌+◌, ℕ, List, [], ◌∷◌, ◌++◌, length, Option, Some, None, Result, Err, refl, ap, sym, ◌∙◌, append_assoc, append-nil, length-append}
+use Rattle.std.specs.Option.{option_map_or, option_and_then}
 use Rattle.st_text.specs.Pieces.{parted}
 use Rattle.st_text.proofs.PieceLemmas.{first_piece}
-use Rattle.st_object.specs.Draft.{Draft, IsDraft, with_item}
+use Rattle.st_object.specs.Lines.{spelled, text_of}
+use Rattle.st_object.specs.Draft.{Draft, IsDraft, lines_of, with_item}
 use Rattle.st_object.specs.Meaning.{item_in}
 use Rattle.st_object.specs.Object.{Program, with_line, read_from}
-use Rattle.st_object.proofs.LineMeanings.{chained, told}
+use Rattle.st_object.specs.declared.items.Item.{Item}
+use Rattle.st_object.proofs.LineMeanings.{told}
+use Rattle.st_object.proofs.FurtherLines.{grown}
 use Rattle.st_object.proofs.DraftLemmas.{kept}
+use Rattle.st_object.proofs.WrittenLines.{text_of-append}
+use Rattle.st_object.proofs.Completions.{IsOrderly, ordered}
 
 -- the first line of more than one
+pub read_step : (d : Draft) (n : ℕ) (line next : List ℕ) (before more : List (List ℕ)) →
+    read_from d n (line ∷ before ++ next ∷ more) ≡ option_map_or (λ e. read_from e (n + 1) (before ++ next ∷ more)) (with_line d line) (Err n)
+read_step d n line next [] more = refl
+read_step d n line next (first ∷ before) more = refl
+
 first_line : (d : Draft) (n : ℕ) (line rest after : List ℕ) → parted 10 rest ≡ line ∷ parted 10 after →
     read_from d n (parted 10 rest) ≡ option_map_or (λ e. read_from e (n + 1) (parted 10 after)) (with_line d line) (Err n)
-first_line d n line rest after cut =
-    let first = first_piece 10 after in
-    let read = λ (pieces : List (List ℕ)). read_from d n (line ∷ pieces) in
-    let after_line = λ (pieces : List (List ℕ)). option_map_or (λ e. read_from e (n + 1) pieces) (with_line d line) (Err n) in
-    ap (λ (pieces : List (List ℕ)). read_from d n pieces) cut
-    ∙ (ap read first.1.1 ∙ sym (ap after_line first.1.1))
+first_line d n line rest after cut = let first = first_piece 10 after in rw (cut, first.1.1)
 
 -- a bad line
 pub line_refused : (d : Draft) (n : ℕ) (line rest after : List ℕ) (read : Result Program ℕ) →
     parted 10 rest ≡ line ∷ parted 10 after → with_line d line ≡ None → read_from d n (parted 10 rest) ≡ read → read ≡ Err n
-line_refused d n line rest after read cut bad same =
-    sym same
-    ∙ (first_line d n line rest after cut
-    ∙ ap (λ (o : Option Draft). option_map_or (λ e. read_from e (n + 1) (parted 10 after)) o (Err n)) bad)
+line_refused d n line rest after read cut bad same = sym same ∙ (first_line d n line rest after cut ∙ rw bad)
 
 -- a good line
 pub line_added : (d e : Draft) (n : ℕ) (line rest after : List ℕ) (read : Result Program ℕ) →
     parted 10 rest ≡ line ∷ parted 10 after → with_line d line ≡ Some e → read_from d n (parted 10 rest) ≡ read →
     read_from e (n + 1) (parted 10 after) ≡ read
 line_added d e n line rest after read cut good same =
-    sym (ap (λ (o : Option Draft). option_map_or (λ x. read_from x (n + 1) (parted 10 after)) o (Err n)) good)
-    ∙ (sym (first_line d n line rest after cut) ∙ same)
+    rw good at (sym (first_line d n line rest after cut) ∙ same)
 
--- what holds of a draft holds of it with a good line
-pub line_kept : (d e : Draft) (line : List ℕ) → with_line d line ≡ Some e → IsDraft d → IsDraft e
-line_kept d e line good draft =
-    let parts = chained (λ i. with_item d i) (item_in line) e good in
-    kept d e parts.0 parts.1.1 (told line parts.0 parts.1.0).1 draft
+-- what a good line makes of a draft
+pub record IsGood (d e : Draft) (line : List ℕ) : Type 0 where
+  pub kept : IsDraft d → IsDraft e
+  pub orderly : IsOrderly e
+  pub behind : text_of (lines_of e) ≡ text_of (lines_of d) ++ line ++ 10 ∷ []
+  pub more : length (lines_of e) ≡ length (lines_of d) + 1
+
+chained : (o : Option Item) (d e : Draft) → option_and_then (λ i. with_item d i) o ≡ Some e → (item : Item) × ((o ≡ Some item) × (with_item d item ≡ Some e))
+chained None d e same = cc
+chained (Some item) d e same = (item, (refl, same))
+
+pub good_line : (d e : Draft) (line : List ℕ) → with_line d line ≡ Some e → IsGood d e line
+good_line d e line good =
+    let parts = chained (item_in line) d e good in
+    let item : Item = parts.0 in
+    let meaning = told line item parts.1.0 in
+    let grows = grown d e item parts.1.1 in
+    record {
+      kept = kept d e item parts.1.1 meaning.1;
+      orderly = ordered d e item parts.1.1;
+      behind = ap (λ (s : List Item). text_of s) grows
+          ∙ (text_of-append (lines_of d) (item ∷ []) ∙ rw (append-nil (spelled item ++ 10 ∷ []), meaning.0, append_assoc (text_of (lines_of d)) line (10 ∷ [])));
+      more = ap (λ (s : List Item). length s) grows ∙ length-append (lines_of d) (item ∷ []);
+    }

@@ -4,18 +4,7 @@ use Rattle.std.proofs.lemmas.List.{length-map}
 use Rattle.st_bits.specs.Storage.{words_of_storage_is}
 use Rattle.st_object.specs.Lines.{marked, word_lines, budget_lines, back_lines}
 use Rattle.st_object.specs.Draft.{Draft, IsDraft, start_lines, lines_of, with_item}
-use Rattle.st_object.specs.Meaning.{item_in}
-use Rattle.st_object.specs.Object.{with_line}
 use Rattle.st_object.specs.declared.items.Item.{Item}
-use Rattle.st_object.proofs.LineMeanings.{chained}
-use Rattle.st_object.proofs.FurtherLines.{grown}
-
--- a good line is one more
-pub line_more : (d e : Draft) (line : List ℕ) → with_line d line ≡ Some e → length (lines_of e) ≡ length (lines_of d) + 1
-line_more d e line good =
-    let parts = chained (λ i. with_item d i) (item_in line) e good in
-    let item = parts.0 in
-    ap (λ (s : List Item). length s) (grown d e item parts.1.1) ∙ length-append (lines_of d) (item ∷ [])
 
 few_marked : (b : Bool) (item : Item) → length (marked b item) ≤ 1
 few_marked b item = grind arith

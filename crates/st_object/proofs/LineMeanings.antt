@@ -12,11 +12,6 @@ use Rattle.st_object.specs.declared.items.Item.{Item}
 use Rattle.st_object.specs.declared.items.Item.TheVariants.{Word, Snap}
 use Rattle.st_object.specs.declared.items.Kind.{Kind}
 
--- what was chained, by its parts
-pub chained : {X Y : Type 0} (f : X → Option Y) (o : Option X) (y : Y) → option_and_then f o ≡ Some y → (x : X) × ((o ≡ Some x) × (f x ≡ Some y))
-chained f None y same = cc
-chained f (Some x) y same = (x, (refl, same))
-
 -- what holds of a draft with what a line says holds of the draft that the line leads to: where a test passes, where it passes for what is
 -- asked for, and where a mark was not set
 module _ (P : Draft → Type 0) (d e : Draft) (place : Bool) where

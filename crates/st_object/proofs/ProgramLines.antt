@@ -1,16 +1,13 @@
 -- The lines of a program, added one by one, make that program.
-use Rattle.std.proofs.Common.{◌≡◌, ◌≤◌, ◌<◌, ◌+◌, ◌-◌, ◌^◌, ◌==◌, ◌&&◌, ℕ, Bool, true, false, not, nat_lt, List, [], ◌∷◌, ◌++◌, length, get_or, map, replicate, Option, Some, None, if◌then◌else◌, refl, ap, sym, subst, ◌∙◌, append_assoc, append-nil, length-append, arith}
-use Rattle.std.proofs.lemmas.Bool.{and_from as both_true, le-leb as at_most, lt-ltb as below, ltb-false as is_not_below, ltb-true as is_below, not-true as not_false}
+use Rattle.std.proofs.Common.{◌≡◌, ◌≤◌, ◌<◌, ◌+◌, ◌-◌, ◌^◌, ◌==◌, ◌&&◌, ℕ, suc, Bool, true, false, not, nat_lt, List, [], ◌∷◌, ◌++◌, length, get_or, map, replicate, Option, Some, None, if◌then◌else◌, refl, ap, sym, subst, ◌∙◌, append_assoc, append-nil, length-append, arith}
+use Rattle.std.proofs.lemmas.Bool.{and_from as both_true, cond_both, lt-ltb as below}
 use Rattle.std.specs.List.{All, flat_map}
-use Rattle.std.specs.Option.{option_map}
 use Rattle.std.proofs.lemmas.Bool.Decides.{nat_tests}
-use Rattle.std.proofs.lemmas.List.{length-replicate, replicate_more, get_or_at}
+use Rattle.std.proofs.lemmas.List.{length-replicate, replicate_more}
 use Rattle.st_bits.specs.Storage.{words_of_storage, words_of_storage_is}
 use Rattle.st_card.specs.Controls.{Asked, nothing_asked, with_keyword}
 use Rattle.st_card.specs.Limits.{AreDelays, AreSignals, AreDumps, AreSnaps}
 use Rattle.st_card.specs.declared.control_cards.Signal.{Signal as GivenSignal}
-use Rattle.st_card.specs.declared.keywords.Keyword.{Keyword}
-use Rattle.st_card.specs.declared.keywords.Keyword.TheVariants as keywords
 use Rattle.st_card.proofs.OrderLemmas.{budget-asked, delay-asked, signal-asked, dump-asked, snap-asked, back-asked, delay-short, signal-short, dump-short, snap-short}
 use Rattle.st_object.specs.Lines.{marked, word_lines}
 use Rattle.st_object.specs.Order.{order, row}
@@ -33,7 +30,7 @@ Leads d [] e = d ≡ e
 Leads d (item ∷ more) e = (next : Draft) × (with_item d item ≡ Some next) × IsItem item × Leads next more e
 
 leads_on : (d e f : Draft) (xs ys : List Item) → Leads d xs e → Leads e ys f → Leads d (xs ++ ys) f
-leads_on d e f [] ys first second = subst (λ (x : Draft). Leads x ys f) (sym first) second
+leads_on d e f [] ys first second = rw first second
 leads_on d e f (x ∷ xs) ys first second = (first.0, first.1, first.2, leads_on first.0 e f xs ys first.3 second)
 
 one : (d e : Draft) (item : Item) → IsStep d item e → Leads d (item ∷ []) e
@@ -44,15 +41,10 @@ leads_each : {X : Type 0} (at : List X → Draft) (line : X → Item) (Fits : Li
     ((done rest : List X) (x : X) → Fits (done ++ x ∷ rest) → IsStep (at done) (line x) (at (done ++ x ∷ []))) →
     (done rest : List X) → Fits (done ++ rest) → Leads (at done) (map line rest) (at (done ++ rest))
 leads_each at line Fits step done [] fits = ap at (sym (append-nil done))
-leads_each {X} at line Fits step done (x ∷ rest) fits =
+leads_each at line Fits step done (x ∷ rest) fits =
     let this = step done rest x fits in
     let regrouped = append_assoc done (x ∷ []) rest in
-    let later = leads_each at line Fits step (done ++ x ∷ []) rest (subst Fits (sym regrouped) fits) in (
-      at (done ++ x ∷ []),
-      this.0,
-      this.1,
-      subst (λ (xs : List X). Leads (at (done ++ x ∷ [])) (map line rest) (at xs)) regrouped later,
-    )
+    (at (done ++ x ∷ []), this.0, this.1, rw regrouped at (leads_each at line Fits step (done ++ x ∷ []) rest (rw regrouped fits)))
 
 -- a line that stands there where it is asked for
 leads_marked : (at : Bool → Draft) (item : Item) → IsStep (at false) item (at true) → (b : Bool) →
@@ -64,23 +56,14 @@ leads_marked at item step true = one (at false) (at true) item step
 abbrev open_draft : ℕ → List ℕ → Asked → Draft
 open_draft h ws a = record { begun = true; start = Some h; words = ws; asked = a; ended = false }
 
-not_zero : (n : ℕ) → 1 ≤ n → not (n == 0) ≡ true
-not_zero n some = grind (arith, nat_tests)
+zero_is : (x : ℕ) → (x == 0) ≡ true → x ≡ 0
+zero_is x test = grind (arith, nat_tests)
 
--- what is asked for, at its place
-step_asked : (d : Draft) (place : Bool) (keyword : Keyword) (numbers : List ℕ) (new : Asked) → place ≡ true →
-    with_keyword keyword d.asked numbers ≡ Some new →
-    (if place then with_order d keyword numbers else None) ≡ Some (record d { asked = new })
-step_asked d place keyword numbers new placed fits =
-    ap (λ b. if b then with_order d keyword numbers else None) placed
-    ∙ ap (λ (o : Option Asked). option_map (λ a. record d { asked = a }) o) fits
+some_is : (n : ℕ) → 1 ≤ n → (n == 0) ≡ false
+some_is n some = grind (arith, nat_tests)
 
--- a place behind the budget, and behind the delays
-behind_budget : (b : Bool) → b ≡ true → ((b && true) && true && true) ≡ true
-behind_budget b some = ap (λ v. (v && true) && true && true) some
-
-behind_delays : (a b : Bool) → a ≡ true → b ≡ true → ((a && (b && true)) && true && true) ≡ true
-behind_delays a b some delays = ap (λ v. (v && (b && true)) && true && true) some ∙ ap (λ v. (v && true) && true && true) delays
+at_least : (n : ℕ) → (n == 0) ≡ false → 1 ≤ n
+at_least n some = grind (arith, nat_tests)
 
 -- words that lines add, with zeros behind them
 record Adds (h : ℕ) (ws whole : List ℕ) (items : List Item) : Type 0 where
@@ -89,78 +72,39 @@ record Adds (h : ℕ) (ws whole : List ℕ) (items : List Item) : Type 0 where
   filled : last ++ replicate zeros 0 ≡ whole
   steps : Leads (open_draft h ws nothing_asked) items (open_draft h last nothing_asked)
 
-zero_is : (x : ℕ) → (x == 0) ≡ true → x ≡ 0
-zero_is x test = grind (arith, nat_tests)
-
-zero_not : (x : ℕ) → (x == 0) ≡ false → x ≡ 0 → ⊥
-zero_not x test same = grind (arith, nat_tests)
-
 -- a word that is not zero stands above the registers
-above : (front rest : List ℕ) (x : ℕ) → ((w : ℕ) → w < 32 → get_or (front ++ x ∷ rest) w 0 ≡ 0) → (x == 0) ≡ false → 32 ≤ length front
-above front rest x registers some =
-    let step : (b : Bool) → nat_lt (length front) 32 ≡ b → 32 ≤ length front =
-    λ b. elim b as (λ v. nat_lt (length front) 32 ≡ v → 32 ≤ length front) [
-      | true ↦ λ test. absurd (zero_not x some (sym (get_or_at front x rest 0 (length front) refl) ∙ registers (length front) (is_below _ 32 test)))
-      | false ↦ λ test. is_not_below (length front) 32 test
-    ] in
-    step (nat_lt (length front) 32) refl
+above : (w x : ℕ) → (w < 32 → x ≡ 0) → (x == 0) ≡ false → 32 ≤ w
+above w x registers some = grind (arith, nat_tests)
 
-add_words : (h k : ℕ) (ws front rest : List ℕ) → front ≡ ws ++ replicate k 0 → ((w : ℕ) → w < 32 → get_or (front ++ rest) w 0 ≡ 0) →
-    length (front ++ rest) ≤ words_of_storage → All (λ x. x < 2 ^ 64) (front ++ rest) → Adds h ws (front ++ rest) (word_lines (length front) rest)
+holds : (next w x : ℕ) → 32 ≤ w → next ≤ w → w < 98304 → (x == 0) ≡ false → words_of_storage ≡ 98304 → may_hold next w x ≡ true
+holds next w x high behind inside some size = grind (arith, nat_tests)
+
+add_words : (h k w : ℕ) (ws rest : List ℕ) → w ≡ length ws + k → ((i : ℕ) → w + i < 32 → get_or rest i 0 ≡ 0) →
+    w + length rest ≤ words_of_storage → All (λ x. x < 2 ^ 64) rest → Adds h ws (ws ++ replicate k 0 ++ rest) (word_lines w rest)
 unfolding has_place with_value
-add_words h k ws front [] filled registers room each =
-    record { last = ws; zeros = k; filled = sym (append-nil front ∙ filled); steps = refl }
-add_words h k ws front (x ∷ rest) filled registers room each =
-    let regrouped = append_assoc front (x ∷ []) rest in
-    let size : length (front ++ x ∷ []) ≡ length front + 1 = length-append front (x ∷ []) in
-    let move_registers = subst (λ (s : List ℕ). (w : ℕ) → w < 32 → get_or s w 0 ≡ 0) (sym regrouped) registers in
-    let move_room = subst (λ (s : List ℕ). length s ≤ words_of_storage) (sym regrouped) room in
-    let move_each = subst (λ (s : List ℕ). All (λ y. y < 2 ^ 64) s) (sym regrouped) each in
-    let items : List Item = word_lines (length front + 1) rest in
-    let step : (b : Bool) → (x == 0) ≡ b → Adds h ws (front ++ x ∷ rest) (if b then items else Word (length front) x ∷ items) =
-    λ b. elim b as (λ v. (x == 0) ≡ v → Adds h ws (front ++ x ∷ rest) (if v then items else Word (length front) x ∷ items)) [
-      | true ↦ λ test.
-          let longer : front ++ x ∷ [] ≡ ws ++ replicate (k + 1) 0 =
-          ap (λ (y : ℕ). front ++ y ∷ []) (zero_is x test)
-          ∙ (ap (λ (s : List ℕ). s ++ 0 ∷ []) filled
-          ∙ (append_assoc ws (replicate k 0) (0 ∷ []) ∙ ap (λ (s : List ℕ). ws ++ s) (replicate_more k 0))) in
-          let later = add_words h (k + 1) ws (front ++ x ∷ []) rest longer move_registers move_room move_each in
-          record {
-            last = later.last;
-            zeros = later.zeros;
-            filled = later.filled ∙ regrouped;
-            steps = subst (λ (n : ℕ). Leads (open_draft h ws nothing_asked) (word_lines n rest) (open_draft h later.last nothing_asked)) size later.steps;
-          }
-      | false ↦ λ test.
-          let gap : length front - length ws ≡ k = omega (arith, ap (λ (s : List ℕ). length s) filled, length-append ws (replicate k 0), length-replicate {A = ℕ} k 0) in
-          let new : List ℕ = ws ++ replicate (length front - length ws) 0 ++ x ∷ [] in
-          let same : new ≡ front ++ x ∷ [] =
-          ap (λ n. ws ++ replicate n 0 ++ x ∷ []) gap ∙ ap (λ (s : List ℕ). s ++ x ∷ []) (sym filled) in
-          let longer : front ++ x ∷ [] ≡ new ++ replicate 0 0 = sym (append-nil new ∙ same) in
-          let later = add_words h 0 new (front ++ x ∷ []) rest longer move_registers move_room move_each in
-          let high = above front rest x registers test in
-          let inside : length front < words_of_storage = omega (arith, room, length-append front (x ∷ rest)) in
-          let behind : length ws ≤ length front = omega (arith, ap (λ (s : List ℕ). length s) filled, length-append ws (replicate k 0)) in
-          let storage : words_of_storage ≡ 98304 = words_of_storage_is in
-          let fits : may_hold (length ws) (length front) x ≡ true =
-          both_true _ _ (both_true _ _ (both_true _ _ (at_most 32 (length front) high) (at_most (length ws) (length front) behind))
-          (below (length front) words_of_storage inside)) (ap (λ (v : Bool). not v) test) in
-          let short : IsShort (length front) = omega (arith, inside, storage) in
-          let within : length front < length (front ++ x ∷ rest) = omega (arith, length-append front (x ∷ rest)) in
-          let bits : x < 2 ^ 64 = subst (λ (y : ℕ). y < 2 ^ 64) (get_or_at front x rest 0 (length front) refl) (each (length front) 0 within) in
-          record {
-            last = later.last;
-            zeros = later.zeros;
-            filled = later.filled ∙ regrouped;
-            steps = (
-              open_draft h new nothing_asked,
-              ap (λ (v : Bool). if v then Some (open_draft h new nothing_asked) else None) fits,
-              (short, bits),
-              subst (λ (n : ℕ). Leads (open_draft h new nothing_asked) (word_lines n rest) (open_draft h later.last nothing_asked)) size later.steps,
-            );
-          }
-    ] in
-    step (x == 0) refl
+add_words h k w ws [] place registers room each = record { last = ws; zeros = k; filled = sym (append-nil (ws ++ replicate k 0)); steps = refl }
+add_words h k w ws (x ∷ rest) place registers room each =
+    let storage : words_of_storage ≡ 98304 = words_of_storage_is in
+    let behind_registers : (i : ℕ) → w + 1 + i < 32 → get_or rest i 0 ≡ 0 = λ i low. registers (suc i) (omega arith) in
+    let behind_each : All (λ y. y < 2 ^ 64) rest = λ i d within. each (suc i) d (omega arith) in
+    cond_both (x == 0) _ _ (λ items. Adds h ws (ws ++ replicate k 0 ++ x ∷ rest) items)
+    (λ none.
+    let later = add_words h (k + 1) (w + 1) ws rest (omega arith) behind_registers (omega arith) behind_each in
+    let same : ws ++ replicate (k + 1) 0 ++ rest ≡ ws ++ replicate k 0 ++ x ∷ rest = rw (zero_is x none, ← replicate_more {X = ℕ} k 0) (simp append_assoc) in
+    record { last = later.last; zeros = later.zeros; filled = later.filled ∙ same; steps = later.steps })
+    (λ some.
+    let new : List ℕ = ws ++ replicate (w - length ws) 0 ++ x ∷ [] in
+    let gap : w - length ws ≡ k = omega arith in
+    let size : length new ≡ w + 1 = omega (arith, length-append (ws ++ replicate (w - length ws) 0) (x ∷ []), length-append ws (replicate (w - length ws) 0), length-replicate {A = ℕ} (w - length ws) 0) in
+    let later = add_words h 0 (w + 1) new rest (omega arith) behind_registers (omega arith) behind_each in
+    let same : new ++ [] ++ rest ≡ ws ++ replicate k 0 ++ x ∷ rest = rw gap (simp (append_assoc, append-nil)) in
+    let fits = holds (length ws) w x (above w x (λ low. registers 0 (omega arith)) some) (omega arith) (omega arith) some storage in
+    record {
+      last = later.last;
+      zeros = later.zeros;
+      filled = later.filled ∙ same;
+      steps = (open_draft h new nothing_asked, rw fits, (omega arith, each 0 0 (omega arith)), later.steps);
+    })
 
 -- words up to the last that is not zero, filled up again
 filled_again : (last words : List ℕ) (zeros : ℕ) → last ++ replicate zeros 0 ≡ words → length words ≡ words_of_storage →
@@ -205,94 +149,59 @@ module _ (p : Program) (ws : List ℕ) where
   lines_at kind = kind_lines (draft_of p) kind
 
   module _ (is : IsProgram p) (words : Leads (draft_before 2) (word_lines 0 p.words) (draft_before 3)) where
-    some : not (p.controls.budget == 0) ≡ true
-    some = not_zero p.controls.budget is.budget
+    budget : (p.controls.budget == 0) ≡ false
+    budget = some_is p.controls.budget is.budget
 
-    delays : not (is_empty p.controls.delays) ≡ true
-    delays = not_zero (length p.controls.delays) is.delays
-
-    -- a mark, and the steps back, which stand there where they are asked for
-    back_step : (b : Bool) → (p.controls.back == 0) ≡ b →
-        Leads (draft_before 11) (if b then [] else Back p.controls.back ∷ []) (draft_before 12)
-    unfolding has_place with_value
-    back_step true none =
-        let same : 0 ≡ p.controls.back = grind (arith, nat_tests) in
-        ap (λ k. record (draft_before 11) { asked = record (asked_before 11) { back = k } }) same
-    back_step false any =
-        let filled : 1 ≤ p.controls.back = grind (arith, nat_tests) in
-        one (draft_before 11) (draft_before 12) (Back p.controls.back) (
-          step_asked (draft_before 11) _ keywords.Back (p.controls.back ∷ []) _ (behind_delays _ _ some delays)
-              (back-asked (asked_before 11) p.controls.back refl filled is.limits.back),
-          omega (arith, is.limits.back),
-        )
+    delays : is_empty p.controls.delays ≡ false
+    delays = some_is (length p.controls.delays) is.delays
 
     -- the lines of a kind lead from what the kinds before say to what they say with it
     add_kind : (kind : Kind) → Leads (draft_before (row kind).place) (lines_at kind) (draft_before ((row kind).place + 1))
     unfolding has_place with_value
     add_kind kinds.Object = one (draft_before 0) (draft_before 1) Object (refl, tt)
-    add_kind kinds.Start = one (draft_before 1) (draft_before 2) (Start p.start)
-        (ap (λ (b : Bool). if b then Some (draft_before 2) else None) (below p.start (2 ^ 19) is.start), omega (arith, is.start))
+    add_kind kinds.Start = one (draft_before 1) (draft_before 2) (Start p.start) (rw (below p.start (2 ^ 19) is.start), omega (arith, is.start))
     add_kind kinds.Word = words
     add_kind kinds.Budget =
         let n : ℕ = p.controls.budget in
-        subst (λ (b : Bool). Leads (draft_before 3) (if b then [] else Budget n ∷ []) (draft_before 4)) (sym (not_false (n == 0) some))
-        (one (draft_before 3) (draft_before 4) (Budget n)
-        (step_asked (draft_before 3) _ keywords.Budget (n ∷ []) _ refl (budget-asked (asked_before 3) n refl is.budget is.limits.budget), omega (arith, is.limits.budget)))
+        rw budget (one (draft_before 3) (draft_before 4) (Budget n)
+        (rw (budget-asked (asked_before 3) n refl is.budget is.limits.budget), omega (arith, is.limits.budget)))
     add_kind kinds.Delay =
         let asked = λ (done : List ℕ). record (asked_before 4) { delays = done } in
         leads_each (λ done. record (draft_before 4) { asked = asked done }) (λ n. Delay n) (λ xs. AreDelays xs)
-        (λ done rest n fits. (
-          step_asked (record (draft_before 4) { asked = asked done }) _ keywords.Delays (n ∷ []) _ (behind_budget _ some)
-              (delay-asked (asked done) n rest fits),
-          delay-short done rest n fits,
-        )) [] p.controls.delays is.limits.delays
+        (λ done rest n fits. (rw (budget, delay-asked (asked done) n rest fits), delay-short done rest n fits)) [] p.controls.delays is.limits.delays
     add_kind kinds.Signal =
         let asked = λ (done : List GivenSignal). record (asked_before 5) { signals = done } in
         leads_each (λ done. record (draft_before 5) { asked = asked done }) (λ s. Signal s.count s.indicator) (λ xs. AreSignals xs)
-        (λ done rest s fits. (
-          step_asked (record (draft_before 5) { asked = asked done }) _ keywords.Signals (s.count ∷ s.indicator ∷ []) _ (behind_delays _ _ some delays)
-              (signal-asked (asked done) s rest fits),
-          signal-short done rest s fits,
-        )) [] p.controls.signals is.limits.signals
+        (λ done rest s fits. (rw (budget, delays, signal-asked (asked done) s rest fits), signal-short done rest s fits)) [] p.controls.signals is.limits.signals
     add_kind kinds.Dump =
         let asked = λ (done : List (ℕ × ℕ)). record (asked_before 6) { dumps = done } in
         leads_each (λ done. record (draft_before 6) { asked = asked done }) (λ d. Dump d.0 d.1) (λ xs. AreDumps xs)
-        (λ done rest d fits. (
-          step_asked (record (draft_before 6) { asked = asked done }) _ keywords.Dump (d.0 ∷ d.1 ∷ []) _ (behind_delays _ _ some delays)
-              (dump-asked (asked done) d rest fits),
-          dump-short done rest d fits,
-        )) [] p.controls.dumps is.limits.dumps
+        (λ done rest d fits. (rw (budget, delays, dump-asked (asked done) d rest fits), dump-short done rest d fits)) [] p.controls.dumps is.limits.dumps
     add_kind kinds.Trace =
-        let at = λ (b : Bool). record (draft_before 7) { asked = record (asked_before 7) { trace = b } } in
-        leads_marked at Trace (ap (λ b. if b then Some (at true) else None) (behind_delays _ _ some delays), tt) p.controls.trace
+        leads_marked (λ b. record (draft_before 7) { asked = record (asked_before 7) { trace = b } }) Trace (rw (budget, delays), tt) p.controls.trace
     add_kind kinds.Time =
-        let at = λ (b : Bool). record (draft_before 8) { asked = record (asked_before 8) { time = b } } in
-        leads_marked at Time (ap (λ b. if b then Some (at true) else None) (behind_delays _ _ some delays), tt) p.controls.time
+        leads_marked (λ b. record (draft_before 8) { asked = record (asked_before 8) { time = b } }) Time (rw (budget, delays), tt) p.controls.time
     add_kind kinds.Chart =
-        let at = λ (b : Bool). record (draft_before 9) { asked = record (asked_before 9) { chart = b } } in
-        leads_marked at Chart (ap (λ b. if b then Some (at true) else None) (behind_delays _ _ some delays), tt) p.controls.chart
+        leads_marked (λ b. record (draft_before 9) { asked = record (asked_before 9) { chart = b } }) Chart (rw (budget, delays), tt) p.controls.chart
     add_kind kinds.Snap =
         let asked = λ (done : List ℕ). record (asked_before 10) { snaps = done } in
         leads_each (λ done. record (draft_before 10) { asked = asked done }) (λ t. Snap t) (λ xs. AreSnaps xs)
-        (λ done rest t fits. (
-          step_asked (record (draft_before 10) { asked = asked done }) _ keywords.Snap (t ∷ []) _ (behind_delays _ _ some delays)
-              (snap-asked (asked done) t rest fits),
-          snap-short done rest t fits,
-        )) [] p.controls.snaps is.limits.snaps
-    add_kind kinds.Back = back_step (p.controls.back == 0) refl
-    add_kind kinds.Fin = one (draft_before 12) (draft_before 13) Fin
-        (ap (λ (b : Bool). if b then Some (draft_before 13) else None) (behind_delays _ _ some delays), tt)
+        (λ done rest t fits. (rw (budget, delays, snap-asked (asked done) t rest fits), snap-short done rest t fits)) [] p.controls.snaps is.limits.snaps
+    add_kind kinds.Back =
+        let k : ℕ = p.controls.back in
+        cond_both (k == 0) [] (Back k ∷ []) (λ items. Leads (draft_before 11) items (draft_before 12))
+        (λ none. ap (λ n. record (draft_before 11) { asked = record (asked_before 11) { back = n } }) (sym (zero_is k none)))
+        (λ some. one (draft_before 11) (draft_before 12) (Back k)
+        (rw (budget, delays, back-asked (asked_before 11) k refl (at_least k some) is.limits.back), omega (arith, is.limits.back)))
+    add_kind kinds.Fin = one (draft_before 12) (draft_before 13) Fin (rw (budget, delays), tt)
 
     -- so do those of kinds that stand one behind the other
-    add_kinds : (more : List Kind) (i : ℕ) → AreNext i more →
-        Leads (draft_before i) (flat_map (λ k. lines_at k) more) (draft_before (i + length more))
+    add_kinds : (more : List Kind) (i : ℕ) → AreNext i more → Leads (draft_before i) (flat_map (λ k. lines_at k) more) (draft_before (i + length more))
     add_kinds [] i next = let same : i ≡ i + 0 = omega arith in ap (λ j. draft_before j) same
     add_kinds (kind ∷ more) i next =
         let same : i + 1 + length more ≡ i + length (kind ∷ more) = omega arith in
-        let all : List Item = flat_map (λ k. lines_at k) more in
-        leads_on (draft_before i) (draft_before (i + 1)) (draft_before (i + length (kind ∷ more))) (lines_at kind) all
-        (subst (λ j. Leads (draft_before j) (lines_at kind) (draft_before (j + 1))) next.0 (add_kind kind))
-        (subst (λ j. Leads (draft_before (i + 1)) all (draft_before j)) same (add_kinds more (i + 1) next.1))
+        leads_on (draft_before i) (draft_before (i + 1)) (draft_before (i + length (kind ∷ more))) (lines_at kind) (flat_map (λ k. lines_at k) more)
+        (rw next.0 at (add_kind kind)) (rw same at (add_kinds more (i + 1) next.1))
 
 -- the whole draft of a program, and the lines that lead to it
 pub record Makes (p : Program) : Type 0 where
@@ -304,14 +213,13 @@ pub record Makes (p : Program) : Type 0 where
 pub made_again : (p : Program) → IsProgram p → AreWords p.words → Makes p
 unfolding is_whole
 made_again p is each =
-    let room : length ([] ++ p.words) ≤ words_of_storage = omega (arith, is.whole) in
-    let words = add_words p.start 0 [] [] p.words refl is.registers room each in
+    let words = add_words p.start 0 0 [] p.words refl (λ i low. is.registers i (omega (arith, low))) (omega (arith, is.whole)) each in
     let ws : List ℕ = words.last in
     let next : AreNext 0 order = (refl, (refl, (refl, (refl, (refl, (refl, (refl, (refl, (refl, (refl, (refl, (refl, (refl, tt))))))))))))) in
     record {
       last = draft_before p ws 13;
       steps = subst (λ (items : List Item). Leads blank items (draft_before p ws 13)) (whole_lines p) (add_kinds p ws is words.steps order 0 next);
-      ended = both_true _ _ (not_zero p.controls.budget is.budget) (both_true _ _ (not_zero (length p.controls.delays) is.delays) refl);
+      ended = rw (some_is p.controls.budget is.budget, some_is (length p.controls.delays) is.delays);
       program = ap (λ (s : List ℕ). record p { words = s; controls = asked_before p ws 13 }) (filled_again ws p.words words.zeros words.filled is.whole)
           ∙ ap (λ (b : Bool). record p { controls = record p.controls { list = b } }) (sym is.unlisted);
     }

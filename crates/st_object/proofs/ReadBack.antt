@@ -13,6 +13,7 @@ use Rattle.st_object.specs.declared.items.Item.{Item}
 use Rattle.st_object.specs.declared.items.Item.TheVariants.{Object, Start, Word, Budget, Delay, Signal, Dump, Trace, Time, Chart, Snap, Back, Fin}
 use Rattle.st_object.proofs.Parts.{other_first}
 use Rattle.st_object.proofs.Spellings.{short_small, lacks-decimal, lacks-hex, spelled_again}
+use Rattle.st_object.proofs.LineByLine.{read_step}
 use Rattle.st_object.proofs.ProgramLines.{Leads, made_again}
 
 -- no line end stands among digits
@@ -58,17 +59,11 @@ parted-text_of (item ∷ more) d e leads =
 pub with_spelled : (d e : Draft) (item : Item) → with_item d item ≡ Some e → IsItem item → with_line d (spelled item) ≡ Some e
 with_spelled d e item added readable = rw (spelled_again item readable) added
 
-read_step : (d e : Draft) (n : ℕ) (line : List ℕ) (before : List (List ℕ)) → with_line d line ≡ Some e →
-    read_from d n (line ∷ before ++ [] ∷ []) ≡ read_from e (n + 1) (before ++ [] ∷ [])
-read_step d e n line [] good = rw good
-read_step d e n line (next ∷ more) good = rw good
-
 read_lines : (items : List Item) (d e : Draft) (n : ℕ) → Leads d items e → is_whole e ≡ true →
     read_from d n (map spelled items ++ [] ∷ []) ≡ Ok (program_of e)
 read_lines [] d e n leads whole = rw (leads, whole)
 read_lines (item ∷ more) d e n leads whole =
-    read_step d leads.0 n (spelled item) (map spelled more) (with_spelled d leads.0 item leads.1 leads.2)
-    ∙ read_lines more leads.0 e (n + 1) leads.3 whole
+    rw (read_step d n (spelled item) [] (map spelled more) [], with_spelled d leads.0 item leads.1 leads.2) (read_lines more leads.0 e (n + 1) leads.3 whole)
 
 -- what was written reads as the same program
 pub read_back : (p : Program) → IsProgram p → AreWords p.words → read_text (object_text p) ≡ Ok p

@@ -4,8 +4,8 @@ use Rattle.st_object.specs.Draft.{blank}
 use Rattle.st_object.specs.Object.{read_from, read_text}
 use Rattle.st_object.specs.Answers.{Explains}
 use Rattle.st_object.specs.declared.reading.ObjectError.{ObjectError}
-use Rattle.st_object.proofs.LineByLine.{line_refused, line_added, line_kept}
-use Rattle.st_object.proofs.LineCounts.{line_more, few_lines}
+use Rattle.st_object.proofs.LineByLine.{line_refused, line_added, good_line}
+use Rattle.st_object.proofs.LineCounts.{few_lines}
 use Rattle.st_object.proofs.reading.read.Goals as goal
 
 pub returns-in-Refused : goal.returns-in-Refused
@@ -17,12 +17,12 @@ returns-in-Refused c =
 
 pub lines-preserved : goal.lines-preserved
 lines-preserved c =
-    let draft = line_kept c.lines.draft c.add_line.new.draft c.in-Some.line.now c.in-Added.ensures c.lines.invariant.draft in
-    let more = line_more c.lines.draft c.add_line.new.draft c.in-Some.line.now c.in-Added.ensures in
+    let good = good_line c.lines.draft c.add_line.new.draft c.in-Some.line.now c.in-Added.ensures in
+    let draft = good.kept c.lines.invariant.draft in
     record {
       draft = draft;
-      counted = omega (arith, more, c.lines.invariant.counted);
-      few = omega (arith, more, c.lines.invariant.counted, few_lines c.add_line.new.draft draft);
+      counted = omega (arith, good.more, c.lines.invariant.counted);
+      few = omega (arith, good.more, c.lines.invariant.counted, few_lines c.add_line.new.draft draft);
       same = line_added c.lines.draft c.add_line.new.draft c.lines.card c.in-Some.line.now c.lines.rest.now c.in-Some.after.now
           (read_from blank 1 (parted 10 c.args.text.now)) c.in-Some.ensures.pieces c.in-Added.ensures c.lines.invariant.same;
     }
