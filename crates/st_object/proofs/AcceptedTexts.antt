@@ -47,7 +47,8 @@ cut (c ∷ cs) = go (c == 10) refl (cut cs)
     go : (b : Bool) → (c == 10) ≡ b → Cut cs → Cut (c ∷ cs)
     go true here later =
         let same : c ≡ 10 = eqb-true c 10 here in
-        record { lines = [] ∷ later.lines; rest = later.rest; lacking = (refl, later.lacking); pieces = rw (here, later.pieces); whole = cc (same, later.whole) }
+        let whole : c ∷ cs ≡ closed ([] ∷ later.lines) ++ later.rest = cc (same, later.whole) in
+        record { lines = [] ∷ later.lines; rest = later.rest; lacking = (refl, later.lacking); pieces = rw (here, later.pieces); whole = whole }
     go false other later = cut_more c cs later.lines later.rest other later.lacking later.pieces later.whole
 
 -- what stands behind the last line end is a line too, where it is not empty

@@ -30,8 +30,8 @@ taken_lines (suc n) (line ∷ more) are = (are.0, taken_lines n more are.1)
 parted-closed : (lines : List (List ℕ)) (rest : List ℕ) → AreLines lines → parted 10 (closed lines ++ rest) ≡ lines ++ parted 10 rest
 parted-closed [] rest are = refl
 parted-closed (line ∷ more) rest are =
-    rw (append_assoc (line ++ 10 ∷ []) (closed more) rest, append_assoc line (10 ∷ []) (closed more ++ rest),
-    parted_line line (closed more ++ rest) are.0, parted-closed more rest are.1)
+    let here = parted_line line (closed more ++ rest) are.0 in
+    rw (append_assoc (line ++ 10 ∷ []) (closed more) rest, append_assoc line (10 ∷ []) (closed more ++ rest), here, parted-closed more rest are.1)
 
 not_both : (p : Program) (n : ℕ) (r : Result Program ℕ) → r ≡ Ok p → r ≡ Err n → ⊥
 not_both p n r read refused = cc
@@ -81,9 +81,9 @@ none_earlier text n m bad later before =
     let behind : List ℕ = closed (drop n (take (m - 1) lines)) in
     let parts : closed (take (m - 1) lines) ≡ closed (take n lines) ++ behind =
     ap (λ (s : List (List ℕ)). closed s) (sym (take-append-drop n (take (m - 1) lines)))
-    ∙ rw (flat_map-append (λ line. line ++ lf) (take n (take (m - 1) lines)) (drop n (take (m - 1) lines)), take-take n (m - 1) lines (omega (arith, before))) in
+    ∙ rw (flat_map-append (λ line. line ++ lf) (take n (take (m - 1) lines)) (drop n (take (m - 1) lines)), take-take n (m - 1) lines (omega arith)) in
     bad.bad (omega (arith, before, later.counted.1))
-    (front.0, front.1, front.2, behind ++ front.3, front.4 ∙ (ap (λ (s : List ℕ). s ++ front.3) parts ∙ append_assoc (closed (take n lines)) behind front.3))
+    (front.0, front.1, front.2, behind ++ front.3, front.4 ∙ rw (parts, append_assoc (closed (take n lines)) behind front.3))
 
 one_bad_line : (text : List ℕ) (n m : ℕ) → IsBadLine text n → IsBadLine text m → m ≡ n
 one_bad_line text n m first second =

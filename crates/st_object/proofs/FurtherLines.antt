@@ -76,7 +76,8 @@ Grows old new item = new ≡ old ++ item ∷ []
 put_last : (kind : Kind) (d e : Draft) (item : Item) → IsPut kind d item e → Grows (lines_of d) (lines_of e) item
 put_last kind d e item is =
     lines_up_to kind e is.none_now
-    ∙ rw (is.front, is.here, ← append_assoc (flat_map (λ k. kind_lines d k) (before kind)) (kind_lines d kind) (item ∷ [])) (ap (λ (s : List Item). s ++ item ∷ []) (sym (lines_up_to kind d is.none_then)))
+    ∙ rw (is.front, is.here, ← append_assoc (flat_map (λ k. kind_lines d k) (before kind)) (kind_lines d kind) (item ∷ []))
+    (ap (λ (s : List Item). s ++ item ∷ []) (sym (lines_up_to kind d is.none_then)))
 
 counted : (n most : ℕ) (item : Item) → is_in_range 1 most n ≡ true → ((if n == 0 then [] else item ∷ []) ≡ item ∷ []) × (not (n == 0) ≡ true)
 counted n most item test = grind (arith, nat_tests)

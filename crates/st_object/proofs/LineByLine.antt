@@ -56,7 +56,7 @@ good_line d e line good =
     record {
       kept = kept d e item parts.1.1 meaning.1;
       orderly = ordered d e item parts.1.1;
-      behind = ap (λ (s : List Item). text_of s) grows
-          ∙ (text_of-append (lines_of d) (item ∷ []) ∙ rw (append-nil (spelled item ++ 10 ∷ []), meaning.0, append_assoc (text_of (lines_of d)) line (10 ∷ [])));
+      behind = ap (λ (s : List Item). text_of s) grows ∙ (text_of-append (lines_of d) (item ∷ [])
+          ∙ rw (append-nil (spelled item ++ 10 ∷ []), meaning.0, append_assoc (text_of (lines_of d)) line (10 ∷ [])));
       more = ap (λ (s : List Item). length s) grows ∙ length-append (lines_of d) (item ∷ []);
     }

@@ -26,5 +26,4 @@ few_words w (x ∷ xs) = grind (arith, few_words (w + 1) xs)
 pub few_lines : (d : Draft) → IsDraft d → length (lines_of d) ≤ 110000
 few_lines d is =
     simp (length-append, length-map)
-    (omega (arith, few_marked, few_budget, few_back, few_start, few_words, words_of_storage_is,
-    is.few, is.limits.delays.few, is.limits.signals.few, is.limits.dumps.few, is.limits.snaps.few))
+    (omega (arith, few_marked, few_budget, few_back, few_start, few_words, words_of_storage_is))

@@ -95,7 +95,7 @@ add_words h k w ws (x ∷ rest) place registers room each =
     (λ some.
     let new : List ℕ = ws ++ replicate (w - length ws) 0 ++ x ∷ [] in
     let gap : w - length ws ≡ k = omega arith in
-    let size : length new ≡ w + 1 = omega (arith, length-append (ws ++ replicate (w - length ws) 0) (x ∷ []), length-append ws (replicate (w - length ws) 0), length-replicate {A = ℕ} (w - length ws) 0) in
+    let size : length new ≡ w + 1 = rw gap (simp (length-append, length-replicate) (omega arith)) in
     let later = add_words h 0 (w + 1) new rest (omega arith) behind_registers (omega arith) behind_each in
     let same : new ++ [] ++ rest ≡ ws ++ replicate k 0 ++ x ∷ rest = rw gap (simp (append_assoc, append-nil)) in
     let fits = holds (length ws) w x (above w x (λ low. registers 0 (omega arith)) some) (omega arith) (omega arith) some storage in

@@ -88,13 +88,13 @@ read_again item meaning = rw (meaning, is_same-refl (spelled item))
 
 both_numbers : (at a b : ℕ) → at < 48 → IsShort a → IsShort b → two_numbers at (decimal a ++ at ∷ [] ++ decimal b) ≡ Some (a, b)
 both_numbers at a b low short_a short_b =
-    rw (append_assoc (decimal a) (at ∷ []) (decimal b), parts_around at (decimal a) (decimal b) (lacks-decimal at a low (short_small a short_a)),
-    short_number-decimal a short_a, short_number-decimal b short_b)
+    let cut = parts_around at (decimal a) (decimal b) (lacks-decimal at a low (short_small a short_a)) in
+    rw (append_assoc (decimal a) (at ∷ []) (decimal b), cut, short_number-decimal a short_a, short_number-decimal b short_b)
 
 word_again : (w x : ℕ) → IsShort w → x < 2 ^ 64 → word_in (decimal w ++ 32 ∷ [] ++ hex_word x) ≡ Some (Word w x)
 word_again w x short small =
-    rw (append_assoc (decimal w) (32 ∷ []) (hex_word x), parts_around 32 (decimal w) (hex_word x) (lacks-decimal 32 w (omega arith) (short_small w short)),
-    short_number-decimal w short, hex_after-hex_text 16 x (omega arith) small)
+    let cut = parts_around 32 (decimal w) (hex_word x) (lacks-decimal 32 w (omega arith) (short_small w short)) in
+    rw (append_assoc (decimal w) (32 ∷ []) (hex_word x), cut, short_number-decimal w short, hex_after-hex_text 16 x (omega arith) small)
 
 start_again : (h : ℕ) → IsShort (h / 2) → item_behind kinds.Start (half_address h) ≡ Some (Start h)
 start_again h short =
