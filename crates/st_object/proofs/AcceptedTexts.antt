@@ -5,12 +5,10 @@ use Rattle.std.specs.Option.{option_map_or}
 use Rattle.std.proofs.lemmas.Bool.{eqb-true}
 use Rattle.std.proofs.lemmas.Bool.Decides.{nat_tests}
 use Rattle.st_text.specs.Bytes.{lf}
-use Rattle.st_text.specs.Pieces.{onto_first, parted, lacks}
-use Rattle.st_card.specs.Limits.{IsWithinLimits}
-use Rattle.st_card.specs.Controls.{nothing_asked}
+use Rattle.st_text.specs.Pieces.{parted, lacks}
 use Rattle.st_object.specs.Lines.{text_of}
 use Rattle.st_object.specs.Draft.{Draft, blank, IsDraft, is_empty, lines_of, is_whole}
-use Rattle.st_object.specs.Object.{Program, IsProgram, AreWords, object_text, program_of, with_line, finished, unended, end_of, read_from, read_text, lines_in, text_lines}
+use Rattle.st_object.specs.Object.{Program, IsProgram, AreWords, object_text, program_of, with_line, read_from, read_text, lines_in, text_lines}
 use Rattle.st_object.specs.declared.items.Item.{Item}
 use Rattle.st_object.proofs.LineByLine.{read_step, IsGood, good_line}
 use Rattle.st_object.proofs.WholeDrafts.{whole_program, whole_words, whole_lines_of}

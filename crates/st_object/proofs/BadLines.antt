@@ -1,5 +1,5 @@
 -- A text that is refused has a bad line, and the named one is the first.
-use Rattle.std.proofs.Common.{◌≡◌, ◌≤◌, ◌<◌, ◌+◌, ◌-◌, ℕ, suc, zero, true, List, [], ◌∷◌, ◌++◌, length, take, drop, Result, Ok, Err, refl, ap, sym, subst, ◌∙◌, append_assoc, arith}
+use Rattle.std.proofs.Common.{◌≡◌, ◌<◌, ◌-◌, ℕ, suc, zero, List, [], ◌∷◌, ◌++◌, take, drop, Result, Ok, Err, refl, ap, sym, ◌∙◌, append_assoc, arith}
 use Rattle.std.proofs.lemmas.Bool.{cond_both}
 use Rattle.std.proofs.lemmas.List.{take-append-drop, take-take}
 use Rattle.std.proofs.lemmas.List.Concat.{flat_map-append}
@@ -8,7 +8,7 @@ use Rattle.st_text.specs.Pieces.{parted}
 use Rattle.st_text.proofs.PieceLemmas.{first_piece}
 use Rattle.st_object.specs.Lines.{text_of}
 use Rattle.st_object.specs.Draft.{Draft, blank, IsDraft, is_empty, lines_of}
-use Rattle.st_object.specs.Object.{Program, object_text, program_of, read_from, read_text, text_lines, IsObjectText, BeginsObjectText, IsBadLine}
+use Rattle.st_object.specs.Object.{Program, object_text, program_of, read_from, read_text, text_lines, BeginsObjectText, IsBadLine}
 use Rattle.st_object.specs.declared.items.Item.{Item}
 use Rattle.st_object.proofs.WrittenLines.{text_of-append}
 use Rattle.st_object.proofs.WholeDrafts.{whole_program, whole_words, whole_lines_of}

@@ -1,11 +1,11 @@
 -- Lines that were read can be followed by others up to a whole program.
-use Rattle.std.proofs.Common.{◌≡◌, ◌≤◌, ◌<◌, ◌^◌, ◌==◌, ◌||◌, ℕ, Bool, true, false, not, List, [], ◌∷◌, ◌++◌, Option, Some, None, is_some, IfSome, unwrap_or, if◌then◌else◌, refl, ap, sym, subst, ◌∙◌, append_assoc, arith, lit<}
+use Rattle.std.proofs.Common.{◌≡◌, ◌≤◌, ◌<◌, ◌^◌, ◌==◌, ◌||◌, ℕ, Bool, true, false, not, List, [], ◌∷◌, ◌++◌, Option, Some, IfSome, unwrap_or, if◌then◌else◌, refl, subst, append_assoc, arith}
 use Rattle.std.proofs.lemmas.Bool.{and_from as both_true, and_parts as holds_both, cond_both}
 use Rattle.std.proofs.lemmas.Bool.Decides.{nat_tests}
 use Rattle.std.proofs.lemmas.List.Sums.{AllPass-from_list_all}
 use Rattle.std.specs.List.{flat_map}
 use Rattle.st_card.specs.Controls.{is_in_range}
-use Rattle.st_card.specs.Limits.{AreDelays, IsWithinLimits}
+use Rattle.st_card.specs.Limits.{AreDelays}
 use Rattle.st_object.specs.Order.{order, row, before, behind, kind_of, is_met, are_met, none_stands}
 use Rattle.st_object.specs.Draft.{Draft, blank, IsDraft, is_empty, kind_lines, lines_of, stands, is_whole, with_item}
 use Rattle.st_object.specs.declared.items.Item.{Item}

@@ -1,12 +1,11 @@
 -- A further line stands behind those that were read.
-use Rattle.std.proofs.Common.{◌≡◌, ◌≤◌, ◌+◌, ◌-◌, ◌^◌, ◌==◌, ◌&&◌, ◌||◌, ℕ, suc, zero, Bool, true, false, not, nat_lt, List, [], ◌∷◌, ◌++◌, length, map, replicate, Option, Some, None, IfSome, if◌then◌else◌, refl, ap, sym, ◌∙◌, append_assoc, append-nil, length-append, arith}
+use Rattle.std.proofs.Common.{◌≡◌, ◌≤◌, ◌+◌, ◌-◌, ◌^◌, ◌==◌, ◌&&◌, ◌||◌, ℕ, suc, zero, Bool, true, false, not, nat_lt, List, [], ◌∷◌, ◌++◌, length, map, replicate, Some, if◌then◌else◌, refl, ap, sym, ◌∙◌, append_assoc, append-nil, length-append, arith}
 use Rattle.std.proofs.lemmas.Bool.{and_parts as holds_both, leb-true as at_most, not-true as is_not}
 use Rattle.std.proofs.lemmas.List.{map-append, length-replicate}
 use Rattle.std.proofs.lemmas.List.Concat.{flat_map-append}
 use Rattle.std.proofs.lemmas.Bool.Decides.{nat_tests}
 use Rattle.std.specs.List.{flat_map}
-use Rattle.std.specs.Option.{option_map}
-use Rattle.st_card.specs.Controls.{Asked, is_in_range}
+use Rattle.st_card.specs.Controls.{is_in_range}
 use Rattle.st_card.specs.declared.control_cards.Signal.{Signal as GivenSignal}
 use Rattle.st_object.specs.Lines.{word_lines}
 use Rattle.st_object.specs.Order.{order, row, before, behind, kind_of, are_met, none_stands}

@@ -1,9 +1,9 @@
 -- How many lines a draft has.
-use Rattle.std.proofs.Common.{◌≡◌, ◌≤◌, ◌+◌, ℕ, Bool, List, [], ◌∷◌, length, Option, Some, ap, ◌∙◌, length-append, arith}
+use Rattle.std.proofs.Common.{◌≤◌, ◌+◌, ℕ, Bool, List, [], ◌∷◌, length, Option, length-append, arith}
 use Rattle.std.proofs.lemmas.List.{length-map}
 use Rattle.st_bits.specs.Storage.{words_of_storage_is}
 use Rattle.st_object.specs.Lines.{marked, word_lines, budget_lines, back_lines}
-use Rattle.st_object.specs.Draft.{Draft, IsDraft, start_lines, lines_of, with_item}
+use Rattle.st_object.specs.Draft.{Draft, IsDraft, start_lines, lines_of}
 use Rattle.st_object.specs.declared.items.Item.{Item}
 
 few_marked : (b : Bool) (item : Item) → length (marked b item) ≤ 1

@@ -1,21 +1,21 @@
 -- The lines of a program, added one by one, make that program.
-use Rattle.std.proofs.Common.{◌≡◌, ◌≤◌, ◌<◌, ◌+◌, ◌-◌, ◌^◌, ◌==◌, ◌&&◌, ℕ, suc, Bool, true, false, not, nat_lt, List, [], ◌∷◌, ◌++◌, length, get_or, map, replicate, Option, Some, None, if◌then◌else◌, refl, ap, sym, subst, ◌∙◌, append_assoc, append-nil, length-append, arith}
-use Rattle.std.proofs.lemmas.Bool.{and_from as both_true, cond_both, lt-ltb as below}
+use Rattle.std.proofs.Common.{◌≡◌, ◌≤◌, ◌<◌, ◌+◌, ◌-◌, ◌^◌, ◌==◌, ◌&&◌, ℕ, suc, Bool, true, false, nat_lt, List, [], ◌∷◌, ◌++◌, length, get_or, map, replicate, Some, None, if◌then◌else◌, refl, ap, sym, subst, ◌∙◌, append_assoc, append-nil, length-append, arith}
+use Rattle.std.proofs.lemmas.Bool.{cond_both, lt-ltb as below}
 use Rattle.std.specs.List.{All, flat_map}
 use Rattle.std.proofs.lemmas.Bool.Decides.{nat_tests}
 use Rattle.std.proofs.lemmas.List.{length-replicate, replicate_more}
 use Rattle.st_bits.specs.Storage.{words_of_storage, words_of_storage_is}
-use Rattle.st_card.specs.Controls.{Asked, nothing_asked, with_keyword}
+use Rattle.st_card.specs.Controls.{Asked, nothing_asked}
 use Rattle.st_card.specs.Limits.{AreDelays, AreSignals, AreDumps, AreSnaps}
 use Rattle.st_card.specs.declared.control_cards.Signal.{Signal as GivenSignal}
 use Rattle.st_card.proofs.OrderLemmas.{budget-asked, delay-asked, signal-asked, dump-asked, snap-asked, back-asked, delay-short, signal-short, dump-short, snap-short}
 use Rattle.st_object.specs.Lines.{marked, word_lines}
 use Rattle.st_object.specs.Order.{order, row}
-use Rattle.st_object.specs.Draft.{Draft, blank, is_empty, kind_lines, is_whole, has_place, may_hold, with_order, with_value, with_item}
-use Rattle.st_object.specs.Meaning.{IsShort, IsItem}
+use Rattle.st_object.specs.Draft.{Draft, blank, is_empty, kind_lines, is_whole, has_place, may_hold, with_value, with_item}
+use Rattle.st_object.specs.Meaning.{IsItem}
 use Rattle.st_object.specs.Object.{Program, IsProgram, AreWords, object_lines, filled_up, program_of}
 use Rattle.st_object.specs.declared.items.Item.{Item}
-use Rattle.st_object.specs.declared.items.Item.TheVariants.{Object, Start, Word, Budget, Delay, Signal, Dump, Trace, Time, Chart, Snap, Back, Fin}
+use Rattle.st_object.specs.declared.items.Item.TheVariants.{Object, Start, Budget, Delay, Signal, Dump, Trace, Time, Chart, Snap, Back, Fin}
 use Rattle.st_object.specs.declared.items.Kind.{Kind}
 use Rattle.st_object.specs.declared.items.Kind.TheVariants as kinds
 use Rattle.st_object.proofs.WrittenLines.{draft_of, whole_lines}

@@ -1,14 +1,11 @@
 -- The object text of a program is read as that program.
-use Rattle.std.proofs.Common.{◌≡◌, ◌+◌, ◌*◌, ◌/◌, ◌%◌, ◌==◌, ℕ, Bool, true, not, List, [], ◌∷◌, ◌++◌, map, decimal, Option, Some, Ok, Err, if◌then◌else◌, refl, ap, ◌∙◌, append_assoc, arith}
-use Rattle.std.proofs.lemmas.Bool.{and_from as and_true}
-use Rattle.std.specs.Option.{option_map_or, option_and_then}
+use Rattle.std.proofs.Common.{◌≡◌, ◌+◌, ◌*◌, ◌/◌, ◌%◌, ◌==◌, ℕ, true, not, List, [], ◌∷◌, ◌++◌, map, decimal, Some, Ok, refl, ap, append_assoc, arith}
 use Rattle.std.proofs.lemmas.List.Folds.{list_all-append}
-use Rattle.st_text.specs.Numerals.{hex_word}
-use Rattle.st_text.specs.Pieces.{onto_first, parted, lacks}
+use Rattle.st_text.specs.Pieces.{parted, lacks}
 use Rattle.st_object.specs.Lines.{spelled, text_of}
 use Rattle.st_object.specs.Draft.{Draft, blank, with_item, is_whole}
 use Rattle.st_object.specs.Meaning.{IsShort, IsItem}
-use Rattle.st_object.specs.Object.{Program, IsProgram, AreWords, object_lines, object_text, program_of, with_line, finished, read_from, read_text}
+use Rattle.st_object.specs.Object.{Program, IsProgram, AreWords, object_lines, object_text, program_of, with_line, read_from, read_text}
 use Rattle.st_object.specs.declared.items.Item.{Item}
 use Rattle.st_object.specs.declared.items.Item.TheVariants.{Object, Start, Word, Budget, Delay, Signal, Dump, Trace, Time, Chart, Snap, Back, Fin}
 use Rattle.st_object.proofs.Parts.{other_first}

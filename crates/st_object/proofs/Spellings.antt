@@ -1,5 +1,5 @@
 -- What is spelled is read as the same item, and what is read is spelled so.
-use Rattle.std.proofs.Common.{◌≡◌, ◌≤◌, ◌<◌, ◌+◌, ◌*◌, ◌/◌, ◌%◌, ◌^◌, ◌==◌, ◌&&◌, ℕ, suc, zero, Bool, true, not, List, [], ◌∷◌, ◌++◌, Option, Some, length, decimal, refl, ◌∙◌, arith, rules, append_assoc}
+use Rattle.std.proofs.Common.{◌≡◌, ◌<◌, ◌+◌, ◌*◌, ◌/◌, ◌%◌, ◌^◌, ◌==◌, ℕ, suc, zero, true, not, List, [], ◌∷◌, ◌++◌, Some, length, decimal, refl, ◌∙◌, arith, rules, append_assoc}
 use Rattle.std.proofs.lemmas.Bool.{and_from as and_true, and_parts as holds_both}
 use Rattle.std.specs.Char.{is_ascii_digit}
 use Rattle.std.specs.List.{list_all}

@@ -1,5 +1,5 @@
 -- A draft that is whole is a program, and its lines are the program's object text.
-use Rattle.std.proofs.Common.{◌≡◌, ◌≤◌, ◌<◌, ◌-◌, ◌^◌, ◌==◌, ℕ, Bool, true, not, List, ◌++◌, length, get_or, replicate, Option, Some, is_some, IfSome, unwrap_or, ap, sym, ◌∙◌, append-nil, length-append, arith, lit<}
+use Rattle.std.proofs.Common.{◌≡◌, ◌≤◌, ◌<◌, ◌-◌, ◌^◌, ◌==◌, ℕ, true, not, List, ◌++◌, length, get_or, replicate, Option, Some, is_some, IfSome, unwrap_or, ap, sym, ◌∙◌, append-nil, length-append, arith, lit<}
 use Rattle.std.proofs.lemmas.Bool.Decides.{nat_tests}
 use Rattle.std.proofs.lemmas.Grind.{common_steps}
 use Rattle.std.proofs.lemmas.List.{length-replicate}
