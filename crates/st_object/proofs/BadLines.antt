@@ -1,20 +1,19 @@
 -- A text that is refused has a bad line, and the named one is the first.
-use Rattle.std.proofs.Common.{◌≡◌, ◌<◌, ◌-◌, ℕ, suc, zero, List, [], ◌∷◌, ◌++◌, take, drop, Result, Ok, Err, refl, ap, sym, ◌∙◌, append_assoc, arith}
+use Rattle.std.proofs.Common.{◌≡◌, ◌<◌, ◌-◌, ℕ, suc, zero, List, [], ◌∷◌, ◌++◌, take, drop, Result, Ok, Err, IfOk, IfErr, refl, ap, sym, ◌∙◌, append_assoc, arith}
 use Rattle.std.proofs.lemmas.Bool.{cond_both}
 use Rattle.std.proofs.lemmas.List.{take-append-drop, take-take}
 use Rattle.std.proofs.lemmas.List.Concat.{flat_map-append}
 use Rattle.st_text.specs.Bytes.{lf}
 use Rattle.st_text.specs.Pieces.{parted}
 use Rattle.st_text.proofs.PieceLemmas.{first_piece}
-use Rattle.st_object.specs.Lines.{text_of}
 use Rattle.st_object.specs.Draft.{Draft, blank, IsDraft, is_empty, lines_of}
-use Rattle.st_object.specs.Object.{Program, object_text, program_of, read_from, read_text, text_lines, BeginsObjectText, IsBadLine}
-use Rattle.st_object.specs.declared.items.Item.{Item}
-use Rattle.st_object.proofs.WrittenLines.{text_of-append}
-use Rattle.st_object.proofs.WholeDrafts.{whole_program, whole_words, whole_lines_of}
+use Rattle.st_object.specs.Object.{Program, IsProgram, object_text, read_from, read_text, text_lines, BeginsObjectText, IsBadLine}
+use Rattle.st_object.specs.Answers.{Gives, NamesBadLine}
+use Rattle.st_object.specs.declared.reading.ObjectError.{ObjectError}
+use Rattle.st_object.specs.declared.reading.ObjectError.TheVariants.{Refused, NoMemory}
 use Rattle.st_object.proofs.AcceptedTexts.{closed, AreLines, cut, last_line, lines_in_all, Refuses, outcome, accepted}
 use Rattle.st_object.proofs.ReadBack.{parted_line, read_back}
-use Rattle.st_object.proofs.Completions.{IsOrderly, completed}
+use Rattle.st_object.proofs.Completions.{begins}
 
 -- the lines of a text have no line ends
 all_lines : (lines : List (List ℕ)) (rest : List ℕ) → AreLines (lines ++ rest ∷ []) → AreLines (lines ++ last_line rest)
@@ -45,18 +44,6 @@ not_front lines n are bad front =
     not_both front.0 n (read_text (object_text front.0)) (read_back front.0 front.1 front.2)
     (ap (λ (s : List ℕ). read_from blank 1 (parted 10 s)) front.4 ∙ rw (parted-closed lines front.3 are, first.1.1) (bad first.0 first.1.0))
 
--- lines that were read begin an object text
-is_front : (d : Draft) (front : List ℕ) → IsDraft d → IsOrderly d → text_of (lines_of d) ≡ front → BeginsObjectText front
-is_front d front draft orderly same =
-    let c = completed d draft orderly in (
-      program_of c.last,
-      whole_program c.last c.draft c.ended,
-      whole_words c.last c.draft,
-      text_of c.more,
-      ap (λ (s : List Item). text_of s) (whole_lines_of c.last c.ended ∙ c.lines)
-          ∙ (text_of-append (lines_of d) c.more ∙ ap (λ (s : List ℕ). s ++ text_of c.more) same),
-    )
-
 -- the named line is the first bad one
 pub bad_line : (text : List ℕ) (n : ℕ) → read_text text ≡ Err n → IsBadLine text n
 bad_line text n read =
@@ -68,7 +55,7 @@ bad_line text n read =
     record {
       none = λ object. not_both object.0 n (read_text text) (ap (λ (s : List ℕ). read_text s) object.3 ∙ read_back object.0 object.1 object.2) read;
       counted = (omega (arith, is.counted), omega (arith, is.counted, is.within));
-      good_before = rw before (is_front is.on.last (closed (take is.good (text_lines text))) is.on.draft is.on.orderly is.on.before);
+      good_before = rw before (begins is.on.last (closed (take is.good (text_lines text))) is.on.draft is.on.orderly is.on.before);
       bad = λ inside front. not_front (take n (text_lines text)) n (taken_lines n (text_lines text) are)
           (rw next at (is.bad (omega (arith, inside, next)))) front;
     }
@@ -98,3 +85,17 @@ refused_there text n bad = go (read_text text) refl
     go : (r : Result Program ℕ) → read_text text ≡ r → r ≡ Err n
     go (Ok p) read = let is = accepted text p read in absurd (bad.none (p, is.program, is.words, is.same))
     go (Err m) read = ap (λ (k : ℕ). Err k) (one_bad_line text n m bad (bad_line text m read))
+
+-- what an answer says of its text
+pub read_program : (text : List ℕ) (r : Result Program ObjectError) → Gives (read_text text) r → IfOk r (λ p. IsProgram p)
+read_program text (Ok p) gives = (accepted text p gives).program
+read_program text (Err e) gives = tt
+
+pub read_same : (text : List ℕ) (r : Result Program ObjectError) → Gives (read_text text) r → IfOk r (λ p. text ≡ object_text p)
+read_same text (Ok p) gives = (accepted text p gives).same
+read_same text (Err e) gives = tt
+
+pub refused_first : (text : List ℕ) (r : Result Program ObjectError) → Gives (read_text text) r → IfErr r (λ e. NamesBadLine text e)
+refused_first text (Ok p) gives = tt
+refused_first text (Err (Refused card fault)) gives = bad_line text card gives.0
+refused_first text (Err NoMemory) gives = tt

@@ -1,5 +1,5 @@
 -- Lines that were read can be followed by others up to a whole program.
-use Rattle.std.proofs.Common.{◌≡◌, ◌≤◌, ◌<◌, ◌^◌, ◌==◌, ◌||◌, ℕ, Bool, true, false, not, List, [], ◌∷◌, ◌++◌, Option, Some, IfSome, unwrap_or, if◌then◌else◌, refl, subst, append_assoc, arith}
+use Rattle.std.proofs.Common.{◌≡◌, ◌≤◌, ◌<◌, ◌^◌, ◌==◌, ◌||◌, ℕ, Bool, true, false, not, List, [], ◌∷◌, ◌++◌, Option, Some, IfSome, unwrap_or, if◌then◌else◌, refl, ap, subst, ◌∙◌, append_assoc, arith}
 use Rattle.std.proofs.lemmas.Bool.{and_from as both_true, and_parts as holds_both, cond_both}
 use Rattle.std.proofs.lemmas.Bool.Decides.{nat_tests}
 use Rattle.std.proofs.lemmas.List.Sums.{AllPass-from_list_all}
@@ -8,10 +8,13 @@ use Rattle.st_card.specs.Controls.{is_in_range}
 use Rattle.st_card.specs.Limits.{AreDelays}
 use Rattle.st_object.specs.Order.{order, row, before, behind, kind_of, is_met, are_met, none_stands}
 use Rattle.st_object.specs.Draft.{Draft, blank, IsDraft, is_empty, kind_lines, lines_of, stands, is_whole, with_item}
+use Rattle.st_object.specs.Lines.{text_of}
+use Rattle.st_object.specs.Object.{program_of, BeginsObjectText}
 use Rattle.st_object.specs.declared.items.Item.{Item}
 use Rattle.st_object.specs.declared.items.Kind.{Kind}
-use Rattle.st_object.proofs.EmptyParts.{no_lines_of}
-use Rattle.st_object.proofs.FurtherLines.{cut, IsPut, added}
+use Rattle.st_object.proofs.FurtherLines.{no_lines_of, cut, IsPut, added}
+use Rattle.st_object.proofs.WrittenLines.{text_of-append}
+use Rattle.st_object.proofs.WholeDrafts.{start_small, whole_program, whole_words, whole_lines_of}
 
 -- behind the first kind that must stand and does not, none does
 abbrev orderly : Draft → List Kind → Bool
@@ -86,8 +89,7 @@ some_limits n ds few are = (
 
 completion_draft : (d : Draft) → IsDraft d → IsDraft (completion d)
 completion_draft d draft =
-    let start : (o : Option ℕ) → IfSome o (λ h. h < 2 ^ 19) → unwrap_or o 0 < 2 ^ 19 = λ o small. grind arith in
-    let small = start d.start draft.start in
+    let small = start_small d.start draft.start in
     let some = some_limits d.asked.budget d.asked.delays draft.limits.budget draft.limits.delays in
     assumption
 
@@ -98,16 +100,12 @@ completion_whole d =
     let delays : (ds : List ℕ) → not (is_empty (if is_empty ds then 1 ∷ [] else ds)) ≡ true = λ ds. grind (arith, nat_tests) in
     both_true _ _ (budget d.asked.budget) (both_true _ _ (delays d.asked.delays) refl)
 
--- a whole draft whose lines begin with those of another
-pub record Completes (d : Draft) : Type 0 where
-  pub last : Draft
-  pub draft : IsDraft last
-  pub ended : is_whole last ≡ true
-  pub more : List Item
-  pub lines : lines_of last ≡ lines_of d ++ more
-
 -- lines that were read begin an object text
-pub completed : (d : Draft) → IsDraft d → IsOrderly d → Completes d
-completed d draft orders =
+pub begins : (d : Draft) (front : List ℕ) → IsDraft d → IsOrderly d → text_of (lines_of d) ≡ front → BeginsObjectText front
+begins d front draft orders same =
+    let last = completion d in
+    let is = completion_draft d draft in
+    let whole = completion_whole d in
     let on = goes_on d order orders in
-    record { last = completion d; draft = completion_draft d draft; ended = completion_whole d; more = on.0; lines = on.1 }
+    let text = ap (λ (s : List Item). text_of s) (whole_lines_of last whole ∙ on.1) ∙ (text_of-append (lines_of d) on.0 ∙ rw same) in
+    (program_of last, whole_program last is whole, whole_words last is, text_of on.0, text)

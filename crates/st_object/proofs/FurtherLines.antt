@@ -15,7 +15,19 @@ use Rattle.st_object.specs.declared.items.Item.TheVariants.{Object, Start, Word,
 use Rattle.st_object.specs.declared.items.Kind.{Kind}
 use Rattle.st_object.specs.declared.items.Kind.TheVariants as kinds
 use Rattle.st_object.proofs.LineMeanings.{by_value, by_order, by_mark}
-use Rattle.st_object.proofs.EmptyParts.{no_lines, no_lines_of}
+
+-- where no line of a kind was read, there is none
+none_of : {X : Type 0} (xs : List X) → (length xs == 0) ≡ true → xs ≡ []
+none_of [] none = refl
+none_of (x ∷ xs) none = grind (arith, nat_tests)
+
+no_lines : (d : Draft) (kind : Kind) → not (stands d kind) ≡ true → kind_lines d kind ≡ []
+no_lines d kind off = grind (arith, nat_tests, none_of)
+
+pub no_lines_of : (d : Draft) (kinds : List Kind) → none_stands (stands d) kinds ≡ true → flat_map (λ kind. kind_lines d kind) kinds ≡ []
+no_lines_of d [] off = refl
+no_lines_of d (kind ∷ more) off =
+    let tests = holds_both (not (stands d kind)) (none_stands (stands d) more) off in rw (no_lines d kind tests.0, no_lines_of d more tests.1)
 
 -- the order, cut at a kind
 pub cut : (kind : Kind) → before kind ++ kind ∷ behind kind ≡ order

@@ -1,16 +1,14 @@
 pub mod Parts
 pub mod Spellings
 pub mod LineMeanings
-pub mod EmptyParts
 pub mod FurtherLines
 pub mod DraftLemmas
 pub mod WrittenLines
+pub mod WholeDrafts
 pub mod Completions
 pub mod LineByLine
 pub mod LineCounts
-pub mod WholeDrafts
 pub mod AcceptedTexts
 pub mod ProgramLines
 pub mod ReadBack
 pub mod BadLines
-pub mod AnswerLemmas

@@ -1,6 +1,6 @@
 -- The lines of a program, added one by one, make that program.
 use Rattle.std.proofs.Common.{◌≡◌, ◌≤◌, ◌<◌, ◌+◌, ◌-◌, ◌^◌, ◌==◌, ◌&&◌, ℕ, suc, Bool, true, false, nat_lt, List, [], ◌∷◌, ◌++◌, length, get_or, map, replicate, Some, None, if◌then◌else◌, refl, ap, sym, subst, ◌∙◌, append_assoc, append-nil, length-append, arith}
-use Rattle.std.proofs.lemmas.Bool.{cond_both, lt-ltb as below}
+use Rattle.std.proofs.lemmas.Bool.{cond_both, eqb-true as same_number, lt-ltb as below}
 use Rattle.std.specs.List.{All, flat_map}
 use Rattle.std.proofs.lemmas.Bool.Decides.{nat_tests}
 use Rattle.std.proofs.lemmas.List.{length-replicate, replicate_more}
@@ -15,7 +15,7 @@ use Rattle.st_object.specs.Draft.{Draft, blank, is_empty, kind_lines, is_whole, 
 use Rattle.st_object.specs.Meaning.{IsItem}
 use Rattle.st_object.specs.Object.{Program, IsProgram, AreWords, object_lines, filled_up, program_of}
 use Rattle.st_object.specs.declared.items.Item.{Item}
-use Rattle.st_object.specs.declared.items.Item.TheVariants.{Object, Start, Budget, Delay, Signal, Dump, Trace, Time, Chart, Snap, Back, Fin}
+use Rattle.st_object.specs.declared.items.Item.TheVariants.{Object, Start, Word, Budget, Delay, Signal, Dump, Trace, Time, Chart, Snap, Back, Fin}
 use Rattle.st_object.specs.declared.items.Kind.{Kind}
 use Rattle.st_object.specs.declared.items.Kind.TheVariants as kinds
 use Rattle.st_object.proofs.WrittenLines.{draft_of, whole_lines}
@@ -56,9 +56,6 @@ leads_marked at item step true = one (at false) (at true) item step
 abbrev open_draft : ℕ → List ℕ → Asked → Draft
 open_draft h ws a = record { begun = true; start = Some h; words = ws; asked = a; ended = false }
 
-zero_is : (x : ℕ) → (x == 0) ≡ true → x ≡ 0
-zero_is x test = grind (arith, nat_tests)
-
 some_is : (n : ℕ) → 1 ≤ n → (n == 0) ≡ false
 some_is n some = grind (arith, nat_tests)
 
@@ -89,22 +86,18 @@ add_words h k w ws (x ∷ rest) place registers room each =
     let behind_each : All (λ y. y < 2 ^ 64) rest = λ i d within. each (suc i) d (omega arith) in
     cond_both (x == 0) _ _ (λ items. Adds h ws (ws ++ replicate k 0 ++ x ∷ rest) items)
     (λ none.
-    let later = add_words h (k + 1) (w + 1) ws rest (omega arith) behind_registers (omega arith) behind_each in
-    let same : ws ++ replicate (k + 1) 0 ++ rest ≡ ws ++ replicate k 0 ++ x ∷ rest = rw (zero_is x none, ← replicate_more {X = ℕ} k 0) (simp append_assoc) in
-    record { last = later.last; zeros = later.zeros; filled = later.filled ∙ same; steps = later.steps })
+    let same : ws ++ replicate (k + 1) 0 ++ rest ≡ ws ++ replicate k 0 ++ x ∷ rest =
+    rw (same_number x 0 none, ← replicate_more {X = ℕ} k 0) (simp append_assoc) in
+    rw same at (add_words h (k + 1) (w + 1) ws rest (omega arith) behind_registers (omega arith) behind_each))
     (λ some.
     let new : List ℕ = ws ++ replicate (w - length ws) 0 ++ x ∷ [] in
     let gap : w - length ws ≡ k = omega arith in
     let size : length new ≡ w + 1 = rw gap (simp (length-append, length-replicate) (omega arith)) in
-    let later = add_words h 0 (w + 1) new rest (omega arith) behind_registers (omega arith) behind_each in
     let same : new ++ [] ++ rest ≡ ws ++ replicate k 0 ++ x ∷ rest = rw gap (simp (append_assoc, append-nil)) in
+    let later = rw same at (add_words h 0 (w + 1) new rest (omega arith) behind_registers (omega arith) behind_each) in
     let fits = holds (length ws) w x (above w x (λ low. registers 0 (omega arith)) some) (omega arith) (omega arith) some storage in
-    record {
-      last = later.last;
-      zeros = later.zeros;
-      filled = later.filled ∙ same;
-      steps = (open_draft h new nothing_asked, rw fits, (omega arith, each 0 0 (omega arith)), later.steps);
-    })
+    let readable : IsItem (Word w x) = (omega arith, each 0 0 (omega arith)) in
+    record { last = later.last; zeros = later.zeros; filled = later.filled; steps = (open_draft h new nothing_asked, rw fits, readable, later.steps) })
 
 -- words up to the last that is not zero, filled up again
 filled_again : (last words : List ℕ) (zeros : ℕ) → last ++ replicate zeros 0 ≡ words → length words ≡ words_of_storage →
@@ -190,7 +183,7 @@ module _ (p : Program) (ws : List ℕ) where
     add_kind kinds.Back =
         let k : ℕ = p.controls.back in
         cond_both (k == 0) [] (Back k ∷ []) (λ items. Leads (draft_before 11) items (draft_before 12))
-        (λ none. ap (λ n. record (draft_before 11) { asked = record (asked_before 11) { back = n } }) (sym (zero_is k none)))
+        (λ none. ap (λ n. record (draft_before 11) { asked = record (asked_before 11) { back = n } }) (sym (same_number k 0 none)))
         (λ some. one (draft_before 11) (draft_before 12) (Back k)
         (rw (budget, delays, back-asked (asked_before 11) k refl (at_least k some) is.limits.back), omega (arith, is.limits.back)))
     add_kind kinds.Fin = one (draft_before 12) (draft_before 13) Fin (rw (budget, delays), tt)

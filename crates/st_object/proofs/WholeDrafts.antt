@@ -12,26 +12,17 @@ use Rattle.st_object.proofs.FurtherLines.{word_lines-append, word_lines-zeros}
 use Rattle.st_object.proofs.WrittenLines.{whole_lines}
 
 -- what a whole draft has
-record HasAll (d : Draft) : Type 0 where
-  begun : d.begun ≡ true
-  start : is_some d.start ≡ true
-  budget : not (d.asked.budget == 0) ≡ true
-  delays : not (is_empty d.asked.delays) ≡ true
-  ended : d.ended ≡ true
-
-has_all : (d : Draft) → is_whole d ≡ true → HasAll d
+has_all : (d : Draft) → is_whole d ≡ true →
+    (record d { begun = true; start = Some (unwrap_or d.start 0); ended = true } ≡ d) × ((1 ≤ d.asked.budget) × (1 ≤ length d.asked.delays))
 unfolding is_whole
-has_all d whole = grind arith
+has_all d whole = grind (arith, nat_tests)
 
 -- zeros behind words change no word that is zero
 zero_kept : (xs : List ℕ) (n k : ℕ) → get_or xs k 0 ≡ 0 → get_or (xs ++ replicate n 0) k 0 ≡ 0
 zero_kept xs n k zero_here = grind (arith, common_steps)
 
-start_small : (o : Option ℕ) → is_some o ≡ true → IfSome o (λ h. h < 2 ^ 19) → unwrap_or o 0 < 2 ^ 19
-start_small o some small = grind arith
-
-some_budget : (n : ℕ) → not (n == 0) ≡ true → 1 ≤ n
-some_budget n test = grind (arith, nat_tests)
+pub start_small : (o : Option ℕ) → IfSome o (λ h. h < 2 ^ 19) → unwrap_or o 0 < 2 ^ 19
+start_small o small = grind arith
 
 -- a whole draft is a program
 pub whole_program : (d : Draft) → IsDraft d → is_whole d ≡ true → IsProgram (program_of d)
@@ -41,10 +32,10 @@ whole_program d draft whole =
     record {
       whole = omega (arith, draft.few, length-append d.words (replicate zeros 0), length-replicate {A = ℕ} zeros 0);
       registers = λ w low. zero_kept d.words zeros w (draft.registers w low);
-      start = start_small d.start all.start draft.start;
+      start = start_small d.start draft.start;
       limits = draft.limits;
-      budget = some_budget d.asked.budget all.budget;
-      delays = some_budget (length d.asked.delays) all.delays;
+      budget = all.1.0;
+      delays = all.1.1;
       unlisted = draft.unlisted;
     }
 
@@ -58,10 +49,7 @@ whole_words d draft =
 filled_lines : (xs : List ℕ) → word_lines 0 (filled_up xs) ≡ word_lines 0 xs
 filled_lines xs = rw (word_lines-append 0 xs (replicate (words_of_storage - length xs) 0), word_lines-zeros, append-nil)
 
-nothing_lacks : (d : Draft) → HasAll d → record d { begun = true; start = Some (unwrap_or d.start 0); ended = true } ≡ d
-nothing_lacks d all = grind arith
-
 -- the lines of a whole draft are those of its program
 pub whole_lines_of : (d : Draft) → is_whole d ≡ true → object_lines (program_of d) ≡ lines_of d
 whole_lines_of d whole =
-    sym (whole_lines (program_of d)) ∙ rw (filled_lines d.words) (ap (λ (x : Draft). lines_of x) (nothing_lacks d (has_all d whole)))
+    sym (whole_lines (program_of d)) ∙ rw (filled_lines d.words) (ap (λ (x : Draft). lines_of x) (has_all d whole).0)

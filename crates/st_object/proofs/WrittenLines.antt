@@ -28,11 +28,12 @@ words_more old now new xs i x b within here test before further =
     written_further old now new (word_lines 0 (take i xs)) (marked b (Word i x)) (word_lines 0 (take (i + 1) xs)) before further
     (rw (take_more xs i 0 within, here, word_lines-append 0 (take i xs) (x ∷ []), size, one (x == 0), test))
 
--- the last lines, where there was memory for them
-pub written_last : {E : Type 0} (r : Result (Unit {0}) E) (old now new : List ℕ) (done next all : List Item) →
-    now ≡ old ++ text_of done → OnOk r (new ≡ now ++ text_of next) → all ≡ done ++ next → OnOk r (new ≡ old ++ text_of all)
-written_last (Ok x) old now new done next all before further whole = written_further old now new done next all before further whole
-written_last (Err e) old now new done next all before further whole = tt
+-- four parts one behind the other, where there was memory for the last
+pub written_all : {E : Type 0} (r : Result (Unit {0}) E) (old one two three new : List ℕ) (a b c d : List Item) → one ≡ old ++ text_of a →
+    two ≡ one ++ text_of b → three ≡ two ++ text_of c → OnOk r (new ≡ three ++ text_of d) → OnOk r (new ≡ old ++ text_of (a ++ b ++ c ++ d))
+written_all (Ok x) old one two three new a b c d first second third last =
+    rw (last, third, second, first, text_of-append (a ++ b ++ c) d, text_of-append (a ++ b) c, text_of-append a b) (simp append_assoc)
+written_all (Err e) old one two three new a b c d first second third last = tt
 
 regrouped : (w b d g m t i c n k f : List Item) → w ++ (b ++ (d ++ (g ++ (m ++ (t ++ (i ++ (c ++ (n ++ (k ++ f)))))))))
     ≡ w ++ (b ++ d ++ g ++ m) ++ (t ++ i ++ c ++ n ++ k) ++ f

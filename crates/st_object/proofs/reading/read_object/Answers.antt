@@ -1,4 +1,4 @@
-use Rattle.st_object.proofs.AnswerLemmas.{read_program, read_same, refused_first}
+use Rattle.st_object.proofs.BadLines.{read_program, read_same, refused_first}
 use Rattle.st_object.proofs.reading.read_object.Goals as goal
 
 pub returns-clause-program : goal.returns-clause-program
