@@ -152,14 +152,7 @@ read_on (line ∷ lines) d n rest draft orderly =
         line_before d e n line lines rest (lines ++ last_line rest) (read_from e (n + 1) (lines ++ rest ∷ [])) good (on e (is.kept draft) is.orderly)
 
 blank_draft : IsDraft blank
-blank_draft = record {
-  few = omega arith;
-  each = λ k d within. absurd (omega (arith, within));
-  registers = λ w low. refl;
-  start = tt;
-  limits = search (rules, arith);
-  unlisted = refl;
-}
+blank_draft = search (rules, arith)
 
 -- what reading a whole text leads to
 pub outcome : (text : List ℕ) (r : Result Program ℕ) → read_text text ≡ r → Outcome blank 1 (cut text).lines (cut text).rest (text_lines text) r

@@ -29,14 +29,11 @@ blank_orderly = refl
 
 none_orderly : (d : Draft) (kinds : List Kind) → none_stands (stands d) kinds ≡ true → orderly d kinds ≡ true
 none_orderly d [] none = refl
-none_orderly d (kind ∷ more) none =
-    let later = none_orderly d more (holds_both (not (stands d kind)) _ none).1 in
-    cond_both (is_met (stands d) kind) _ _ (λ b. b ≡ true) (λ met. later) (λ lacking. none)
+none_orderly d (kind ∷ more) none = grind (arith, none_orderly d more)
 
 met_orderly : (d : Draft) (xs ys : List Kind) → are_met (stands d) xs ≡ true → orderly d ys ≡ true → orderly d (xs ++ ys) ≡ true
 met_orderly d [] ys met later = later
-met_orderly d (kind ∷ xs) ys met later =
-    let tests = holds_both (is_met (stands d) kind) (are_met (stands d) xs) met in rw (tests.0) (met_orderly d xs ys tests.1 later)
+met_orderly d (kind ∷ xs) ys met later = grind (arith, met_orderly d xs ys)
 
 -- each line that is added keeps the order
 put_orderly : (kind : Kind) (d e : Draft) (item : Item) → IsPut kind d item e → IsOrderly e
@@ -95,10 +92,7 @@ completion_draft d draft =
 
 completion_whole : (d : Draft) → is_whole (completion d) ≡ true
 unfolding is_whole
-completion_whole d =
-    let budget : (n : ℕ) → not ((if n == 0 then 1 else n) == 0) ≡ true = λ n. grind (arith, nat_tests) in
-    let delays : (ds : List ℕ) → not (is_empty (if is_empty ds then 1 ∷ [] else ds)) ≡ true = λ ds. grind (arith, nat_tests) in
-    both_true _ _ (budget d.asked.budget) (both_true _ _ (delays d.asked.delays) refl)
+completion_whole d = grind (arith, nat_tests)
 
 -- lines that were read begin an object text
 pub begins : (d : Draft) (front : List ℕ) → IsDraft d → IsOrderly d → text_of (lines_of d) ≡ front → BeginsObjectText front

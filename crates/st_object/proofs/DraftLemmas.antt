@@ -17,22 +17,20 @@ use Rattle.st_card.proofs.LimitLemmas.{budget-kept, delays-kept, signal-kept, du
 use Rattle.st_object.specs.Draft.{Draft, IsDraft, may_hold, with_order, with_value, with_item}
 use Rattle.st_object.specs.declared.items.Item.{Item}
 use Rattle.st_object.specs.declared.items.Item.TheVariants.{Object, Start, Word, Budget, Delay, Signal, Dump, Trace, Time, Chart, Snap, Back, Fin}
-use Rattle.st_object.proofs.LineMeanings.{by_value, IsNarrow}
+use Rattle.st_object.proofs.LineMeanings.{IsNarrow}
 
 -- a word above the registers leaves them zero
 registers_kept : (xs : List ℕ) (n w x : ℕ) → length xs + n ≡ w → 32 ≤ w → ((k : ℕ) → k < 32 → get_or xs k 0 ≡ 0) →
     (k : ℕ) → k < 32 → get_or (xs ++ replicate n 0 ++ x ∷ []) k 0 ≡ 0
 registers_kept xs n w x whole above zero_below k low = grind (arith, common_steps)
 
+held : (next w x : ℕ) → may_hold next w x ≡ true → (32 ≤ w) × ((next ≤ w) × (w < words_of_storage))
+held next w x fits = grind (arith, nat_tests)
+
 kept_word : (d : Draft) (w x : ℕ) → IsDraft d → may_hold (length d.words) w x ≡ true → x < 2 ^ 64 →
     IsDraft (record d { words = d.words ++ replicate (w - length d.words) 0 ++ x ∷ [] })
 kept_word d w x draft fits small =
-    let tests = holds_both _ (not (x == 0)) fits in
-    let sizes = holds_both _ (nat_lt w words_of_storage) tests.0 in
-    let places = holds_both (nat_le 32 w) (nat_le (length d.words) w) sizes.0 in
-    let inside : w < words_of_storage = below w words_of_storage sizes.1 in
-    let above : 32 ≤ w = at_most 32 w places.0 in
-    let within : length d.words ≤ w = at_most (length d.words) w places.1 in
+    let places = held (length d.words) w x fits in
     let zeros : List ℕ = replicate (w - length d.words) 0 in
     let whole : length d.words + (w - length d.words) ≡ w = omega arith in
     let fit = λ (y : ℕ). y < 2 ^ 64 in
@@ -40,7 +38,7 @@ kept_word d w x draft fits small =
       few = omega (arith, length-append (d.words ++ zeros) (x ∷ []), length-append d.words zeros, length-replicate {A = ℕ} (w - length d.words) 0);
       each = All-append fit (d.words ++ zeros) (x ∷ []) (All-append fit d.words zeros draft.each (All-replicate fit (w - length d.words) 0 (lit< tt)))
           (All-replicate fit 1 x small);
-      registers = registers_kept d.words (w - length d.words) w x whole above draft.registers;
+      registers = registers_kept d.words (w - length d.words) w x whole places.0 draft.registers;
       start = draft.start;
       limits = draft.limits;
       unlisted = draft.unlisted;
@@ -55,24 +53,27 @@ unlisted keyword old new numbers other same = grind arith
 kept_asked : (d e : Draft) (place : Bool) (keyword : Keyword) (numbers : List ℕ) → (if place then with_order d keyword numbers else None) ≡ Some e →
     (keyword ≡ keywords.Listing → ⊥) →
     ((new : Asked) → with_keyword keyword d.asked numbers ≡ Some new → IsWithinLimits d.asked → IsWithinLimits new) → IsDraft d → IsDraft e
-kept_asked d e false keyword numbers same other limits draft = cc
-kept_asked d e true keyword numbers same other limits draft = go (with_keyword keyword d.asked numbers) refl same
-  where
-    go : (o : Option Asked) → with_keyword keyword d.asked numbers ≡ o → option_map (λ a. record d { asked = a }) o ≡ Some e → IsDraft e
-    go None found put = cc
-    go (Some new) found put =
-        let within = limits new found draft.limits in
-        let none : new.list ≡ false = sym (unlisted keyword d.asked new numbers other found) ∙ draft.unlisted in
-        let here : IsDraft (record d { asked = new }) = assumption in subst (λ x. IsDraft x) (same_Some _ e put) here
+kept_asked d e place keyword numbers same other limits draft =
+    let found : (o : Option Asked) → (if place then option_map (λ a. record d { asked = a }) o else None) ≡ Some e →
+    (a : Asked) × ((o ≡ Some a) × (record d { asked = a } ≡ e)) = λ o is. grind arith in
+    let new = found (with_keyword keyword d.asked numbers) same in
+    let within = limits new.0 new.1.0 draft.limits in
+    let none : new.0.list ≡ false = cc (unlisted keyword d.asked new.0 numbers other new.1.0) in
+    let here : IsDraft (record d { asked = new.0 }) = assumption in rw new.1.1 at here
+
+-- what is put in where a test passes
+by_value : (d e new : Draft) (place test : Bool) → (if place then (if test then Some new else None) else None) ≡ Some e →
+    (place ≡ true → test ≡ true → IsDraft new) → IsDraft e
+by_value d e new place test same holds = grind arith
 
 -- each line that is added keeps what holds of drafts
 pub kept : (d e : Draft) (item : Item) → with_item d item ≡ Some e → IsNarrow item → IsDraft d → IsDraft e
 unfolding with_value
-kept d e Object same narrow draft = by_value IsDraft d e _ true (record d { begun = true }) same (λ placed test. assumption)
-kept d e (Start h) same narrow draft = by_value IsDraft d e _ (nat_lt h (2 ^ 19)) (record d { start = Some h }) same
+kept d e Object same narrow draft = by_value d e (record d { begun = true }) _ true same (λ placed test. assumption)
+kept d e (Start h) same narrow draft = by_value d e (record d { start = Some h }) _ (nat_lt h (2 ^ 19)) same
     (λ placed fits. let small = below h (2 ^ 19) fits in assumption)
 kept d e (Word w x) same narrow draft =
-    by_value IsDraft d e _ (may_hold (length d.words) w x) (record d { words = d.words ++ replicate (w - length d.words) 0 ++ x ∷ [] }) same
+    by_value d e (record d { words = d.words ++ replicate (w - length d.words) 0 ++ x ∷ [] }) _ (may_hold (length d.words) w x) same
     (λ placed fits. kept_word d w x draft fits narrow)
 kept d e (Budget n) same narrow draft = kept_asked d e _ keywords.Budget (n ∷ []) same (λ no. cc) (λ a. budget-kept d.asked a (n ∷ [])) draft
 kept d e (Delay n) same narrow draft = kept_asked d e _ keywords.Delays (n ∷ []) same (λ no. cc) (λ a. delays-kept d.asked a (n ∷ [])) draft
@@ -87,4 +88,4 @@ kept d e (Snap t) same narrow draft =
     let short = AllPass-from_list_all is_tick (t ∷ []) (both_true (is_tick t) true tick refl) in
     kept_asked d e _ keywords.Snap (t ∷ []) same (λ no. cc) (λ a. snap-kept d.asked a (t ∷ []) short) draft
 kept d e (Back k) same narrow draft = kept_asked d e _ keywords.Back (k ∷ []) same (λ no. cc) (λ a. back-kept d.asked a (k ∷ [])) draft
-kept d e Fin same narrow draft = by_value IsDraft d e _ true (record d { ended = true }) same (λ placed test. assumption)
+kept d e Fin same narrow draft = by_value d e (record d { ended = true }) _ true same (λ placed test. assumption)

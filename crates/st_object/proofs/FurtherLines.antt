@@ -1,9 +1,10 @@
 -- A further line stands behind those that were read.
-use Rattle.std.proofs.Common.{◌≡◌, ◌≤◌, ◌+◌, ◌-◌, ◌^◌, ◌==◌, ◌&&◌, ◌||◌, ℕ, suc, zero, Bool, true, false, not, nat_lt, List, [], ◌∷◌, ◌++◌, length, map, replicate, Some, if◌then◌else◌, refl, ap, sym, ◌∙◌, append_assoc, append-nil, length-append, arith}
+use Rattle.std.proofs.Common.{◌≡◌, ◌≤◌, ◌+◌, ◌-◌, ◌^◌, ◌==◌, ◌&&◌, ◌||◌, ℕ, suc, zero, Bool, true, false, not, nat_lt, Option, List, [], ◌∷◌, ◌++◌, length, map, replicate, Some, None, if◌then◌else◌, refl, ap, sym, subst, ◌∙◌, append_assoc, append-nil, length-append, arith}
 use Rattle.std.proofs.lemmas.Bool.{and_parts as holds_both, leb-true as at_most, not-true as is_not}
 use Rattle.std.proofs.lemmas.List.{map-append, length-replicate}
 use Rattle.std.proofs.lemmas.List.Concat.{flat_map-append}
 use Rattle.std.proofs.lemmas.Bool.Decides.{nat_tests}
+use Rattle.std.proofs.lemmas.Grind.{common_steps}
 use Rattle.std.specs.List.{flat_map}
 use Rattle.st_card.specs.Controls.{is_in_range}
 use Rattle.st_card.specs.declared.control_cards.Signal.{Signal as GivenSignal}
@@ -14,7 +15,6 @@ use Rattle.st_object.specs.declared.items.Item.{Item}
 use Rattle.st_object.specs.declared.items.Item.TheVariants.{Object, Start, Word, Budget, Delay, Signal, Dump, Trace, Time, Chart, Snap, Back, Fin}
 use Rattle.st_object.specs.declared.items.Kind.{Kind}
 use Rattle.st_object.specs.declared.items.Kind.TheVariants as kinds
-use Rattle.st_object.proofs.LineMeanings.{by_value, by_order, by_mark}
 
 -- where no line of a kind was read, there is none
 none_of : {X : Type 0} (xs : List X) → (length xs == 0) ≡ true → xs ≡ []
@@ -26,8 +26,7 @@ no_lines d kind off = grind (arith, nat_tests, none_of)
 
 pub no_lines_of : (d : Draft) (kinds : List Kind) → none_stands (stands d) kinds ≡ true → flat_map (λ kind. kind_lines d kind) kinds ≡ []
 no_lines_of d [] off = refl
-no_lines_of d (kind ∷ more) off =
-    let tests = holds_both (not (stands d kind)) (none_stands (stands d) more) off in rw (no_lines d kind tests.0, no_lines_of d more tests.1)
+no_lines_of d (kind ∷ more) off = grind (arith, no_lines d, no_lines_of d more)
 
 -- the order, cut at a kind
 pub cut : (kind : Kind) → before kind ++ kind ∷ behind kind ≡ order
@@ -51,29 +50,6 @@ place_parts met repeats here none placed = grind arith
 abbrev beside : Draft → Kind → List Item × (Bool × Bool)
 beside d kind = (flat_map (λ k. kind_lines d k) (before kind), (are_met (stands d) (before kind), none_stands (stands d) (behind kind)))
 
--- where it has its place, and only its kind changes
-put : (kind : Kind) (d e : Draft) (item : Item) → has_place d kind ≡ true → beside e kind ≡ beside d kind →
-    kind_lines e kind ≡ kind_lines d kind ++ item ∷ [] → stands e kind ≡ true → IsPut kind d item e
-unfolding has_place
-put kind d e item placed same here there =
-    let parts = place_parts (are_met (stands d) (before kind)) (row kind).repeats (stands d kind) _ placed in
-    record {
-      front = ap (λ t. t.0) same;
-      here = here;
-      there = there;
-      met = ap (λ t. t.1.0) same ∙ parts.0;
-      none_then = parts.1.0;
-      none_now = ap (λ t. t.1.1) same ∙ parts.1.0;
-    }
-
--- the only line of its kind
-put_once : (kind : Kind) (d e : Draft) (item : Item) → (row kind).repeats ≡ false → has_place d kind ≡ true → beside e kind ≡ beside d kind →
-    kind_lines e kind ≡ item ∷ [] → stands e kind ≡ true → IsPut kind d item e
-unfolding has_place
-put_once kind d e item once placed same here there =
-    let parts = place_parts (are_met (stands d) (before kind)) (row kind).repeats (stands d kind) _ placed in
-    put kind d e item placed same (here ∙ ap (λ (s : List Item). s ++ item ∷ []) (sym (no_lines d kind (parts.1.1 once)))) there
-
 -- lines up to a kind behind which nothing stands
 lines_up_to : (kind : Kind) (d : Draft) → none_stands (stands d) (behind kind) ≡ true →
     lines_of d ≡ flat_map (λ k. kind_lines d k) (before kind) ++ kind_lines d kind
@@ -89,9 +65,6 @@ put_last kind d e item is =
     lines_up_to kind e is.none_now
     ∙ rw (is.front, is.here, ← append_assoc (flat_map (λ k. kind_lines d k) (before kind)) (kind_lines d kind) (item ∷ []))
     (ap (λ (s : List Item). s ++ item ∷ []) (sym (lines_up_to kind d is.none_then)))
-
-counted : (n most : ℕ) (item : Item) → is_in_range 1 most n ≡ true → ((if n == 0 then [] else item ∷ []) ≡ item ∷ []) × (not (n == 0) ≡ true)
-counted n most item test = grind (arith, nat_tests)
 
 -- a further one
 mapped_more : {X : Type 0} (f : X → Item) (xs : List X) (x : X) → Grows (map f xs) (map f (xs ++ x ∷ [])) (f x)
@@ -114,52 +87,58 @@ word_lines-zeros w (suc n) = word_lines-zeros (w + 1) n
 -- a word behind zeros
 word_more : (xs : List ℕ) (w x : ℕ) → length xs ≤ w → (x == 0) ≡ false →
     Grows (word_lines 0 xs) (word_lines 0 (xs ++ replicate (w - length xs) 0 ++ x ∷ [])) (Word w x)
-word_more xs w x within some =
-    let zeros = replicate (w - length xs) 0 in
-    let place : 0 + length (xs ++ zeros) ≡ w = omega (arith, length-append xs zeros, length-replicate {A = ℕ} (w - length xs) 0) in
-    rw (word_lines-append 0 (xs ++ zeros) (x ∷ []), place, some, word_lines-append 0 xs zeros, word_lines-zeros, append-nil)
+word_more xs w x within some = grind (arith, common_steps, word_lines-append, word_lines-zeros)
+
+-- what a line leaves of a draft, where it says what may be said
+abbrev said : Draft → Item → Draft
+said d Object = record d { begun = true }
+said d (Start h) = record d { start = Some h }
+said d (Word w x) = record d { words = d.words ++ replicate (w - length d.words) 0 ++ x ∷ [] }
+said d (Budget n) = record d { asked = record d.asked { budget = n } }
+said d (Delay n) = record d { asked = record d.asked { delays = d.asked.delays ++ n ∷ [] } }
+said d (Signal c i) = record d { asked = record d.asked { signals = d.asked.signals ++ record { count = c; indicator = i } ∷ [] } }
+said d (Dump f t) = record d { asked = record d.asked { dumps = d.asked.dumps ++ (f, t) ∷ [] } }
+said d Trace = record d { asked = record d.asked { trace = true } }
+said d Time = record d { asked = record d.asked { time = true } }
+said d Chart = record d { asked = record d.asked { chart = true } }
+said d (Snap t) = record d { asked = record d.asked { snaps = d.asked.snaps ++ t ∷ [] } }
+said d (Back k) = record d { asked = record d.asked { back = k } }
+said d Fin = record d { ended = true }
+
+-- what is put in is that
+value_said : (d e : Draft) (item : Item) → with_value d item ≡ Some e → said d item ≡ e
+unfolding with_value
+value_said d e item same = grind arith
+
+-- it changes the lines of its kind alone, and is the last of them
+beside_said : (d : Draft) (item : Item) → beside (said d item) (kind_of item) ≡ beside d (kind_of item)
+beside_said d item = grind arith
+
+abbrev IsLast : Draft → Item → Type 0
+IsLast d item = (Grows (kind_lines d (kind_of item)) (kind_lines (said d item) (kind_of item)) item) × (stands (said d item) (kind_of item) ≡ true)
+
+said_last : (d e : Draft) (item : Item) → with_value d item ≡ Some e → ((row (kind_of item)).repeats ≡ false → kind_lines d (kind_of item) ≡ []) → IsLast d item
+unfolding with_value
+said_last d e item same first = grind (arith, nat_tests, word_more, filled_more, mapped_more)
 
 -- each line that is added is put in
 pub added : (d e : Draft) (item : Item) → with_item d item ≡ Some e → IsPut (kind_of item) d item e
-unfolding with_value
-added d e Object same = by_value (λ x. IsPut kinds.Object d Object x) d e _ true (record d { begun = true }) same
-    (λ placed test. put_once kinds.Object d _ Object refl placed refl refl refl)
-added d e (Start h) same = by_value (λ x. IsPut kinds.Start d (Start h) x) d e _ (nat_lt h (2 ^ 19)) (record d { start = Some h }) same
-    (λ placed small. put_once kinds.Start d _ (Start h) refl placed refl refl refl)
-added d e (Word w x) same =
-    let zeros : List ℕ = replicate (w - length d.words) 0 in
-    by_value (λ y. IsPut kinds.Word d (Word w x) y) d e _ (may_hold (length d.words) w x) (record d { words = d.words ++ zeros ++ x ∷ [] }) same
-    (λ placed fits.
-    let tests = holds_both _ (not (x == 0)) fits in
-    let places = holds_both _ _ (holds_both _ _ tests.0).0 in
-    put kinds.Word d _ (Word w x) placed refl (word_more d.words w x (at_most (length d.words) w places.1) (is_not (x == 0) tests.1))
-    (filled_more (d.words ++ zeros) x))
-added d e (Budget n) same = by_order (λ x. IsPut kinds.Budget d (Budget n) x) d e _ _ (record d.asked { budget = n }) same
-    (λ placed fits. let some = counted n 10000000 (Budget n) (holds_both (d.asked.budget == 0) _ fits).1 in
-    put_once kinds.Budget d _ (Budget n) refl placed refl some.0 some.1)
-added d e (Delay n) same = by_order (λ x. IsPut kinds.Delay d (Delay n) x) d e _ _ (record d.asked { delays = d.asked.delays ++ n ∷ [] }) same
-    (λ placed fits. put kinds.Delay d _ (Delay n) placed refl (mapped_more (λ k. Delay k) d.asked.delays n) (filled_more d.asked.delays n))
-added d e (Signal c i) same =
-    let signal : GivenSignal = record { count = c; indicator = i } in
-    by_order (λ x. IsPut kinds.Signal d (Signal c i) x) d e _ _ (record d.asked { signals = d.asked.signals ++ signal ∷ [] }) same
-    (λ placed fits. put kinds.Signal d _ (Signal c i) placed refl
-    (mapped_more (λ (s : GivenSignal). Signal s.count s.indicator) d.asked.signals signal) (filled_more d.asked.signals signal))
-added d e (Dump f t) same = by_order (λ x. IsPut kinds.Dump d (Dump f t) x) d e _ _ (record d.asked { dumps = d.asked.dumps ++ (f, t) ∷ [] }) same
-    (λ placed fits. put kinds.Dump d _ (Dump f t) placed refl
-    (mapped_more (λ (p : ℕ × ℕ). Dump p.0 p.1) d.asked.dumps (f, t)) (filled_more d.asked.dumps (f, t)))
-added d e Trace same = by_mark (λ x. IsPut kinds.Trace d Trace x) d e _ _ (record d.asked { trace = true }) same
-    (λ placed. put_once kinds.Trace d _ Trace refl placed refl refl refl)
-added d e Time same = by_mark (λ x. IsPut kinds.Time d Time x) d e _ _ (record d.asked { time = true }) same
-    (λ placed. put_once kinds.Time d _ Time refl placed refl refl refl)
-added d e Chart same = by_mark (λ x. IsPut kinds.Chart d Chart x) d e _ _ (record d.asked { chart = true }) same
-    (λ placed. put_once kinds.Chart d _ Chart refl placed refl refl refl)
-added d e (Snap t) same = by_order (λ x. IsPut kinds.Snap d (Snap t) x) d e _ _ (record d.asked { snaps = d.asked.snaps ++ t ∷ [] }) same
-    (λ placed fits. put kinds.Snap d _ (Snap t) placed refl (mapped_more (λ (k : ℕ). Snap k) d.asked.snaps t) (filled_more d.asked.snaps t))
-added d e (Back k) same = by_order (λ x. IsPut kinds.Back d (Back k) x) d e _ _ (record d.asked { back = k }) same
-    (λ placed fits. let some = counted k 64 (Back k) (holds_both (d.asked.back == 0) _ fits).1 in
-    put_once kinds.Back d _ (Back k) refl placed refl some.0 some.1)
-added d e Fin same = by_value (λ x. IsPut kinds.Fin d Fin x) d e _ true (record d { ended = true }) same
-    (λ placed test. put_once kinds.Fin d _ Fin refl placed refl refl refl)
+unfolding has_place
+added d e item same =
+    let kind : Kind = kind_of item in
+    let given : (b : Bool) (o : Option Draft) → (if b then o else None) ≡ Some e → (b ≡ true) × (o ≡ Some e) = λ b o is. grind arith in
+    let parts = given (has_place d kind) (with_value d item) same in
+    let places = place_parts (are_met (stands d) (before kind)) (row kind).repeats (stands d kind) _ parts.0 in
+    let last = said_last d e item parts.1 (λ once. no_lines d kind (places.1.1 once)) in
+    let beside : beside (said d item) kind ≡ beside d kind = beside_said d item in
+    subst (λ (x : Draft). IsPut kind d item x) (value_said d e item parts.1) record {
+      front = ap (λ t. t.0) beside;
+      here = last.0;
+      there = last.1;
+      met = ap (λ t. t.1.0) beside ∙ places.0;
+      none_then = places.1.0;
+      none_now = ap (λ t. t.1.1) beside ∙ places.1.0;
+    }
 
 -- each line that is added stands behind those that were read
 pub grown : (d e : Draft) (item : Item) → with_item d item ≡ Some e → Grows (lines_of d) (lines_of e) item

@@ -12,23 +12,6 @@ use Rattle.st_object.specs.declared.items.Item.{Item}
 use Rattle.st_object.specs.declared.items.Item.TheVariants.{Word, Snap}
 use Rattle.st_object.specs.declared.items.Kind.{Kind}
 
--- what holds of a draft with what a line says holds of the draft that the line leads to: where a test passes, where it passes for what is
--- asked for, and where a mark was not set
-module _ (P : Draft → Type 0) (d e : Draft) (place : Bool) where
-  pub by_value : (test : Bool) (new : Draft) → (if place then (if test then Some new else None) else None) ≡ Some e →
-      (place ≡ true → test ≡ true → P new) → P e
-  by_value test new same holds = grind arith
-
-  pub by_order : (test : Bool) (new : Asked) →
-      (if place then option_map (λ a. record d { asked = a }) (if test then Some new else None) else None) ≡ Some e →
-      (place ≡ true → test ≡ true → P (record d { asked = new })) → P e
-  by_order test new same holds = grind arith
-
-  pub by_mark : (mark : Bool) (new : Asked) →
-      (if place then option_map (λ a. record d { asked = a }) (if mark then None else Some new) else None) ≡ Some e →
-      (place ≡ true → P (record d { asked = new })) → P e
-  by_mark mark new same holds = grind arith
-
 -- what the rest of a program needs of an item: a word has 64 bits, and a tick 12 digits
 abbrev pub IsNarrow : Item → Type 0
 IsNarrow (Word w x) = x < 2 ^ 64

@@ -6,15 +6,10 @@ use Rattle.std.specs.Borrow.{Bor}
 use Rattle.st_text.specs.Pieces.{lacks}
 use Rattle.st_object.specs.Meaning.{parts_at}
 
--- a first byte that is another, and a rest that lacks the byte
-pub other_first : (a b : Bool) → (not a && b) ≡ true → (a ≡ false) × (b ≡ true)
-other_first a b lacking = grind arith
-
 -- a text around the byte
 pub parts_around : (at : ℕ) (front back : List ℕ) → lacks at front ≡ true → parts_at at (front ++ at ∷ back) ≡ Some (front, back)
 parts_around at [] back lacking = rw (eq-eqb at at refl)
-parts_around at (c ∷ cs) back lacking =
-    let tests = other_first (c == at) (lacks at cs) lacking in rw (tests.0, parts_around at cs back tests.1)
+parts_around at (c ∷ cs) back lacking = grind (arith, parts_around at cs back)
 
 -- a text without the byte
 pub parts_none : (at : ℕ) (text : List ℕ) → lacks at text ≡ true → parts_at at text ≡ None

@@ -3,6 +3,7 @@ use Rattle.std.proofs.Common.{◌≡◌, ◌≤◌, ◌<◌, ◌+◌, ◌-◌, �
 use Rattle.std.proofs.lemmas.Bool.{cond_both, eqb-true as same_number, lt-ltb as below}
 use Rattle.std.specs.List.{All, flat_map}
 use Rattle.std.proofs.lemmas.Bool.Decides.{nat_tests}
+use Rattle.std.proofs.lemmas.Grind.{common_steps}
 use Rattle.std.proofs.lemmas.List.{length-replicate, replicate_more}
 use Rattle.st_bits.specs.Storage.{words_of_storage, words_of_storage_is}
 use Rattle.st_card.specs.Controls.{Asked, nothing_asked}
@@ -100,12 +101,9 @@ add_words h k w ws (x ∷ rest) place registers room each =
     record { last = later.last; zeros = later.zeros; filled = later.filled; steps = (open_draft h new nothing_asked, rw fits, readable, later.steps) })
 
 -- words up to the last that is not zero, filled up again
-filled_again : (last words : List ℕ) (zeros : ℕ) → last ++ replicate zeros 0 ≡ words → length words ≡ words_of_storage →
+filled_again : (last words : List ℕ) (count : ℕ) → last ++ replicate count 0 ≡ words → length words ≡ words_of_storage →
     filled_up last ≡ words
-filled_again last words zeros whole size =
-    let count : words_of_storage - length last ≡ zeros =
-    omega (arith, size, ap (λ (s : List ℕ). length s) whole, length-append last (replicate zeros 0), length-replicate {A = ℕ} zeros 0) in
-    ap (λ n. last ++ replicate n 0) count ∙ whole
+filled_again last words count whole size = grind (arith, common_steps)
 
 -- kinds that stand one behind the other from a place on
 abbrev AreNext : ℕ → List Kind → Type 0

@@ -1,6 +1,6 @@
 -- The object text of a program is read as that program.
 use Rattle.std.proofs.Common.{◌≡◌, ◌+◌, ◌*◌, ◌/◌, ◌%◌, ◌==◌, ℕ, true, not, List, [], ◌∷◌, ◌++◌, map, decimal, Some, Ok, refl, ap, append_assoc, arith}
-use Rattle.std.proofs.lemmas.List.Folds.{list_all-append}
+use Rattle.std.proofs.lemmas.Grind.{common_steps}
 use Rattle.st_text.specs.Pieces.{parted, lacks}
 use Rattle.st_object.specs.Lines.{spelled, text_of}
 use Rattle.st_object.specs.Draft.{Draft, blank, with_item, is_whole}
@@ -8,7 +8,6 @@ use Rattle.st_object.specs.Meaning.{IsShort, IsItem}
 use Rattle.st_object.specs.Object.{Program, IsProgram, AreWords, object_lines, object_text, program_of, with_line, read_from, read_text}
 use Rattle.st_object.specs.declared.items.Item.{Item}
 use Rattle.st_object.specs.declared.items.Item.TheVariants.{Object, Start, Word, Budget, Delay, Signal, Dump, Trace, Time, Chart, Snap, Back, Fin}
-use Rattle.st_object.proofs.Parts.{other_first}
 use Rattle.st_object.proofs.Spellings.{short_small, lacks-decimal, lacks-hex, spelled_again}
 use Rattle.st_object.proofs.LineByLine.{read_step}
 use Rattle.st_object.proofs.ProgramLines.{Leads, made_again}
@@ -18,9 +17,7 @@ lacks_number : (n : ℕ) → IsShort n → lacks 10 (decimal n) ≡ true
 lacks_number n short = lacks-decimal 10 n (omega arith) (short_small n short)
 
 lacks_behind : (n c : ℕ) (back : List ℕ) → IsShort n → not (c == 10) ≡ true → lacks 10 back ≡ true → lacks 10 (decimal n ++ c ∷ [] ++ back) ≡ true
-lacks_behind n c back short other lacking =
-    rw (list_all-append (λ x. not (x == 10)) (decimal n ++ c ∷ []) back, list_all-append (λ x. not (x == 10)) (decimal n) (c ∷ []), lacks_number n short, other)
-    lacking
+lacks_behind n c back short other lacking = grind (arith, common_steps, lacks_number)
 
 -- no line end stands in a line
 lacks-spelled : (item : Item) → IsItem item → lacks 10 (spelled item) ≡ true
@@ -42,8 +39,7 @@ lacks-spelled Fin short = refl
 -- the first line of a text
 pub parted_line : (line rest : List ℕ) → lacks 10 line ≡ true → parted 10 (line ++ 10 ∷ rest) ≡ line ∷ parted 10 rest
 parted_line [] rest lacking = refl
-parted_line (c ∷ cs) rest lacking =
-    let tests = other_first (c == 10) (lacks 10 cs) lacking in rw (tests.0, parted_line cs rest tests.1)
+parted_line (c ∷ cs) rest lacking = grind (arith, parted_line cs rest)
 
 -- the lines of a text that lines were written to
 pub parted-text_of : (items : List Item) (d e : Draft) → Leads d items e → parted 10 (text_of items) ≡ map spelled items ++ [] ∷ []
@@ -54,7 +50,7 @@ parted-text_of (item ∷ more) d e leads =
 
 -- a line that may follow is read
 pub with_spelled : (d e : Draft) (item : Item) → with_item d item ≡ Some e → IsItem item → with_line d (spelled item) ≡ Some e
-with_spelled d e item added readable = rw (spelled_again item readable) added
+with_spelled d e item added readable = cc (spelled_again item readable)
 
 read_lines : (items : List Item) (d e : Draft) (n : ℕ) → Leads d items e → is_whole e ≡ true →
     read_from d n (map spelled items ++ [] ∷ []) ≡ Ok (program_of e)

@@ -5,6 +5,7 @@ use Rattle.std.specs.Char.{is_ascii_digit}
 use Rattle.std.specs.List.{list_all}
 use Rattle.std.specs.Cmp.Lexicographic.{other_text}
 use Rattle.std.proofs.lemmas.Bool.Decides.{nat_tests}
+use Rattle.std.proofs.lemmas.Grind.{common_steps}
 use Rattle.std.proofs.lemmas.Str.Parse.{IsNumeralModel, numerals_by_fold}
 use Rattle.std.proofs.lemmas.Fmt.{digits_decimal, digits_value-decimal, decimal_nonempty}
 use Rattle.std.proofs.lemmas.List.Folds.{list_all-append}
@@ -41,21 +42,15 @@ digit_not at c low digit = grind (arith, nat_tests)
 
 lacks_digits : (at : ℕ) (cs : List ℕ) → at < 48 → list_all is_ascii_digit cs ≡ true → lacks at cs ≡ true
 lacks_digits at [] low digits = refl
-lacks_digits at (c ∷ cs) low digits =
-    let tests = holds_both (is_ascii_digit c) (list_all is_ascii_digit cs) digits in
-    and_true _ _ (digit_not at c low tests.0) (lacks_digits at cs low tests.1)
+lacks_digits at (c ∷ cs) low digits = grind (arith, lacks_digits at cs, digit_not)
 
 pub lacks-decimal : (at n : ℕ) → at < 48 → n < 2 ^ 64 → lacks at (decimal n) ≡ true
 lacks-decimal at n low small = lacks_digits at (decimal n) low (digits_decimal own n small)
 
-hex_not : (at d : ℕ) → at < 48 → not (hex_digit d == at) ≡ true
-hex_not at d low = grind (arith, nat_tests)
-
 pub lacks-hex : (at k x : ℕ) → at < 48 → lacks at (hex_text k x) ≡ true
 unfolding hex_text
 lacks-hex at zero x low = refl
-lacks-hex at (suc k) x low =
-    rw (list_all-append (λ c. not (c == at)) (hex_text k (x / 16)) (hex_digit (x % 16) ∷ []), lacks-hex at k (x / 16) low, hex_not at (x % 16) low)
+lacks-hex at (suc k) x low = grind (arith, nat_tests, lacks-hex at k (x / 16), list_all-append)
 
 -- a hexadecimal digit is read from its character
 digit_again : (d : ℕ) → d < 16 → hex_digit_in (hex_digit d) ≡ d
@@ -87,14 +82,11 @@ read_again : (item : Item) → item_loosely (parts_at 32 (spelled item)) (spelle
 read_again item meaning = rw (meaning, is_same-refl (spelled item))
 
 both_numbers : (at a b : ℕ) → at < 48 → IsShort a → IsShort b → two_numbers at (decimal a ++ at ∷ [] ++ decimal b) ≡ Some (a, b)
-both_numbers at a b low short_a short_b =
-    let cut = parts_around at (decimal a) (decimal b) (lacks-decimal at a low (short_small a short_a)) in
-    rw (append_assoc (decimal a) (at ∷ []) (decimal b), cut, short_number-decimal a short_a, short_number-decimal b short_b)
+both_numbers at a b low short_a short_b = grind (arith, common_steps, parts_around, lacks-decimal, short_small, short_number-decimal)
 
 word_again : (w x : ℕ) → IsShort w → x < 2 ^ 64 → word_in (decimal w ++ 32 ∷ [] ++ hex_word x) ≡ Some (Word w x)
 word_again w x short small =
-    let cut = parts_around 32 (decimal w) (hex_word x) (lacks-decimal 32 w (omega arith) (short_small w short)) in
-    rw (append_assoc (decimal w) (32 ∷ []) (hex_word x), cut, short_number-decimal w short, hex_after-hex_text 16 x (omega arith) small)
+    let whole = hex_after-hex_text 16 x (omega arith) small in grind (arith, common_steps, parts_around, lacks-decimal, short_small, short_number-decimal)
 
 start_again : (h : ℕ) → IsShort (h / 2) → item_behind kinds.Start (half_address h) ≡ Some (Start h)
 start_again h short =

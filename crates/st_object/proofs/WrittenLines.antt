@@ -1,6 +1,7 @@
 -- What is written line by line.
 use Rattle.std.proofs.Common.{◌≡◌, ◌<◌, ◌+◌, ◌==◌, ℕ, Bool, true, not, List, [], ◌∷◌, ◌++◌, length, map, take, get_or, Result, Ok, Err, OnOk, if◌then◌else◌, refl, ap, append_assoc, arith, Some}
 use Rattle.std.proofs.lemmas.List.{take_more, length-take-le}
+use Rattle.std.proofs.lemmas.Grind.{common_steps}
 use Rattle.std.proofs.lemmas.List.Concat.{flat_map-append}
 use Rattle.st_text.specs.Bytes.{lf}
 use Rattle.st_object.specs.Lines.{spelled, text_of, marked, word_lines, budget_lines, back_lines}
@@ -13,20 +14,16 @@ use Rattle.st_object.proofs.FurtherLines.{word_lines-append}
 pub text_of-append : (xs ys : List Item) → text_of (xs ++ ys) ≡ text_of xs ++ text_of ys
 text_of-append xs ys = flat_map-append (λ i. spelled i ++ lf) xs ys
 
--- lines behind those that are written
-pub written_further : (old now new : List ℕ) (done next all : List Item) → now ≡ old ++ text_of done → new ≡ now ++ text_of next →
-    all ≡ done ++ next → new ≡ old ++ text_of all
-written_further old now new done next all before then_written whole = rw (then_written, before, whole, text_of-append done next, append_assoc)
-
 -- the line of a further word, where it is not zero
+word_taken : (xs : List ℕ) (i x : ℕ) (b : Bool) → i < length xs → get_or xs i 0 ≡ x → b ≡ not (x == 0) →
+    word_lines 0 (take (i + 1) xs) ≡ word_lines 0 (take i xs) ++ marked b (Word i x)
+word_taken xs i x b within here test = grind (arith, common_steps, word_lines-append)
+
 pub words_more : (old now new : List ℕ) (xs : List ℕ) (i x : ℕ) (b : Bool) → i < length xs → get_or xs i 0 ≡ x →
     b ≡ not (x == 0) → now ≡ old ++ text_of (word_lines 0 (take i xs)) → new ≡ now ++ text_of (marked b (Word i x)) →
     new ≡ old ++ text_of (word_lines 0 (take (i + 1) xs))
 words_more old now new xs i x b within here test before further =
-    let size : 0 + length (take i xs) ≡ i = omega (arith, length-take-le i xs (omega arith)) in
-    let one : (v : Bool) → (if v then [] else Word i x ∷ []) ≡ marked (not v) (Word i x) = λ v. grind arith in
-    written_further old now new (word_lines 0 (take i xs)) (marked b (Word i x)) (word_lines 0 (take (i + 1) xs)) before further
-    (rw (take_more xs i 0 within, here, word_lines-append 0 (take i xs) (x ∷ []), size, one (x == 0), test))
+    rw (further, before, word_taken xs i x b within here test, text_of-append (word_lines 0 (take i xs)) (marked b (Word i x)), append_assoc)
 
 -- four parts one behind the other, where there was memory for the last
 pub written_all : {E : Type 0} (r : Result (Unit {0}) E) (old one two three new : List ℕ) (a b c d : List Item) → one ≡ old ++ text_of a →
