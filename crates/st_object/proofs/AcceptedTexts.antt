@@ -71,12 +71,8 @@ no_line_on d draft orderly = record { last = d; draft = draft; orderly = orderly
 abbrev line_on : (d e : Draft) (line : List ℕ) (front : List (List ℕ)) → IsGood d e line → ReadsOn e front → ReadsOn d (line ∷ front)
 line_on d e line front good on =
     let regrouped : (a l b : List ℕ) → (a ++ l ++ 10 ∷ []) ++ b ≡ a ++ ((l ++ 10 ∷ []) ++ b) = λ a l b. simp append_assoc in
-    record {
-      last = on.last;
-      draft = on.draft;
-      orderly = on.orderly;
-      before = on.before ∙ (ap (λ (s : List ℕ). s ++ closed front) good.behind ∙ regrouped (text_of (lines_of d)) line (closed front));
-    }
+    let before = on.before ∙ (ap (λ (s : List ℕ). s ++ closed front) good.behind ∙ regrouped (text_of (lines_of d)) line (closed front)) in
+    record { last = on.last; draft = on.draft; orderly = on.orderly; before = before }
 
 -- lines that are read as a program
 pub record Accepts (d : Draft) (lines : List (List ℕ)) (rest : List ℕ) (p : Program) : Type 0 where
@@ -102,13 +98,9 @@ bad_at_once d n line more draft orderly bad =
     record { good = 0; counted = omega arith; within = omega arith; on = no_line_on d draft orderly; bad = λ inside next rest. rw bad }
 
 bad_at_end : (d : Draft) (n : ℕ) → IsDraft d → IsOrderly d → Refuses d n [] n
-bad_at_end d n draft orderly = record {
-  good = 0;
-  counted = omega arith;
-  within = omega arith;
-  on = no_line_on d draft orderly;
-  bad = λ inside. let no : ⊥ = omega (arith, inside) in absurd no;
-}
+bad_at_end d n draft orderly =
+    let none : 0 < 0 → ⊥ = λ inside. omega arith in
+    record { good = 0; counted = omega arith; within = omega arith; on = no_line_on d draft orderly; bad = λ inside. absurd (none inside) }
 
 -- a good line before the others
 line_before : (d e : Draft) (n : ℕ) (line : List ℕ) (lines : List (List ℕ)) (rest : List ℕ) (all : List (List ℕ)) (r : Result Program ℕ) →

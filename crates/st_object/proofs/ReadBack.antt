@@ -22,19 +22,7 @@ lacks_behind n c back short other lacking = grind (arith, common_steps, lacks_nu
 -- no line end stands in a line
 lacks-spelled : (item : Item) → IsItem item → lacks 10 (spelled item) ≡ true
 unfolding spelled
-lacks-spelled Object short = refl
-lacks-spelled (Start h) short = lacks_behind (h / 2) 46 _ short refl (lacks_number (32 * (h % 2)) (omega arith))
-lacks-spelled (Word w x) short = lacks_behind w 32 _ short.0 refl (lacks-hex 10 16 x (omega arith))
-lacks-spelled (Budget n) short = lacks_number n short
-lacks-spelled (Delay n) short = lacks_number n short
-lacks-spelled (Signal c i) short = lacks_behind c 32 _ short.0 refl (lacks_number i short.1)
-lacks-spelled (Dump f t) short = lacks_behind f 32 _ short.0 refl (lacks_number t short.1)
-lacks-spelled Trace short = refl
-lacks-spelled Time short = refl
-lacks-spelled Chart short = refl
-lacks-spelled (Snap t) short = lacks_number t short
-lacks-spelled (Back k) short = lacks_number k short
-lacks-spelled Fin short = refl
+lacks-spelled item short = grind (arith, lacks_number, lacks_behind, lacks-hex)
 
 -- the first line of a text
 pub parted_line : (line rest : List ℕ) → lacks 10 line ≡ true → parted 10 (line ++ 10 ∷ rest) ≡ line ∷ parted 10 rest

@@ -77,10 +77,6 @@ hex_after-hex_text (suc k) x room small =
 is_same-refl : (s : List ℕ) → is_same s s ≡ true
 is_same-refl s = grind (arith, other_text)
 
--- what a line means, where it is spelled so
-read_again : (item : Item) → item_loosely (parts_at 32 (spelled item)) (spelled item) ≡ Some item → item_in (spelled item) ≡ Some item
-read_again item meaning = rw (meaning, is_same-refl (spelled item))
-
 both_numbers : (at a b : ℕ) → at < 48 → IsShort a → IsShort b → two_numbers at (decimal a ++ at ∷ [] ++ decimal b) ≡ Some (a, b)
 both_numbers at a b low short_a short_b = grind (arith, common_steps, parts_around, lacks-decimal, short_small, short_number-decimal)
 
@@ -93,19 +89,11 @@ start_again h short =
     let same : 2 * (h / 2) + 32 * (h % 2) / 32 ≡ h = omega arith in
     rw (both_numbers 46 (h / 2) (32 * (h % 2)) (omega arith) short (omega arith), same)
 
+-- what a line means, where it is spelled so
+loosely_again : (item : Item) → IsItem item → item_loosely (parts_at 32 (spelled item)) (spelled item) ≡ Some item
+unfolding spelled
+loosely_again item short = grind (arith, short_number-decimal, both_numbers, word_again, start_again)
+
 -- each line is read as the item that it spells
 pub spelled_again : (item : Item) → IsItem item → item_in (spelled item) ≡ Some item
-unfolding spelled
-spelled_again Object short = read_again Object refl
-spelled_again (Start h) short = read_again (Start h) (start_again h short)
-spelled_again (Word w x) short = read_again (Word w x) (word_again w x short.0 short.1)
-spelled_again (Budget n) short = read_again (Budget n) (rw (short_number-decimal n short))
-spelled_again (Delay n) short = read_again (Delay n) (rw (short_number-decimal n short))
-spelled_again (Signal c i) short = read_again (Signal c i) (rw (both_numbers 32 c i (omega arith) short.0 short.1))
-spelled_again (Dump f t) short = read_again (Dump f t) (rw (both_numbers 32 f t (omega arith) short.0 short.1))
-spelled_again Trace short = read_again Trace refl
-spelled_again Time short = read_again Time refl
-spelled_again Chart short = read_again Chart refl
-spelled_again (Snap t) short = read_again (Snap t) (rw (short_number-decimal t short))
-spelled_again (Back k) short = read_again (Back k) (rw (short_number-decimal k short))
-spelled_again Fin short = read_again Fin refl
+spelled_again item short = rw (loosely_again item short, is_same-refl (spelled item))
