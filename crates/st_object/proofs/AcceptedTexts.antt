@@ -150,12 +150,7 @@ blank_draft = search (rules, arith)
 pub outcome : (text : List ℕ) (r : Result Program ℕ) → read_text text ≡ r → Outcome blank 1 (cut text).lines (cut text).rest (text_lines text) r
 unfolding read_text
 outcome text r read =
-    let c = cut text in
-    let all : text_lines text ≡ c.lines ++ last_line c.rest = rw c.pieces (lines_in_all c.lines c.rest) in
-    let same : read_from blank 1 (c.lines ++ c.rest ∷ []) ≡ r = ap (λ (s : List (List ℕ)). read_from blank 1 s) (sym c.pieces) ∙ read in
-    subst (λ (x : Result Program ℕ). Outcome blank 1 c.lines c.rest (text_lines text) x) same
-    (subst (λ (s : List (List ℕ)). Outcome blank 1 c.lines c.rest s (read_from blank 1 (c.lines ++ c.rest ∷ []))) (sym all)
-    (read_on c.lines blank 1 c.rest blank_draft blank_orderly))
+    let c = cut text in rw (← read, c.pieces, lines_in_all c.lines c.rest) (read_on c.lines blank 1 c.rest blank_draft blank_orderly)
 
 -- a text that is read is the object text of a program
 pub record IsRead (text : List ℕ) (p : Program) : Type 0 where
@@ -167,13 +162,9 @@ pub accepted : (text : List ℕ) (p : Program) → read_text text ≡ Ok p → I
 accepted text p read =
     let c = cut text in
     let is : Accepts blank c.lines c.rest p = outcome text (Ok p) read in
+    let lines = ap (λ (s : List Item). text_of s) (sym (whole_lines_of is.on.last is.ended)) ∙ ap (λ (q : Program). object_text q) is.program in
     record {
-      program = subst (λ (q : Program). IsProgram q) is.program (whole_program is.on.last is.on.draft is.ended);
+      program = rw is.program at (whole_program is.on.last is.on.draft is.ended);
       words = subst (λ (q : Program). AreWords q.words) is.program (whole_words is.on.last is.on.draft);
-      same = c.whole
-          ∙ (ap (λ (s : List ℕ). closed c.lines ++ s) is.none
-          ∙ (append-nil (closed c.lines)
-          ∙ (sym is.on.before
-          ∙ (ap (λ (s : List Item). text_of s) (sym (whole_lines_of is.on.last is.ended))
-          ∙ ap (λ (q : Program). object_text q) is.program))));
+      same = c.whole ∙ rw (is.none, append-nil (closed c.lines)) (sym is.on.before ∙ lines);
     }

@@ -1,6 +1,6 @@
 -- Lines that were read can be followed by others up to a whole program.
 use Rattle.std.proofs.Common.{◌≡◌, ◌≤◌, ◌<◌, ◌^◌, ◌==◌, ◌||◌, ℕ, Bool, true, false, not, List, [], ◌∷◌, ◌++◌, Option, Some, IfSome, unwrap_or, if◌then◌else◌, refl, ap, subst, ◌∙◌, append_assoc, arith}
-use Rattle.std.proofs.lemmas.Bool.{and_from as both_true, and_parts as holds_both, cond_both}
+use Rattle.std.proofs.lemmas.Bool.{or_right, and_from as both_true, and_parts as holds_both, cond_both}
 use Rattle.std.proofs.lemmas.Bool.Decides.{nat_tests}
 use Rattle.std.proofs.lemmas.List.Sums.{AllPass-from_list_all}
 use Rattle.std.specs.List.{flat_map}
@@ -38,10 +38,9 @@ met_orderly d (kind ∷ xs) ys met later = grind (arith, met_orderly d xs ys)
 -- each line that is added keeps the order
 put_orderly : (kind : Kind) (d e : Draft) (item : Item) → IsPut kind d item e → IsOrderly e
 put_orderly kind d e item is =
-    let here : (r b : Bool) → b ≡ true → (r || b) ≡ true = λ r b holds. grind arith in
     subst (λ ks. orderly e ks ≡ true) (cut kind)
     (met_orderly e (before kind) (kind ∷ behind kind) is.met
-    (rw (here (not (row kind).required) (stands e kind) is.there) (none_orderly e (behind kind) is.none_now)))
+    (rw (or_right (not (row kind).required) (stands e kind) is.there) (none_orderly e (behind kind) is.none_now)))
 
 pub ordered : (d e : Draft) (item : Item) → with_item d item ≡ Some e → IsOrderly e
 ordered d e item same = put_orderly (kind_of item) d e item (added d e item same)

@@ -1,5 +1,5 @@
 -- A text line by line.
-use Rattle.std.proofs.Common.{◌≡◌, ◌+◌, ℕ, List, [], ◌∷◌, ◌++◌, length, Option, Some, None, Result, Err, refl, ap, sym, ◌∙◌, append_assoc, append-nil, length-append}
+use Rattle.std.proofs.Common.{◌≡◌, ◌+◌, ℕ, List, [], ◌∷◌, ◌++◌, length, Option, Some, None, Result, Err, arith, refl, ap, sym, ◌∙◌, append_assoc, append-nil, length-append}
 use Rattle.std.specs.Option.{option_map_or, option_and_then}
 use Rattle.st_text.specs.Pieces.{parted}
 use Rattle.st_text.proofs.PieceLemmas.{first_piece}
@@ -33,8 +33,7 @@ line_refused d n line rest after read cut bad same = sym same ∙ (first_line d 
 pub line_added : (d e : Draft) (n : ℕ) (line rest after : List ℕ) (read : Result Program ℕ) →
     parted 10 rest ≡ line ∷ parted 10 after → with_line d line ≡ Some e → read_from d n (parted 10 rest) ≡ read →
     read_from e (n + 1) (parted 10 after) ≡ read
-line_added d e n line rest after read cut good same =
-    rw good at (sym (first_line d n line rest after cut) ∙ same)
+line_added d e n line rest after read cut good same = rw good at (sym (first_line d n line rest after cut) ∙ same)
 
 -- what a good line makes of a draft
 pub record IsGood (d e : Draft) (line : List ℕ) : Type 0 where
@@ -44,8 +43,7 @@ pub record IsGood (d e : Draft) (line : List ℕ) : Type 0 where
   pub more : length (lines_of e) ≡ length (lines_of d) + 1
 
 chained : (o : Option Item) (d e : Draft) → option_and_then (λ i. with_item d i) o ≡ Some e → (item : Item) × ((o ≡ Some item) × (with_item d item ≡ Some e))
-chained None d e same = cc
-chained (Some item) d e same = (item, (refl, same))
+chained o d e same = grind arith
 
 pub good_line : (d e : Draft) (line : List ℕ) → with_line d line ≡ Some e → IsGood d e line
 good_line d e line good =

@@ -71,11 +71,8 @@ record Adds (h : ℕ) (ws whole : List ℕ) (items : List Item) : Type 0 where
   steps : Leads (open_draft h ws nothing_asked) items (open_draft h last nothing_asked)
 
 -- a word that is not zero stands above the registers
-above : (w x : ℕ) → (w < 32 → x ≡ 0) → (x == 0) ≡ false → 32 ≤ w
-above w x registers some = grind (arith, nat_tests)
-
-holds : (next w x : ℕ) → 32 ≤ w → next ≤ w → w < 98304 → (x == 0) ≡ false → words_of_storage ≡ 98304 → may_hold next w x ≡ true
-holds next w x high behind inside some size = grind (arith, nat_tests)
+holds : (next w x : ℕ) → (w < 32 → x ≡ 0) → next ≤ w → w < words_of_storage → (x == 0) ≡ false → may_hold next w x ≡ true
+holds next w x registers behind inside some = grind (arith, nat_tests)
 
 add_words : (h k w : ℕ) (ws rest : List ℕ) → w ≡ length ws + k → ((i : ℕ) → w + i < 32 → get_or rest i 0 ≡ 0) →
     w + length rest ≤ words_of_storage → All (λ x. x < 2 ^ 64) rest → Adds h ws (ws ++ replicate k 0 ++ rest) (word_lines w rest)
@@ -96,7 +93,7 @@ add_words h k w ws (x ∷ rest) place registers room each =
     let size : length new ≡ w + 1 = rw gap (simp (length-append, length-replicate) (omega arith)) in
     let same : new ++ [] ++ rest ≡ ws ++ replicate k 0 ++ x ∷ rest = rw gap (simp (append_assoc, append-nil)) in
     let later = rw same at (add_words h 0 (w + 1) new rest (omega arith) behind_registers (omega arith) behind_each) in
-    let fits = holds (length ws) w x (above w x (λ low. registers 0 (omega arith)) some) (omega arith) (omega arith) some storage in
+    let fits = holds (length ws) w x (λ low. registers 0 (omega arith)) (omega arith) (omega arith) some in
     let readable : IsItem (Word w x) = (omega arith, each 0 0 (omega arith)) in
     record { last = later.last; zeros = later.zeros; filled = later.filled; steps = (open_draft h new nothing_asked, rw fits, readable, later.steps) })
 
