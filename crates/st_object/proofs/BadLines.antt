@@ -6,7 +6,7 @@ use Rattle.std.proofs.lemmas.List.Concat.{flat_map-append}
 use Rattle.st_text.specs.Bytes.{lf}
 use Rattle.st_text.specs.Pieces.{parted}
 use Rattle.st_text.proofs.PieceLemmas.{first_piece}
-use Rattle.st_object.specs.Draft.{Draft, blank, IsDraft, is_empty, lines_of}
+use Rattle.st_object.specs.Draft.{blank, is_empty}
 use Rattle.st_object.specs.Object.{Program, IsProgram, object_text, read_from, read_text, text_lines, BeginsObjectText, IsBadLine}
 use Rattle.st_object.specs.Answers.{Gives, NamesBadLine}
 use Rattle.st_object.specs.declared.reading.ObjectError.{ObjectError}

@@ -1,20 +1,16 @@
 -- A further line stands behind those that were read.
-use Rattle.std.proofs.Common.{◌≡◌, ◌≤◌, ◌+◌, ◌-◌, ◌^◌, ◌==◌, ◌&&◌, ◌||◌, ℕ, suc, zero, Bool, true, false, not, nat_lt, Option, List, [], ◌∷◌, ◌++◌, length, map, replicate, Some, None, if◌then◌else◌, refl, ap, sym, subst, ◌∙◌, append_assoc, append-nil, length-append, arith}
-use Rattle.std.proofs.lemmas.Bool.{and_parts as holds_both, leb-true as at_most, not-true as is_not}
-use Rattle.std.proofs.lemmas.List.{map-append, length-replicate}
+use Rattle.std.proofs.Common.{◌≡◌, ◌≤◌, ◌+◌, ◌-◌, ◌==◌, ◌&&◌, ◌||◌, ℕ, suc, zero, Bool, true, false, not, Option, List, [], ◌∷◌, ◌++◌, length, map, replicate, Some, None, if◌then◌else◌, refl, ap, sym, subst, ◌∙◌, append_assoc, append-nil, arith}
+use Rattle.std.proofs.lemmas.List.{map-append}
 use Rattle.std.proofs.lemmas.List.Concat.{flat_map-append}
 use Rattle.std.proofs.lemmas.Bool.Decides.{nat_tests}
 use Rattle.std.proofs.lemmas.Grind.{common_steps}
 use Rattle.std.specs.List.{flat_map}
-use Rattle.st_card.specs.Controls.{is_in_range}
-use Rattle.st_card.specs.declared.control_cards.Signal.{Signal as GivenSignal}
 use Rattle.st_object.specs.Lines.{word_lines}
 use Rattle.st_object.specs.Order.{order, row, before, behind, kind_of, are_met, none_stands}
-use Rattle.st_object.specs.Draft.{Draft, is_empty, kind_lines, lines_of, stands, has_place, may_hold, with_value, with_item}
+use Rattle.st_object.specs.Draft.{Draft, is_empty, kind_lines, lines_of, stands, has_place, with_value, with_item}
 use Rattle.st_object.specs.declared.items.Item.{Item}
 use Rattle.st_object.specs.declared.items.Item.TheVariants.{Object, Start, Word, Budget, Delay, Signal, Dump, Trace, Time, Chart, Snap, Back, Fin}
 use Rattle.st_object.specs.declared.items.Kind.{Kind}
-use Rattle.st_object.specs.declared.items.Kind.TheVariants as kinds
 
 -- where no line of a kind was read, there is none
 none_of : {X : Type 0} (xs : List X) → (length xs == 0) ≡ true → xs ≡ []

@@ -1,13 +1,11 @@
 -- What a line that was read spells.
-use Rattle.std.proofs.Common.{◌≡◌, ◌<◌, ◌+◌, ◌*◌, ◌%◌, ◌^◌, ℕ, Bool, true, List, [], ◌∷◌, Option, Some, None, if◌then◌else◌, arith}
-use Rattle.std.specs.Option.{option_and_then, option_map}
+use Rattle.std.proofs.Common.{◌≡◌, ◌<◌, ◌+◌, ◌*◌, ◌%◌, ◌^◌, ℕ, List, [], ◌∷◌, Option, Some, None, arith}
+use Rattle.std.specs.Option.{option_and_then}
 use Rattle.std.specs.Cmp.Lexicographic.{same_text}
 use Rattle.std.proofs.lemmas.Bool.Decides.{nat_tests}
 use Rattle.st_text.specs.Tables.{row_of}
 use Rattle.st_object.specs.Lines.{spelled}
 use Rattle.st_object.specs.Meaning.{short_number, IsShort, hex_digit_in, hex_after, keywords, item_behind, item_loosely, item_in}
-use Rattle.st_card.specs.Controls.{Asked}
-use Rattle.st_object.specs.Draft.{Draft}
 use Rattle.st_object.specs.declared.items.Item.{Item}
 use Rattle.st_object.specs.declared.items.Item.TheVariants.{Word, Snap}
 use Rattle.st_object.specs.declared.items.Kind.{Kind}

@@ -1,5 +1,5 @@
 -- The object text of a program is read as that program.
-use Rattle.std.proofs.Common.{◌≡◌, ◌+◌, ◌*◌, ◌/◌, ◌%◌, ◌==◌, ℕ, true, not, List, [], ◌∷◌, ◌++◌, map, decimal, Some, Ok, refl, ap, append_assoc, arith}
+use Rattle.std.proofs.Common.{◌≡◌, ◌+◌, ◌==◌, ℕ, true, not, List, [], ◌∷◌, ◌++◌, map, decimal, Some, Ok, refl, ap, append_assoc, arith}
 use Rattle.std.proofs.lemmas.Grind.{common_steps}
 use Rattle.st_text.specs.Pieces.{parted, lacks}
 use Rattle.st_object.specs.Lines.{spelled, text_of}
@@ -7,7 +7,6 @@ use Rattle.st_object.specs.Draft.{Draft, blank, with_item, is_whole}
 use Rattle.st_object.specs.Meaning.{IsShort, IsItem}
 use Rattle.st_object.specs.Object.{Program, IsProgram, AreWords, object_lines, object_text, program_of, with_line, read_from, read_text}
 use Rattle.st_object.specs.declared.items.Item.{Item}
-use Rattle.st_object.specs.declared.items.Item.TheVariants.{Object, Start, Word, Budget, Delay, Signal, Dump, Trace, Time, Chart, Snap, Back, Fin}
 use Rattle.st_object.proofs.Spellings.{short_small, lacks-decimal, lacks-hex, spelled_again}
 use Rattle.st_object.proofs.LineByLine.{read_step}
 use Rattle.st_object.proofs.ProgramLines.{Leads, made_again}

@@ -1,6 +1,5 @@
 -- What is spelled is read as the same item, and what is read is spelled so.
-use Rattle.std.proofs.Common.{◌≡◌, ◌<◌, ◌+◌, ◌*◌, ◌/◌, ◌%◌, ◌^◌, ◌==◌, ℕ, suc, zero, true, not, List, [], ◌∷◌, ◌++◌, Some, length, decimal, refl, ◌∙◌, arith, rules, append_assoc}
-use Rattle.std.proofs.lemmas.Bool.{and_from as and_true, and_parts as holds_both}
+use Rattle.std.proofs.Common.{◌≡◌, ◌<◌, ◌+◌, ◌*◌, ◌/◌, ◌%◌, ◌^◌, ◌==◌, ℕ, suc, zero, true, not, List, [], ◌∷◌, ◌++◌, Some, length, decimal, refl, ◌∙◌, arith, rules}
 use Rattle.std.specs.Char.{is_ascii_digit}
 use Rattle.std.specs.List.{list_all}
 use Rattle.std.specs.Cmp.Lexicographic.{other_text}
@@ -17,7 +16,7 @@ use Rattle.st_text.specs.Tables.{is_same}
 use Rattle.st_object.specs.Lines.{spelled}
 use Rattle.st_object.specs.Meaning.{parts_at, short_number, two_numbers, IsShort, IsItem, hex_digit_in, hex_after, word_in, item_behind, item_loosely, item_in}
 use Rattle.st_object.specs.declared.items.Item.{Item}
-use Rattle.st_object.specs.declared.items.Item.TheVariants.{Object, Start, Word, Budget, Delay, Signal, Dump, Trace, Time, Chart, Snap, Back, Fin}
+use Rattle.st_object.specs.declared.items.Item.TheVariants.{Start, Word}
 use Rattle.st_object.specs.declared.items.Kind.TheVariants as kinds
 use Rattle.st_object.proofs.Parts.{parts_around}
 

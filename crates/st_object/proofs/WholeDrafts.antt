@@ -1,12 +1,12 @@
 -- A draft that is whole is a program, and its lines are the program's object text.
-use Rattle.std.proofs.Common.{◌≡◌, ◌≤◌, ◌<◌, ◌-◌, ◌^◌, ◌==◌, ℕ, true, not, List, ◌++◌, length, get_or, replicate, Option, Some, is_some, IfSome, unwrap_or, ap, sym, ◌∙◌, append-nil, length-append, arith, lit<}
+use Rattle.std.proofs.Common.{◌≡◌, ◌≤◌, ◌<◌, ◌-◌, ◌^◌, ℕ, true, List, ◌++◌, length, get_or, replicate, Option, Some, IfSome, unwrap_or, ap, sym, ◌∙◌, append-nil, length-append, arith, lit<}
 use Rattle.std.proofs.lemmas.Bool.Decides.{nat_tests}
 use Rattle.std.proofs.lemmas.Grind.{common_steps}
 use Rattle.std.proofs.lemmas.List.{length-replicate}
 use Rattle.std.proofs.lemmas.List.Elements.{All-append, All-replicate}
 use Rattle.st_bits.specs.Storage.{words_of_storage}
 use Rattle.st_object.specs.Lines.{word_lines}
-use Rattle.st_object.specs.Draft.{Draft, IsDraft, is_empty, lines_of, is_whole}
+use Rattle.st_object.specs.Draft.{Draft, IsDraft, lines_of, is_whole}
 use Rattle.st_object.specs.Object.{IsProgram, AreWords, object_lines, filled_up, program_of}
 use Rattle.st_object.proofs.FurtherLines.{word_lines-append, word_lines-zeros}
 use Rattle.st_object.proofs.WrittenLines.{whole_lines}
