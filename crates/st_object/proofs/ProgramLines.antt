@@ -160,7 +160,7 @@ module _ (p : Program) (ws : List ℕ) where
     add_kind kinds.Signal =
         let asked = λ (done : List GivenSignal). record (asked_before 5) { signals = done } in
         leads_each (λ done. record (draft_before 5) { asked = asked done }) (λ s. Signal s.count s.indicator) (λ xs. AreSignals xs)
-        (λ done rest s fits. (rw (budget, delays, signal-asked (asked done) s rest fits), signal-short done rest s fits)) [] p.controls.signals is.limits.signals
+        (λ done rest s fit. (rw (budget, delays, signal-asked (asked done) s rest fit), signal-short done rest s fit)) [] p.controls.signals is.limits.signals
     add_kind kinds.Dump =
         let asked = λ (done : List (ℕ × ℕ)). record (asked_before 6) { dumps = done } in
         leads_each (λ done. record (draft_before 6) { asked = asked done }) (λ d. Dump d.0 d.1) (λ xs. AreDumps xs)
