@@ -24,7 +24,7 @@ use Rattle.st_card.proofs.LimitLemmas.{added-kept}
 use Rattle.st_expr.specs.Name.{is_name, is_name_byte, padded}
 use Rattle.st_strap.specs.Order.{judged, mapped}
 use Rattle.st_strap.specs.Saying.{statement_of}
-use Rattle.st_strap.specs.declared.statement.Statement.{Statement}
+use Rattle.st_strap.specs.Statements.{Statement}
 use Rattle.st_strap.proofs.StatementLemmas.{read-is, read-named}
 use Rattle.st_asm.specs.Pass.{Refusal, onward, pass, unless_faulty, and_then}
 use Rattle.st_asm.specs.Lines.{name_field, statement_field, name_in, silent, saying}
