@@ -1,7 +1,7 @@
 -- When an expression has a value.
 use Rattle.std.proofs.Common.{◌≡◌, ◌&&◌, ℕ, ℤ, List, [], ◌∷◌, Option, Some, None, is_some, refl, ap, ◌∙◌}
 use Rattle.std.specs.Option.{option_map}
-use Rattle.st_expr.specs.Value.{atom_value, term_value, signed, plus, sum_of}
+use Rattle.st_expr.specs.Value.{atom_value, signed, plus, sum_of}
 use Rattle.st_expr.specs.declared.terms.Term.{Term}
 use Rattle.st_expr.specs.declared.terms.Atom.{Atom}
 use Rattle.st_expr.specs.declared.terms.Atom.TheVariants.{Number, Name}

@@ -1,4 +1,4 @@
-use Rattle.std.proofs.Common.{◌≡◌, ◌+ℤ◌, ◌-ℤ◌, ◌≤ℤ◌, ◌+◌, ◌*◌, ◌^◌, ℤ, pos, length, Some, subst, sym, ap, ◌∙◌}
+use Rattle.std.proofs.Common.{◌-ℤ◌, ◌≤ℤ◌, ◌+◌, ◌*◌, ◌^◌, ℤ, pos, length, Some, subst, sym, ap, ◌∙◌}
 use Rattle.st_expr.proofs.ValueLemmas.{nothing_behind, more_behind, length_behind, only_part, first_of_parts, sum_within}
 use Rattle.st_expr.proofs.texts.+sum_of.Goals as goal
 
