@@ -5,7 +5,7 @@ use Rattle.st_card.specs.Cards.{first_fault}
 use Rattle.st_card.specs.declared.faults.Fault.{Fault}
 use Rattle.st_card.specs.declared.faults.Fault.TheVariants.{NameTwice, UndefinedSymbol, SymbolNotEarlier, TooManyNames}
 use Rattle.st_strap.proofs.StatementLemmas.{either as either-true}
-use Rattle.st_strap.specs.declared.statement.Statement.{Statement}
+use Rattle.st_strap.specs.Statements.{Statement}
 use Rattle.st_strap.specs.declared.statement.Statement.TheVariants.{IndexWord}
 use Rattle.st_asm.specs.Naming.{Named, is_taken, is_known, is_earlier, name_fault}
 use Rattle.st_asm.specs.Symbols.{table}

@@ -6,7 +6,6 @@ use Rattle.std.specs.Str.{IsAscii}
 use Rattle.std.specs.Char.{is_ascii_uppercase}
 use Rattle.std.proofs.lemmas.Bool.Decides.{nat_tests}
 use Rattle.std.proofs.lemmas.List.{length-take, get_or-take}
-use Rattle.std.specs.Bool.{IsTrue}
 use Rattle.std.specs.Option.{IfSome}
 use Rattle.std.specs.Result.{IfOk}
 use Rattle.std.proofs.lemmas.List.Elements.{All-nil, All-cons, All-head, All-tail, All-push, All-append}
@@ -24,7 +23,7 @@ use Rattle.st_card.proofs.LimitLemmas.{added-kept}
 use Rattle.st_expr.specs.Name.{is_name, is_name_byte, padded}
 use Rattle.st_strap.specs.Order.{judged, mapped}
 use Rattle.st_strap.specs.Saying.{statement_of}
-use Rattle.st_strap.specs.declared.statement.Statement.{Statement}
+use Rattle.st_strap.specs.Statements.{Statement}
 use Rattle.st_strap.proofs.StatementLemmas.{read-is, read-named}
 use Rattle.st_asm.specs.Pass.{Refusal, onward, pass, unless_faulty, and_then}
 use Rattle.st_asm.specs.Lines.{name_field, statement_field, name_in, silent, saying}

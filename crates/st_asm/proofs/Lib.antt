@@ -6,3 +6,4 @@ pub mod FaultLemmas
 pub mod KeptLemmas
 pub mod ImageLemmas
 pub mod FaultlessLemmas
+pub mod ValueLemmas

@@ -9,7 +9,7 @@ use Rattle.st_card.specs.declared.faults.Fault.{Fault}
 use Rattle.st_card.specs.declared.faults.Fault.TheVariants.{BadName, BadControlCard, CardAfterEnd, NoEnd}
 use Rattle.st_strap.specs.Order.{judged, mapped}
 use Rattle.st_strap.specs.Saying.{statement_of}
-use Rattle.st_strap.specs.declared.statement.Statement.{Statement}
+use Rattle.st_strap.specs.Statements.{Statement}
 use Rattle.st_strap.specs.declared.statement.Statement.TheVariants.{Half, Sum, Refill, Branch, Floating, Vfl, Connect, Move, BitBranch, IndBranch, StoreCounter, Transfer, Data, IndexWord, Synonym, SetLocation, Reserve, End}
 use Rattle.st_asm.specs.Pass.{Refusal, pass, unless_faulty, and_then}
 use Rattle.st_asm.specs.Lines.{name_field, statement_field, name_in, silent, saying}

@@ -6,8 +6,7 @@ use Rattle.st_bits.specs.declared.operations.HalfOp.TheVariants.{Lvs, R}
 use Rattle.st_format.specs.Formats.{first_half, second_half}
 use Rattle.st_format.specs.declared.instruction.Instr.{Instr}
 use Rattle.st_format.specs.declared.instruction.Instr.TheVariants as laid
-use Rattle.st_strap.specs.declared.statement.Spot.{Spot}
-use Rattle.st_strap.specs.declared.statement.Statement.{Statement}
+use Rattle.st_strap.specs.Statements.{Spot, Statement}
 use Rattle.st_strap.specs.declared.statement.Statement.TheVariants.{Half, Sum, Refill, Branch, Floating, Vfl, Connect, Move, BitBranch, IndBranch, StoreCounter, Transfer, Data, IndexWord, Synonym, SetLocation, Reserve, End}
 use Rattle.st_asm.specs.declared.values.Values.{Values}
 use Rattle.st_asm.specs.Numbers.{field_of}

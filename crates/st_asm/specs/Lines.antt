@@ -2,7 +2,7 @@
 use Rattle.std.specs.Prelude.{ℕ, List, [], ◌∷◌, take, drop, Option, Some, None}
 use Rattle.st_text.specs.Blanks.{without_front_blanks, without_end_blanks}
 use Rattle.st_expr.specs.Name.{padded}
-use Rattle.st_strap.specs.declared.statement.Statement.{Statement}
+use Rattle.st_strap.specs.Statements.{Statement}
 use Rattle.st_asm.specs.declared.line.Line.{Line}
 
 -- the name of a statement card: columns 2 to 9 without the blanks at both ends

@@ -3,7 +3,7 @@ use Rattle.std.specs.Prelude.{◌≡◌, ◌<◌, ◌^◌, ℕ, ℤ, ◌&&◌, B
 use Rattle.st_card.specs.Cards.{first_fault}
 use Rattle.st_card.specs.declared.faults.Fault.{Fault}
 use Rattle.st_card.specs.declared.faults.Fault.TheVariants.{NameTwice, UndefinedSymbol, SymbolNotEarlier, TooManyNames}
-use Rattle.st_strap.specs.declared.statement.Statement.{Statement}
+use Rattle.st_strap.specs.Statements.{Statement}
 use Rattle.st_asm.specs.Pass.{Refusal, pass, unless_faulty}
 use Rattle.st_asm.specs.Symbols.{table, accepts_all, has_name, is_defined, names_of}
 use Rattle.st_asm.specs.Values.{values_of}

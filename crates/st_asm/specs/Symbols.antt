@@ -6,7 +6,7 @@ use Rattle.st_text.specs.Tables.{is_same, row_of}
 use Rattle.st_expr.specs.declared.terms.Term.{Term}
 use Rattle.st_expr.specs.declared.terms.Atom.{Atom}
 use Rattle.st_expr.specs.declared.terms.Atom.TheVariants.{Number, Name}
-use Rattle.st_strap.specs.declared.statement.Statement.{Statement}
+use Rattle.st_strap.specs.Statements.{Statement}
 use Rattle.st_strap.specs.declared.statement.Statement.TheVariants.{Half, Sum, Refill, Branch, Floating, Vfl, Connect, Move, BitBranch, IndBranch, StoreCounter, Transfer, Data, IndexWord, Synonym, SetLocation, Reserve, End}
 use Rattle.st_asm.specs.declared.line.Line.{Line}
 use Rattle.st_asm.specs.declared.naming.Symbol.{Symbol}

@@ -3,7 +3,7 @@ use Rattle.std.specs.Prelude.{ℕ, ℤ, pos, negsuc, ◌-◌, ◌%◌, ◌^◌, 
 use Rattle.arrayvec.specs.ArrayVec.{ArrayVec}
 use Rattle.st_expr.specs.Value.{sum_of}
 use Rattle.st_expr.specs.declared.terms.Term.{Term}
-use Rattle.st_strap.specs.declared.statement.Statement.{Statement}
+use Rattle.st_strap.specs.Statements.{Statement}
 use Rattle.st_asm.specs.declared.values.Values.{Values}
 use Rattle.st_asm.specs.Symbols.{expressions}
 

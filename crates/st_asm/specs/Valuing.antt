@@ -4,7 +4,7 @@ use Rattle.std.specs.List.{zip}
 use Rattle.st_bits.specs.Bits.{bits, all_bits, put, words_of}
 use Rattle.st_bits.specs.Storage.{words_of_storage}
 use Rattle.st_card.specs.declared.faults.Fault.{Fault}
-use Rattle.st_strap.specs.declared.statement.Statement.{Statement}
+use Rattle.st_strap.specs.Statements.{Statement}
 use Rattle.st_asm.specs.Pass.{Refusal, pass, unless_faulty}
 use Rattle.st_asm.specs.Forming.{is_end}
 use Rattle.st_asm.specs.Values.{values_of}

@@ -11,7 +11,7 @@ use crate::places::role_of;
 use crate::symbols::knows_all;
 use crate::values::{Values, values_of};
 use st_expr::Symbols;
-use st_strap::{Statement, read_statement};
+use st_strap::{CompactStatement, read_compact};
 
 /// What a statement lays: so many bits, at most 64, as a number.
 #[derive(Clone, Copy, Debug, PartialEq, Eq)]
@@ -29,7 +29,7 @@ pub fn laid_alone(symbols: &Symbols, text: &[u8]) -> Option<LaidBits>
     requires { length text.now ≤ 63 }
     ensures { result ≡ spec.laid_alone symbols.now text.now }
 {
-    match read_statement(b"", text) {
+    match read_compact(b"", text) {
         Ok(statement) => laid_by(symbols, &statement),
         Err(_) => None,
     }
@@ -37,7 +37,7 @@ pub fn laid_alone(symbols: &Symbols, text: &[u8]) -> Option<LaidBits>
 
 // What a statement lays whose names are all in a table.
 #[tactic(auto, unfolding(crate::specs::Alone::laid_by))]
-fn laid_by(symbols: &Symbols, s: &Statement) -> Option<LaidBits>
+fn laid_by(symbols: &Symbols, s: &CompactStatement) -> Option<LaidBits>
     requires { IsWellFormed s.now }
     ensures { result ≡ spec.laid_by symbols.now s.now }
 {
@@ -48,7 +48,7 @@ fn laid_by(symbols: &Symbols, s: &Statement) -> Option<LaidBits>
 }
 
 // What a statement lays with its values.
-fn laid_with(s: &Statement, v: Values) -> Option<LaidBits>
+fn laid_with(s: &CompactStatement, v: Values) -> Option<LaidBits>
     requires { IsWellFormed s.now }
     ensures { result ≡ spec.laid_with s.now v }
 {

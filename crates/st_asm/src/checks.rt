@@ -11,7 +11,7 @@ use crate::values::Values;
 use st_bits::WORDS;
 use st_bits::register::FIRST_STORAGE_WORD;
 use st_card::Fault;
-use st_strap::Statement;
+use st_strap::{CompactStatement, Statement};
 
 // The first bit behind the addresses.
 const ADDRESSES: u64 = 1 << 24;
@@ -35,7 +35,7 @@ const FIRST_BIT: u64 = 64 * FIRST_STORAGE_WORD as u64;
 
 // The fault of a statement with its values at its place, if it has one.
 #[tactic(auto, unfolding(crate::specs::Checks::value_fault))]
-pub(crate) fn value_fault(s: &Statement, role: Role, v: Values, place: u32) -> Option<Fault>
+pub(crate) fn value_fault(s: &CompactStatement, role: Role, v: Values, place: u32) -> Option<Fault>
     requires well { IsWellFormed s.now }
     requires role { role ≡ role_of s.now }
     ensures { result ≡ spec.value_fault s.now v place }
@@ -55,7 +55,7 @@ pub(crate) fn value_fault(s: &Statement, role: Role, v: Values, place: u32) -> O
 
 // Whether each address is one.
 #[tactic(auto, unfolding(crate::specs::Checks::in_range))]
-fn in_range(s: &Statement, v: Values) -> bool
+fn in_range(s: &CompactStatement, v: Values) -> bool
     ensures { result ≡ spec.in_range s.now v }
 {
     if is_index_word(s) {
@@ -65,7 +65,7 @@ fn in_range(s: &Statement, v: Values) -> bool
     }
 }
 
-fn is_index_word(s: &Statement) -> bool
+fn is_index_word(s: &CompactStatement) -> bool
     ensures { result ≡ spec.is_index_word s.now }
 {
     matches!(s, Statement::IndexWord { .. })
@@ -79,7 +79,7 @@ fn is_address(a: i64) -> bool
 
 // Whether each value fits its place.
 #[tactic(auto, unfolding(crate::specs::Checks::fits))]
-fn fits(s: &Statement, v: Values) -> bool
+fn fits(s: &CompactStatement, v: Values) -> bool
     requires { IsWellFormed s.now }
     ensures { result ≡ spec.fits s.now v }
 {
@@ -105,7 +105,7 @@ fn fits_index_word(value: i64, count: u64, flags: u64) -> bool
 
 // Whether each address is on the boundary that its use asks for.
 #[tactic(auto, unfolding(crate::specs::Checks::on_boundary))]
-fn on_boundary(s: &Statement, v: Values) -> bool
+fn on_boundary(s: &CompactStatement, v: Values) -> bool
     ensures { result ≡ spec.on_boundary s.now v }
 {
     match s {

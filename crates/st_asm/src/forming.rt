@@ -9,7 +9,7 @@ ghost use Rattle.st_asm.specs.Forming as spec;
 use crate::line::{Line, name_field, name_in, silent, statement_field};
 use crate::stop::{AsmError, Stop};
 use st_card::{Card, CardError, CardKind, Controls, Fault};
-use st_strap::{Statement, read_statement};
+use st_strap::{CompactStatement, Statement, read_compact};
 use std::alloc::Global;
 
 // What has been read of a job.
@@ -156,14 +156,19 @@ fn add_statement(deck: &mut Deck, card: u32, fault: Option<Fault>, text: &[u8]) 
         return Err(Stop::Faulty(fault));
     }
     let name = name_field(text);
-    match read_statement(name, statement_field(text)) {
+    match read_compact(name, statement_field(text)) {
         Err(fault) => Err(Stop::Faulty(fault)),
         Ok(statement) => add_read(deck, card, name, statement),
     }
 }
 
 // A statement card more, which was read.
-fn add_read(deck: &mut Deck, card: u32, name: &[u8], statement: Statement) -> Result<(), Stop>
+fn add_read(
+    deck: &mut Deck,
+    card: u32,
+    name: &[u8],
+    statement: CompactStatement,
+) -> Result<(), Stop>
     requires { length name.now ≤ 8 }
     ensures ok { OnOk result (spec.found_in deck.new
         ≡ spec.with_statement (spec.found_in deck.old) card name.now statement) }
@@ -181,7 +186,7 @@ fn add_read(deck: &mut Deck, card: u32, name: &[u8], statement: Statement) -> Re
 }
 
 // Whether a statement is the end.
-pub(crate) fn is_end(statement: &Statement) -> bool
+pub(crate) fn is_end(statement: &CompactStatement) -> bool
     ensures { result ≡ spec.is_end statement.now }
 {
     matches!(statement, Statement::End { .. })

@@ -11,11 +11,11 @@ use crate::numbers::field_of;
 use crate::values::Values;
 use st_bits::{HalfOp, with_count, with_part, with_refill, with_value};
 use st_format::{Instr, encode};
-use st_strap::{Spot, Statement};
+use st_strap::{CompactSpot, CompactStatement, Statement};
 
 // The bits that a statement lays, as a number; its values were found to fit.
 #[tactic(auto, unfolding(crate::specs::Laying::bits_of, crate::specs::Checks::fits))]
-pub(crate) fn bits_of(s: &Statement, v: Values) -> u64
+pub(crate) fn bits_of(s: &CompactStatement, v: Values) -> u64
     requires well { IsWellFormed s.now }
     requires first { unsigned_abs v.first < 2 ^ 24 }
     requires second { unsigned_abs v.second < 2 ^ 24 }
@@ -161,7 +161,7 @@ pub(crate) fn half_word(a: i64) -> u32
 }
 
 // The index that an address may have.
-fn index_of(at: &Option<Spot>) -> u8
+fn index_of(at: &Option<CompactSpot>) -> u8
     requires { IsSpotOrNone at.now }
     ensures index { result ≡ spec.index_of at.now }
     ensures below { result < 16 }

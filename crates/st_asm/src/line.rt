@@ -5,7 +5,7 @@ ghost use Rattle.st_asm.specs.Lines as spec;
 
 use st_card::columns;
 use st_expr::padded;
-use st_strap::Statement;
+use st_strap::CompactStatement;
 use st_text::{behind, front, without_end_blanks, without_front_blanks};
 
 // How many columns stand before the statement.
@@ -22,7 +22,7 @@ pub(crate) struct Line {
     // The name, filled with blanks to eight bytes.
     pub name: Option<[u8; 8]>,
     // What the card says; comments and control cards say nothing here.
-    pub statement: Option<Statement>,
+    pub statement: Option<CompactStatement>,
 }
 
 // A comment or a control card.

@@ -16,7 +16,7 @@ use crate::symbols::{knows_all, names_in};
 use crate::values::values_of;
 use st_card::Fault;
 use st_expr::Symbols;
-use st_strap::Statement;
+use st_strap::CompactStatement;
 use std::alloc::Global;
 
 // How many names a job may define.
@@ -142,7 +142,7 @@ fn is_taken(symbols: &Symbols, name: Option<[u8; 8]>) -> bool
 }
 
 // Whether the names that a card speaks of are in a table.
-fn is_known(all: &Symbols, statement: &Option<Statement>) -> bool
+fn is_known(all: &Symbols, statement: &Option<CompactStatement>) -> bool
     ensures { result ≡ spec.is_known (is_defined all.now) statement.now }
 {
     match statement {
@@ -152,7 +152,7 @@ fn is_known(all: &Symbols, statement: &Option<Statement>) -> bool
 }
 
 // Whether they are defined by earlier cards, where they have to be.
-fn is_earlier(symbols: &Symbols, statement: &Option<Statement>) -> bool
+fn is_earlier(symbols: &Symbols, statement: &Option<CompactStatement>) -> bool
     requires { IsWellFormedIfAny statement.now }
     ensures { result ≡ spec.is_earlier symbols.now statement.now }
 {
@@ -162,7 +162,7 @@ fn is_earlier(symbols: &Symbols, statement: &Option<Statement>) -> bool
     }
 }
 
-fn is_statement_earlier(symbols: &Symbols, statement: &Statement) -> bool
+fn is_statement_earlier(symbols: &Symbols, statement: &CompactStatement) -> bool
     requires { IsWellFormed statement.now }
     ensures { result ≡ spec.is_statement_earlier symbols.now statement.now }
 {
@@ -196,7 +196,11 @@ fn add_line(names: &mut Names, line: &Line) -> Result<(), Stop>
 }
 
 // The place of a card, and the location behind it.
-fn placed(symbols: &Symbols, location: u32, statement: &Option<Statement>) -> (Option<u32>, u32)
+fn placed(
+    symbols: &Symbols,
+    location: u32,
+    statement: &Option<CompactStatement>,
+) -> (Option<u32>, u32)
     requires well { IsWellFormedIfAny statement.now }
     requires location { location < 2 ^ 24 }
     ensures place { result.0 ≡ spec.place_of symbols.now location statement.now }
@@ -209,7 +213,11 @@ fn placed(symbols: &Symbols, location: u32, statement: &Option<Statement>) -> (O
     }
 }
 
-fn placed_statement(symbols: &Symbols, location: u32, statement: &Statement) -> (Option<u32>, u32)
+fn placed_statement(
+    symbols: &Symbols,
+    location: u32,
+    statement: &CompactStatement,
+) -> (Option<u32>, u32)
     requires well { IsWellFormed statement.now }
     requires location { location < 2 ^ 24 }
     ensures place { result.0 ≡ spec.place_of_statement symbols.now location statement.now }
@@ -222,7 +230,7 @@ fn placed_statement(symbols: &Symbols, location: u32, statement: &Statement) -> 
 }
 
 // The value by which a statement of this role is placed; of a statement that is placed by none it is 0.
-fn placing_value(role: Role, symbols: &Symbols, statement: &Statement) -> i64
+fn placing_value(role: Role, symbols: &Symbols, statement: &CompactStatement) -> i64
     ensures place { (location : ℕ) → place_in role location result
         ≡ place_in role location (values_by symbols.now statement.now).first }
     ensures behind { (location : ℕ) → behind_in role location result

@@ -6,7 +6,7 @@ ghost use Rattle.st_asm.specs.Places.{IsRole};
 ghost use Rattle.st_strap.specs.WellFormed.{IsWellFormed};
 
 use crate::values::wrapped;
-use st_strap::Statement;
+use st_strap::{CompactStatement, Statement};
 
 // How many bits a half-word and a word have.
 const HALF: u32 = 32;
@@ -29,7 +29,7 @@ pub(crate) enum Role {
 }
 
 // What a statement does to the location.
-pub(crate) fn role_of(statement: &Statement) -> Role
+pub(crate) fn role_of(statement: &CompactStatement) -> Role
     requires { IsWellFormed statement.now }
     ensures role { result ≡ spec.role_of statement.now }
     ensures fits { IsRole result }

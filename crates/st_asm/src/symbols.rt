@@ -6,13 +6,13 @@ ghost use Rattle.st_asm.specs.Symbols as spec;
 
 use crate::line::Line;
 use st_bits::NoMemory;
-use st_expr::{Atom, Expr, Symbols, Term};
-use st_strap::Statement;
+use st_expr::{ExprText, Symbols};
+use st_strap::{CompactStatement, Statement};
 use std::alloc::Global;
 
 // Whether each name that a statement speaks of is in a table.
 #[tactic(auto, unfolding(crate::specs::Symbols::accepts_all))]
-pub(crate) fn knows_all(symbols: &Symbols, statement: &Statement) -> bool
+pub(crate) fn knows_all(symbols: &Symbols, statement: &CompactStatement) -> bool
     ensures { result ≡ spec.accepts_all (spec.is_defined symbols.now) statement.now }
 {
     match statement {
@@ -43,32 +43,10 @@ pub(crate) fn knows_all(symbols: &Symbols, statement: &Statement) -> bool
 }
 
 // Whether each name of an expression is in a table.
-fn knows(symbols: &Symbols, expr: &Expr) -> bool
+fn knows(symbols: &Symbols, expr: &ExprText) -> bool
     ensures { result ≡ spec.accepts (spec.is_defined symbols.now) expr.now.items }
 {
-    knows_terms(symbols, expr.as_slice())
-}
-
-fn knows_terms(symbols: &Symbols, terms: &[Term]) -> bool
-    ensures { result ≡ spec.accepts (spec.is_defined symbols.now) terms.now }
-{
-    let mut rest = terms;
-    'terms: while let [term, after @ ..] = rest {
-        if !knows_atom(symbols, term.atom) {
-            return false;
-        }
-        rest = after;
-    }
-    true
-}
-
-fn knows_atom(symbols: &Symbols, atom: Atom) -> bool
-    ensures { result ≡ spec.accepts_atom (spec.is_defined symbols.now) atom }
-{
-    match atom {
-        Atom::Number(_) => true,
-        Atom::Name(name) => symbols.get(name).is_some(),
-    }
+    expr.value(symbols).is_some()
 }
 
 // A table in which the names of all cards are, whatever their values.

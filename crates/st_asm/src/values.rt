@@ -3,8 +3,8 @@
 ghost use Rattle.std.specs.Prelude.{◌≡◌, ◌<◌, ◌^◌, pos};
 ghost use Rattle.st_asm.specs.Values as spec;
 
-use st_expr::{Expr, Symbols, value_of};
-use st_strap::Statement;
+use st_expr::{ExprText, Symbols};
+use st_strap::{CompactStatement, Statement};
 
 // The values of a statement's first and second expression, in bits; 0 where there is none.
 #[derive(Clone, Copy)]
@@ -15,7 +15,7 @@ pub(crate) struct Values {
 
 // The values of a statement's expressions; a name that is not defined makes its expression 0.
 #[tactic(auto, unfolding(crate::specs::Values::values_of))]
-pub(crate) fn values_of(symbols: &Symbols, statement: &Statement) -> Values
+pub(crate) fn values_of(symbols: &Symbols, statement: &CompactStatement) -> Values
     ensures { result ≡ spec.values_of symbols.now statement.now }
 {
     match statement {
@@ -44,7 +44,7 @@ pub(crate) fn values_of(symbols: &Symbols, statement: &Statement) -> Values
     }
 }
 
-fn value_alone(symbols: &Symbols, e: &Expr) -> Values
+fn value_alone(symbols: &Symbols, e: &ExprText) -> Values
     ensures { result ≡ record { first = spec.value_in symbols.now e.now; second = pos 0 } }
 {
     Values {
@@ -53,7 +53,7 @@ fn value_alone(symbols: &Symbols, e: &Expr) -> Values
     }
 }
 
-fn two_values(symbols: &Symbols, e: &Expr, f: &Expr) -> Values
+fn two_values(symbols: &Symbols, e: &ExprText, f: &ExprText) -> Values
     ensures { result ≡ record {
       first = spec.value_in symbols.now e.now;
       second = spec.value_in symbols.now f.now;
@@ -65,10 +65,10 @@ fn two_values(symbols: &Symbols, e: &Expr, f: &Expr) -> Values
     }
 }
 
-fn value_in(symbols: &Symbols, e: &Expr) -> i64
+fn value_in(symbols: &Symbols, e: &ExprText) -> i64
     ensures { result ≡ spec.value_in symbols.now e.now }
 {
-    value_of(e, symbols).unwrap_or(0)
+    e.value(symbols).unwrap_or(0)
 }
 
 // A number modulo 2^24.

@@ -20,7 +20,7 @@ use crate::stop::{AsmError, Stop};
 use crate::values::{Values, values_of};
 use st_bits::{WORDS, put_field};
 use st_expr::Symbols;
-use st_strap::Statement;
+use st_strap::CompactStatement;
 use std::alloc::{AllocError, Global};
 
 /// A row of the listing: what a card lays, and where.
@@ -164,7 +164,7 @@ fn add_row(layout: &mut Layout, row: Listed) -> Result<(), Stop>
 fn value_statement(
     layout: &mut Layout,
     card: u32,
-    s: &Statement,
+    s: &CompactStatement,
     v: Values,
     place: Option<u32>,
 ) -> Result<(), Stop>
@@ -187,7 +187,7 @@ fn value_statement(
 fn lay(
     layout: &mut Layout,
     card: u32,
-    s: &Statement,
+    s: &CompactStatement,
     v: Values,
     place: Option<u32>,
 ) -> Result<(), Stop>
@@ -221,7 +221,7 @@ fn lay(
 }
 
 // The start, as far as it is known behind a statement.
-fn start_behind(start: u32, s: &Statement, v: Values) -> u32
+fn start_behind(start: u32, s: &CompactStatement, v: Values) -> u32
     requires { unsigned_abs v.first < 2 ^ 24 }
     ensures start { result ≡ (if is_end s.now then half_word v.first else start) }
     ensures below { start < 2 ^ 19 → result < 2 ^ 19 }

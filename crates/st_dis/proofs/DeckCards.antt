@@ -9,7 +9,7 @@ use Rattle.st_card.specs.declared.faults.Fault.{Fault}
 use Rattle.st_bits.specs.Storage.{words_of_storage_is}
 use Rattle.st_strap.specs.Reading.{number_expr}
 use Rattle.st_strap.specs.Saying.{statement_of}
-use Rattle.st_strap.specs.declared.statement.Statement.{Statement}
+use Rattle.st_strap.specs.Statements.{Statement}
 use Rattle.st_strap.specs.declared.statement.Statement.TheVariants.{Half, Sum, Refill, Branch, Floating, Vfl, Connect, Move, BitBranch, IndBranch, StoreCounter, Transfer, Data, IndexWord, Synonym, SetLocation, Reserve, End}
 use Rattle.st_strap.proofs.NumberCards.{word_form, data-read}
 use Rattle.st_asm.specs.Symbols.{accepts_all, is_defined}

@@ -15,7 +15,7 @@ use Rattle.st_strap.specs.Order.{judged, mapped}
 use Rattle.st_strap.specs.Table.{operation_of, other_operations, index_operations, field_operations, negated_operation, connective, kinds, truth_tables}
 use Rattle.st_strap.specs.Text.{clean, stop}
 use Rattle.st_strap.specs.Saying.{said, is_misnamed, clean_statement_of, statement_of}
-use Rattle.st_strap.specs.declared.statement.Statement.{Statement}
+use Rattle.st_strap.specs.Statements.{Statement}
 use Rattle.st_asm.specs.Pass.{Refusal, onward, pass, and_then, unless_faulty}
 use Rattle.st_asm.specs.Lines.{name_field, statement_field, name_in, silent, saying}
 use Rattle.st_asm.specs.Forming.{Found, unread, first_fault_of, is_end, with_statement, with_control, form_control, form_statement, form_kind, form_card, with_end, form_pass}

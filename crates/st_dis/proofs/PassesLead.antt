@@ -4,7 +4,7 @@ use Rattle.std.specs.List.{zip}
 use Rattle.st_card.specs.Cards.{first_fault}
 use Rattle.st_card.specs.declared.faults.Fault.TheVariants.{NameTwice, UndefinedSymbol, SymbolNotEarlier, TooManyNames}
 use Rattle.st_bits.specs.Storage.{words_of_storage}
-use Rattle.st_strap.specs.declared.statement.Statement.{Statement}
+use Rattle.st_strap.specs.Statements.{Statement}
 use Rattle.st_object.specs.Object.{Program, IsProgram, AreWords}
 use Rattle.st_asm.specs.Pass.{pass, onward, unless_faulty}
 use Rattle.st_asm.specs.Lines.{silent, saying}

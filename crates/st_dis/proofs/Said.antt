@@ -3,7 +3,7 @@ use Rattle.std.proofs.Common.{◌≡◌, ℕ, zero, suc, ◌+◌, ◌==◌, if�
 use Rattle.std.specs.Prelude.{List, [], ◌∷◌, ◌++◌, Ok, None}
 use Rattle.st_object.specs.Object.{Program}
 use Rattle.st_strap.specs.Saying.{statement_of}
-use Rattle.st_strap.specs.declared.statement.Statement.{Statement}
+use Rattle.st_strap.specs.Statements.{Statement}
 use Rattle.st_asm.specs.Lines.{silent, saying}
 use Rattle.st_dis.specs.Deck.{location_text, end_text, order_cards, show_cards}
 use Rattle.st_dis.specs.Spelling.{statements_of}

@@ -7,7 +7,7 @@ use Rattle.st_card.specs.declared.faults.Fault.{Fault}
 use Rattle.st_card.specs.declared.faults.Fault.TheVariants.{AddressOutOfRange, ValueDoesNotFit, NotOnABoundary, LocationOutOfStorage}
 use Rattle.st_strap.specs.Reading.{number_expr}
 use Rattle.st_strap.specs.Saying.{statement_of}
-use Rattle.st_strap.specs.declared.statement.Statement.{Statement}
+use Rattle.st_strap.specs.Statements.{Statement}
 use Rattle.st_strap.specs.declared.statement.Statement.TheVariants.{Half, Sum, Refill, Branch, Floating, Vfl, Connect, Move, BitBranch, IndBranch, StoreCounter, Transfer, Data, IndexWord, Synonym, SetLocation, Reserve, End}
 use Rattle.st_asm.specs.Forming.{is_end}
 use Rattle.st_asm.specs.Symbols.{accepts_all, is_defined}

@@ -8,7 +8,7 @@ use Rattle.st_object.specs.Object.{Program, IsProgram, AreWords}
 use Rattle.st_bits.specs.Storage.{words_of_storage, words_of_storage_is}
 use Rattle.st_strap.specs.Reading.{number_expr}
 use Rattle.st_strap.specs.Saying.{statement_of}
-use Rattle.st_strap.specs.declared.statement.Statement.{Statement}
+use Rattle.st_strap.specs.Statements.{Statement}
 use Rattle.st_strap.specs.declared.statement.Statement.TheVariants.{SetLocation, End}
 use Rattle.st_asm.specs.Alone.{laid_alone}
 use Rattle.st_asm.specs.Valuing.{image_with}

@@ -1,3 +1,4 @@
 pub mod ExprLemmas
 pub mod TermLemmas
 pub mod SymbolLemmas
+pub mod ValueLemmas

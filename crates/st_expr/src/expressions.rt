@@ -1,6 +1,6 @@
 //! Reading an expression.
 
-ghost use Rattle.std.specs.Prelude.{◌≡◌, ◌+◌, ◌≤◌, Bool, [], ◌∷◌, length, MatchOption};
+ghost use Rattle.std.specs.Prelude.{◌≡◌, ◌+◌, ◌≤◌, Bool, [], ◌∷◌, length, Ok, Err, IfOk, IfErr, MatchOption};
 ghost use Rattle.st_expr.specs.Expression as spec;
 
 use crate::terms::{AtomReading, Term, read_atom};
@@ -19,40 +19,67 @@ pub fn read_expr(text: &[u8]) -> Result<Expr, Fault>
     requires { length text.now ≤ 63 }
     ensures { result ≡ spec.expr_of text.now }
 {
+    let (minus, rest) = behind_sign(text);
+    check_parts(minus, rest)?;
+    Ok(terms_in(minus, rest))
+}
+
+// Whether a text begins with a minus, and what stands behind its first sign, if it has one.
+pub(crate) fn behind_sign(text: &[u8]) -> (bool, &[u8])
+    ensures parts { spec.parts_after result.0 result.1.now ≡ spec.parts text.now }
+    ensures shorter { length result.1.now ≤ length text.now }
+{
     match text {
-        [b'+', rest @ ..] => read_parts(false, rest),
-        [b'-', rest @ ..] => read_parts(true, rest),
-        _ => read_parts(false, text),
+        [b'+', rest @ ..] => (false, rest),
+        [b'-', rest @ ..] => (true, rest),
+        _ => (false, text),
     }
 }
 
-// The expression that a text says behind its first sign.
-fn read_parts(minus: bool, text: &[u8]) -> Result<Expr, Fault>
-    requires { length text.now ≤ 63 }
-    ensures { result ≡ spec.expr_in (spec.parts_after minus text.now) }
+// Finds the fault of an expression by what stands behind its first sign.
+pub(crate) fn check_parts(minus: bool, text: &[u8]) -> Result<(), Fault>
+    ensures ok { IfOk result (λ _. spec.expr_in (spec.parts_after minus text.now)
+        ≡ Ok (record { items = spec.terms_of (spec.parts_after minus text.now) })) }
+    ensures err { IfErr result (λ fault. spec.expr_in (spec.parts_after minus text.now) ≡ Err fault) }
 {
-    let mut terms = Expr::new();
     let mut large = false;
     let mut left = Some((minus, text));
-    'parts: while let Some((minus, text)) = left {
+    'parts: while let Some((_, text)) = left {
         let (word, behind) = first_part(text);
         match read_atom(word) {
             AtomReading::Bad => return Err(Fault::BadExpression),
             AtomReading::Large => large = true,
-            AtomReading::Good(atom) => terms.push(Term { minus, atom }),
+            AtomReading::Good(_) => {}
         }
         left = behind;
     }
     if large {
         Err(Fault::NumberTooLarge)
     } else {
-        Ok(terms)
+        Ok(())
     }
+}
+
+// The terms that a text says behind its first sign.
+pub(crate) fn terms_in(minus: bool, text: &[u8]) -> Expr
+    requires { length text.now ≤ 63 }
+    ensures { result ≡ record { items = spec.terms_of (spec.parts_after minus text.now) } }
+{
+    let mut terms = Expr::new();
+    let mut left = Some((minus, text));
+    'parts: while let Some((minus, text)) = left {
+        let (word, behind) = first_part(text);
+        if let AtomReading::Good(atom) = read_atom(word) {
+            terms.push(Term { minus, atom });
+        }
+        left = behind;
+    }
+    terms
 }
 
 // The first part of a text that is cut at its signs; and where a sign stands behind it, whether it
 // is a minus and what stands behind that.
-fn first_part(text: &[u8]) -> (&[u8], Option<(bool, &[u8])>)
+pub(crate) fn first_part(text: &[u8]) -> (&[u8], Option<(bool, &[u8])>)
     ensures parts { MatchOption result.1
         ((m : Bool) → spec.parts_after m text.now ≡ (m, result.0.now) ∷ [])
         (λ p. (m : Bool) → spec.parts_after m text.now

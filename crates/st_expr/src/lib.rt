@@ -5,9 +5,11 @@ mod expressions;
 mod names;
 mod system;
 mod terms;
+mod texts;
 mod values;
 
 pub use expressions::{Expr, read_expr};
 pub use names::{is_name, padded};
 pub use terms::{Atom, Term};
+pub use texts::ExprText;
 pub use values::{Symbols, value_of};

@@ -98,7 +98,7 @@ fn sum_of(terms: &[Term], symbols: &Symbols) -> Option<i64>
     }
 }
 
-fn term_value(term: Term, symbols: &Symbols) -> Option<i64>
+pub(crate) fn term_value(term: Term, symbols: &Symbols) -> Option<i64>
     ensures value { result ≡ spec.term_value symbols.now term }
     ensures low { IfSome result (λ n. (pos 0 -ℤ pos (2 ^ 32)) ≤ℤ n) }
     ensures high { IfSome result (λ n. n ≤ℤ pos (2 ^ 32)) }

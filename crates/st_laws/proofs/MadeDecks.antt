@@ -14,7 +14,7 @@ use Rattle.st_card.specs.Cards.{cards_of}
 use Rattle.st_text.specs.Bytes.{lf}
 use Rattle.st_strap.specs.Reading.{number_expr}
 use Rattle.st_strap.specs.Saying.{statement_of}
-use Rattle.st_strap.specs.declared.statement.Statement.{Statement}
+use Rattle.st_strap.specs.Statements.{Statement}
 use Rattle.st_strap.specs.declared.statement.Statement.TheVariants.{End}
 use Rattle.st_asm.specs.Assembly.{Assembly, with_defaults, together, assembly}
 use Rattle.st_asm.specs.Forming.{form_pass}

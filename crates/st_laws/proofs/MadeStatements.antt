@@ -13,7 +13,7 @@ use Rattle.st_strap.specs.Describing.{plain_form}
 use Rattle.st_strap.specs.Saying.{statement_of}
 use Rattle.st_strap.specs.Spots.{number_spot, AreOperands, progressive_form}
 use Rattle.st_strap.specs.declared.statement.Form.{Form as FieldForm}
-use Rattle.st_strap.specs.declared.statement.Statement.{Statement}
+use Rattle.st_strap.specs.Statements.{Statement}
 use Rattle.st_strap.specs.declared.statement.Statement.TheVariants.{Half, Branch, Vfl, Connect}
 use Rattle.st_strap.proofs.OperandCards.{load_value-read, add_value-read, load_word-read, add-read, store-read, add_one-read, connect-read, multiply-read, wait-read}
 use Rattle.st_asm.specs.Forming.{is_end}

@@ -22,7 +22,7 @@ use Rattle.st_strap.specs.Faults.{Wanted, an_index_word, an_address, a_plain_add
 use Rattle.st_strap.specs.declared.statement.Form.{Form}
 use Rattle.st_strap.specs.declared.operations.Operation.{Operation}
 use Rattle.st_strap.specs.declared.operations.Operation.TheVariants.{Half, Sum, Refill, Execute, Branch, Bare, Floating, Vfl, Connect, Move, BitBranch, IndBranch, StoreCounter, Transfer, Data, IndexWord, Synonym, SetLocation, Reserve, End}
-use Rattle.st_strap.specs.declared.statement.Statement.{Statement}
+use Rattle.st_strap.specs.Statements.{Statement}
 
 -- the first of the faults that fields may have
 abbrev pub first-of : Bool → Bool → Bool → Bool → Option Fault

@@ -26,9 +26,8 @@ use Rattle.st_strap.specs.Describing.{description_of, in_pieces, in_mode, number
 use Rattle.st_strap.specs.Forming.{description_in, behind_description, progressed, with_number, may_have_form, form_number, forms, unclosed, is_behind_groups}
 use Rattle.st_strap.specs.Reading.{front, index_part, index_field, index_fields, index_of, index_parts, spot, expression, plain_number, selected}
 use Rattle.st_strap.specs.Saying.{misnames, index_alone, spot_alone, expression_alone, number_alone, index_and_spot, index_and_list, operand, two_addresses, spot_and_number, address_and_number, two_addresses_and_number, index_word_parts, without_fields, with_fields, is_misnamed, formed, said, clean_statement_of, statement_of}
-use Rattle.st_strap.specs.declared.statement.Spot.{Spot}
+use Rattle.st_strap.specs.Statements.{Spot, Statement}
 use Rattle.st_strap.specs.declared.statement.Form.{Form}
-use Rattle.st_strap.specs.declared.statement.Statement.{Statement}
 use Rattle.st_strap.specs.declared.statement.Statement.TheVariants.{Half, Sum, Refill, Branch, Floating, Vfl, Connect, Move, BitBranch, IndBranch, StoreCounter, Transfer, Data, IndexWord, Synonym, SetLocation, Reserve, End}
 use Rattle.st_strap.specs.declared.descriptions.Mode.{Mode}
 use Rattle.st_strap.specs.declared.descriptions.Mode.TheVariants.{Field, Normalized, Unnormalized}

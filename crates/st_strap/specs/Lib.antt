@@ -1,3 +1,4 @@
+pub mod Statements
 pub mod Text
 pub mod Fields
 pub mod Table

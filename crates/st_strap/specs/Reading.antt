@@ -14,7 +14,7 @@ use Rattle.st_expr.specs.declared.terms.Term.{Term}
 use Rattle.st_expr.specs.declared.terms.Atom.TheVariants.{Number}
 use Rattle.st_strap.specs.Order.{earlier, both_of, mapped}
 use Rattle.st_strap.specs.Text.{begins_with, ends_with}
-use Rattle.st_strap.specs.declared.statement.Spot.{Spot}
+use Rattle.st_strap.specs.Statements.{Spot}
 
 -- where the last opening parenthesis of a text stands
 abbrev pub last_open : List ℕ → Option ℕ

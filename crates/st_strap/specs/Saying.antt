@@ -17,9 +17,8 @@ use Rattle.st_strap.specs.Reading.{index_field, spot, expression, plain_number, 
 use Rattle.st_strap.specs.declared.shapes.AddressAndNumber.{AddressAndNumber}
 use Rattle.st_strap.specs.declared.shapes.RefillAndFlags.{RefillAndFlags}
 use Rattle.st_strap.specs.declared.shapes.CountAndRefill.{CountAndRefill}
-use Rattle.st_strap.specs.declared.statement.Spot.{Spot}
+use Rattle.st_strap.specs.Statements.{Spot, Statement}
 use Rattle.st_strap.specs.declared.statement.Form.{Form}
-use Rattle.st_strap.specs.declared.statement.Statement.{Statement}
 use Rattle.st_strap.specs.declared.statement.Statement.TheVariants.{Half, Sum, Refill, Branch, Floating, Vfl, Connect, Move, BitBranch, IndBranch, StoreCounter, Transfer, Data, IndexWord, Synonym, SetLocation, Reserve, End}
 use Rattle.st_strap.specs.declared.operations.Operation.{Operation}
 use Rattle.st_strap.specs.declared.operations.Operation.TheVariants.{Half as HalfOperation, Sum as SumOperation, Refill as RefillOperation, Execute as ExecuteOperation, Branch as BranchOperation, Bare as BareOperation, Floating as FloatingOperation, Vfl as VflOperation, Connect as ConnectOperation, Move as MoveOperation, BitBranch as BitBranchOperation, IndBranch as IndBranchOperation, StoreCounter as StoreCounterOperation, Transfer as TransferOperation, Data as DataOperation, IndexWord as IndexWordOperation, Synonym as SynonymOperation, SetLocation as SetLocationOperation, Reserve as ReserveOperation, End as EndOperation}

@@ -3,7 +3,7 @@ use Rattle.std.specs.Prelude.{ℕ, ◌≤◌, ◌<◌, ◌^◌, true, false, Lis
 use Rattle.st_strap.specs.Reading.{number_expr}
 use Rattle.st_strap.specs.Describing.{plain_form}
 use Rattle.st_strap.specs.declared.statement.Form.{Form}
-use Rattle.st_strap.specs.declared.statement.Spot.{Spot}
+use Rattle.st_strap.specs.Statements.{Spot}
 
 -- an address that is a number, with an index word
 abbrev pub number_spot : ℕ → ℕ → Spot

@@ -8,9 +8,9 @@ ghost use Rattle.st_strap.specs.Reading as spec;
 
 use crate::field::Field;
 use crate::parts::{begins_with, ends_with};
-use crate::statement::Spot;
+use crate::statement::{CompactSpot, Spot};
 use st_card::Fault;
-use st_expr::{Expr, read_expr};
+use st_expr::ExprText;
 use st_text::{Reading, read_number, row_of};
 
 const INDEX_FIELDS: [(&[u8], u8); 16] = [
@@ -154,12 +154,12 @@ fn index_of(must: bool, part: &[u8]) -> Result<u8, Fault>
 
 // An address that may have, or must have, an index part.
 #[tactic(auto, unfolding(crate::specs::Reading::spot))]
-pub(crate) fn spot(must: bool, field: &[u8]) -> Result<Spot, Fault>
+pub(crate) fn spot(must: bool, field: &[u8]) -> Result<CompactSpot, Fault>
     requires { length field.now ≤ 63 }
     ensures { result ≡ spec.spot must field.now }
 {
     let (front, part) = split_index(field);
-    match both(read_expr(front), index_of(must, part)) {
+    match both(ExprText::read(front), index_of(must, part)) {
         Ok((expr, index)) => Ok(Spot { expr, index }),
         Err(fault) => Err(fault),
     }
@@ -180,12 +180,12 @@ fn unindexed<A: Drop>(part: &[u8], value: Result<A, Fault>) -> Result<A, Fault>
 
 // An address without an index part.
 #[tactic(auto, unfolding(crate::specs::Reading::expression))]
-pub(crate) fn expression(field: &[u8]) -> Result<Expr, Fault>
+pub(crate) fn expression(field: &[u8]) -> Result<ExprText, Fault>
     requires { length field.now ≤ 63 }
     ensures { result ≡ spec.expression field.now }
 {
     let (front, part) = split_index(field);
-    unindexed(part, read_expr(front))
+    unindexed(part, ExprText::read(front))
 }
 
 // A plain number below 2^64.

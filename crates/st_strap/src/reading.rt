@@ -17,7 +17,8 @@ use crate::saying::{
     say_floating, say_half, say_ind_branch, say_index_word, say_move, say_refill, say_reserve,
     say_set_location, say_store_counter, say_sum, say_synonym, say_transfer, say_vfl,
 };
-use crate::statement::{Form, Statement};
+use crate::statement::{CompactStatement, Form, Statement};
+use crate::terms::statement_terms;
 use st_card::Fault;
 use st_expr::is_name;
 
@@ -30,13 +31,22 @@ pub fn read_statement(name: &[u8], text: &[u8]) -> Result<Statement, Fault>
     requires { length text.now ≤ 63 }
     ensures { result ≡ spec.statement_of name.now text.now }
 {
+    let statement = read_compact(name, text)?;
+    Ok(statement_terms(statement))
+}
+
+/// The same, with the addresses kept as their texts.
+pub fn read_compact(name: &[u8], text: &[u8]) -> Result<CompactStatement, Fault>
+    requires { length text.now ≤ 63 }
+    ensures { result ≡ spec.statement_of name.now text.now }
+{
     let statement = clean(text);
     read_clean(name, statement.as_slice())
 }
 
 // The statement of a name and of a text without comment and blanks.
 #[tactic(auto, unfolding(crate::specs::Saying::clean_statement_of))]
-fn read_clean(name: &[u8], statement: &[u8]) -> Result<Statement, Fault>
+fn read_clean(name: &[u8], statement: &[u8]) -> Result<CompactStatement, Fault>
     requires { length statement.now ≤ 63 }
     ensures { result ≡ spec.clean_statement_of name.now statement.now }
 {
@@ -71,7 +81,7 @@ fn misnames(named: bool, op: Operation) -> bool
 
 // What an operation says with the text behind it.
 #[tactic(auto, unfolding(crate::specs::Saying::said))]
-fn say(op: Operation, text: &[u8]) -> Result<Statement, Fault>
+fn say(op: Operation, text: &[u8]) -> Result<CompactStatement, Fault>
     requires { length text.now ≤ 63 }
     ensures { result ≡ spec.said op text.now }
 {
@@ -93,7 +103,7 @@ fn description_in(op: Operation, group: &[u8]) -> Option<(Operation, Form)>
 
 // What an operation says with an allowed description and the text behind that.
 #[tactic(auto, unfolding(crate::specs::Saying::formed))]
-fn say_formed(op: Operation, form: Form, text: &[u8]) -> Result<Statement, Fault>
+fn say_formed(op: Operation, form: Form, text: &[u8]) -> Result<CompactStatement, Fault>
     requires { length text.now ≤ 63 }
     ensures { result ≡ spec.formed op form text.now }
 {
@@ -105,7 +115,7 @@ fn say_formed(op: Operation, form: Form, text: &[u8]) -> Result<Statement, Fault
 }
 
 // What an operation says with its form and the text of its fields.
-fn with_text(op: Operation, form: Form, text: &[u8]) -> Result<Statement, Fault>
+fn with_text(op: Operation, form: Form, text: &[u8]) -> Result<CompactStatement, Fault>
     requires { length text.now ≤ 63 }
     ensures { result ≡ spec.with_fields op form (fields_of text.now) }
 {
@@ -114,7 +124,7 @@ fn with_text(op: Operation, form: Form, text: &[u8]) -> Result<Statement, Fault>
 
 // What an operation says with its form and its fields.
 #[tactic(auto, unfolding(crate::specs::Saying::with_fields))]
-fn with_fields(op: Operation, form: Form, fields: &[Field]) -> Result<Statement, Fault>
+fn with_fields(op: Operation, form: Form, fields: &[Field]) -> Result<CompactStatement, Fault>
     ensures { result ≡ spec.with_fields op form (texts fields.now) }
 {
     match op {

@@ -12,14 +12,14 @@ use crate::shapes::{
     expression_alone, index_alone, index_and_list, index_and_spot, index_word_parts, number_alone,
     operand, spot_alone, spot_and_number, two_addresses, two_addresses_and_number, without_fields,
 };
-use crate::statement::{Form, Statement};
+use crate::statement::{CompactStatement, Form, Statement};
 use st_bits::{BranchOp, ConnKind, HalfOp, VflOp};
 use st_card::Fault;
 
 // What an operation on an index word says.
 #[inline(never)]
 #[tactic(auto, unfolding(crate::specs::Saying::with_fields))]
-pub(crate) fn say_half(op: HalfOp, fields: &[Field]) -> Result<Statement, Fault>
+pub(crate) fn say_half(op: HalfOp, fields: &[Field]) -> Result<CompactStatement, Fault>
     ensures { (form : FormOf) → result ≡ spec.with_fields (Operation.Half op) form (texts fields.now) }
 {
     let (j, at) = index_and_spot(fields)?;
@@ -29,7 +29,7 @@ pub(crate) fn say_half(op: HalfOp, fields: &[Field]) -> Result<Statement, Fault>
 // What LVS says.
 #[inline(never)]
 #[tactic(auto, unfolding(crate::specs::Saying::with_fields))]
-pub(crate) fn say_sum(fields: &[Field]) -> Result<Statement, Fault>
+pub(crate) fn say_sum(fields: &[Field]) -> Result<CompactStatement, Fault>
     ensures { (form : FormOf) → result ≡ spec.with_fields Operation.Sum form (texts fields.now) }
 {
     let (j, list) = index_and_list(fields)?;
@@ -39,7 +39,7 @@ pub(crate) fn say_sum(fields: &[Field]) -> Result<Statement, Fault>
 // What R says.
 #[inline(never)]
 #[tactic(auto, unfolding(crate::specs::Saying::with_fields))]
-pub(crate) fn say_refill(fields: &[Field]) -> Result<Statement, Fault>
+pub(crate) fn say_refill(fields: &[Field]) -> Result<CompactStatement, Fault>
     ensures { (form : FormOf) → result ≡ spec.with_fields Operation.Refill form (texts fields.now) }
 {
     Ok(Statement::Refill {
@@ -50,7 +50,7 @@ pub(crate) fn say_refill(fields: &[Field]) -> Result<Statement, Fault>
 // What EX says.
 #[inline(never)]
 #[tactic(auto, unfolding(crate::specs::Saying::with_fields))]
-pub(crate) fn say_execute(fields: &[Field]) -> Result<Statement, Fault>
+pub(crate) fn say_execute(fields: &[Field]) -> Result<CompactStatement, Fault>
     ensures { (form : FormOf) → result ≡ spec.with_fields Operation.Execute form (texts fields.now) }
 {
     Ok(Statement::Half {
@@ -63,7 +63,7 @@ pub(crate) fn say_execute(fields: &[Field]) -> Result<Statement, Fault>
 // What a branch says.
 #[inline(never)]
 #[tactic(auto, unfolding(crate::specs::Saying::with_fields))]
-pub(crate) fn say_branch(op: BranchOp, fields: &[Field]) -> Result<Statement, Fault>
+pub(crate) fn say_branch(op: BranchOp, fields: &[Field]) -> Result<CompactStatement, Fault>
     ensures { (form : FormOf) → result ≡ spec.with_fields (Operation.Branch op) form (texts fields.now) }
 {
     Ok(Statement::Branch {
@@ -75,7 +75,7 @@ pub(crate) fn say_branch(op: BranchOp, fields: &[Field]) -> Result<Statement, Fa
 // What an operation of the branch group without an address says.
 #[inline(never)]
 #[tactic(auto, unfolding(crate::specs::Saying::with_fields))]
-pub(crate) fn say_bare(op: BranchOp, fields: &[Field]) -> Result<Statement, Fault>
+pub(crate) fn say_bare(op: BranchOp, fields: &[Field]) -> Result<CompactStatement, Fault>
     ensures { (form : FormOf) → result ≡ spec.with_fields (Operation.Bare op) form (texts fields.now) }
 {
     without_fields(Statement::Branch { op, at: None }, fields)
@@ -84,7 +84,7 @@ pub(crate) fn say_bare(op: BranchOp, fields: &[Field]) -> Result<Statement, Faul
 // What an operation of the floating group says.
 #[inline(never)]
 #[tactic(auto, unfolding(crate::specs::Saying::with_fields))]
-pub(crate) fn say_floating(number: u8, fields: &[Field]) -> Result<Statement, Fault>
+pub(crate) fn say_floating(number: u8, fields: &[Field]) -> Result<CompactStatement, Fault>
     ensures { (form : FormOf) → result ≡ spec.with_fields (Operation.Floating number) form (texts fields.now) }
 {
     Ok(Statement::Floating {
@@ -101,7 +101,7 @@ pub(crate) fn say_vfl(
     negated: bool,
     form: Form,
     fields: &[Field],
-) -> Result<Statement, Fault>
+) -> Result<CompactStatement, Fault>
     ensures { result ≡ spec.with_fields (Operation.Vfl op negated) form (texts fields.now) }
 {
     let (at, offset) = operand(form, fields)?;
@@ -122,7 +122,7 @@ pub(crate) fn say_connect(
     table: u8,
     form: Form,
     fields: &[Field],
-) -> Result<Statement, Fault>
+) -> Result<CompactStatement, Fault>
     ensures { result ≡ spec.with_fields (Operation.Connect kind table) form (texts fields.now) }
 {
     let (at, offset) = operand(form, fields)?;
@@ -138,7 +138,7 @@ pub(crate) fn say_connect(
 // What T or SWAP says.
 #[inline(never)]
 #[tactic(auto, unfolding(crate::specs::Saying::with_fields))]
-pub(crate) fn say_move(swap: bool, fields: &[Field]) -> Result<Statement, Fault>
+pub(crate) fn say_move(swap: bool, fields: &[Field]) -> Result<CompactStatement, Fault>
     ensures { (form : FormOf) → result ≡ spec.with_fields (Operation.Move swap) form (texts fields.now) }
 {
     let (at, more) = two_addresses_and_number(fields)?;
@@ -153,7 +153,11 @@ pub(crate) fn say_move(swap: bool, fields: &[Field]) -> Result<Statement, Fault>
 // What a branch on a bit says.
 #[inline(never)]
 #[tactic(auto, unfolding(crate::specs::Saying::with_fields))]
-pub(crate) fn say_bit_branch(sense: bool, change: u8, fields: &[Field]) -> Result<Statement, Fault>
+pub(crate) fn say_bit_branch(
+    sense: bool,
+    change: u8,
+    fields: &[Field],
+) -> Result<CompactStatement, Fault>
     ensures { (form : FormOf) → result ≡ spec.with_fields (Operation.BitBranch sense change) form (texts fields.now) }
 {
     let (at, second) = two_addresses(fields)?;
@@ -168,7 +172,11 @@ pub(crate) fn say_bit_branch(sense: bool, change: u8, fields: &[Field]) -> Resul
 // What a branch on an indicator says.
 #[inline(never)]
 #[tactic(auto, unfolding(crate::specs::Saying::with_fields))]
-pub(crate) fn say_ind_branch(sense: bool, off: bool, fields: &[Field]) -> Result<Statement, Fault>
+pub(crate) fn say_ind_branch(
+    sense: bool,
+    off: bool,
+    fields: &[Field],
+) -> Result<CompactStatement, Fault>
     ensures { (form : FormOf) → result ≡ spec.with_fields (Operation.IndBranch sense off) form (texts fields.now) }
 {
     let (at, second) = two_addresses(fields)?;
@@ -183,7 +191,7 @@ pub(crate) fn say_ind_branch(sense: bool, off: bool, fields: &[Field]) -> Result
 // What SIC says.
 #[inline(never)]
 #[tactic(auto, unfolding(crate::specs::Saying::with_fields))]
-pub(crate) fn say_store_counter(fields: &[Field]) -> Result<Statement, Fault>
+pub(crate) fn say_store_counter(fields: &[Field]) -> Result<CompactStatement, Fault>
     ensures { (form : FormOf) → result ≡ spec.with_fields Operation.StoreCounter form (texts fields.now) }
 {
     let (at, second) = two_addresses(fields)?;
@@ -193,7 +201,7 @@ pub(crate) fn say_store_counter(fields: &[Field]) -> Result<Statement, Fault>
 // What RD or WR says.
 #[inline(never)]
 #[tactic(auto, unfolding(crate::specs::Saying::with_fields))]
-pub(crate) fn say_transfer(write: bool, fields: &[Field]) -> Result<Statement, Fault>
+pub(crate) fn say_transfer(write: bool, fields: &[Field]) -> Result<CompactStatement, Fault>
     ensures { (form : FormOf) → result ≡ spec.with_fields (Operation.Transfer write) form (texts fields.now) }
 {
     let (at, count) = spot_and_number(fields)?;
@@ -203,7 +211,7 @@ pub(crate) fn say_transfer(write: bool, fields: &[Field]) -> Result<Statement, F
 // What DD says.
 #[inline(never)]
 #[tactic(auto, unfolding(crate::specs::Saying::with_fields))]
-pub(crate) fn say_data(form: Form, fields: &[Field]) -> Result<Statement, Fault>
+pub(crate) fn say_data(form: Form, fields: &[Field]) -> Result<CompactStatement, Fault>
     ensures { result ≡ spec.with_fields Operation.Data form (texts fields.now) }
 {
     let (minus, number) = number_alone(fields)?;
@@ -217,7 +225,7 @@ pub(crate) fn say_data(form: Form, fields: &[Field]) -> Result<Statement, Fault>
 // What XW says.
 #[inline(never)]
 #[tactic(auto, unfolding(crate::specs::Saying::with_fields))]
-pub(crate) fn say_index_word(fields: &[Field]) -> Result<Statement, Fault>
+pub(crate) fn say_index_word(fields: &[Field]) -> Result<CompactStatement, Fault>
     ensures { (form : FormOf) → result ≡ spec.with_fields Operation.IndexWord form (texts fields.now) }
 {
     let (value, more) = index_word_parts(fields)?;
@@ -232,7 +240,7 @@ pub(crate) fn say_index_word(fields: &[Field]) -> Result<Statement, Fault>
 // What SYN says.
 #[inline(never)]
 #[tactic(auto, unfolding(crate::specs::Saying::with_fields))]
-pub(crate) fn say_synonym(fields: &[Field]) -> Result<Statement, Fault>
+pub(crate) fn say_synonym(fields: &[Field]) -> Result<CompactStatement, Fault>
     ensures { (form : FormOf) → result ≡ spec.with_fields Operation.Synonym form (texts fields.now) }
 {
     Ok(Statement::Synonym {
@@ -243,7 +251,7 @@ pub(crate) fn say_synonym(fields: &[Field]) -> Result<Statement, Fault>
 // What SLC says.
 #[inline(never)]
 #[tactic(auto, unfolding(crate::specs::Saying::with_fields))]
-pub(crate) fn say_set_location(fields: &[Field]) -> Result<Statement, Fault>
+pub(crate) fn say_set_location(fields: &[Field]) -> Result<CompactStatement, Fault>
     ensures { (form : FormOf) → result ≡ spec.with_fields Operation.SetLocation form (texts fields.now) }
 {
     Ok(Statement::SetLocation {
@@ -254,7 +262,7 @@ pub(crate) fn say_set_location(fields: &[Field]) -> Result<Statement, Fault>
 // What DR says.
 #[inline(never)]
 #[tactic(auto, unfolding(crate::specs::Saying::with_fields))]
-pub(crate) fn say_reserve(fields: &[Field]) -> Result<Statement, Fault>
+pub(crate) fn say_reserve(fields: &[Field]) -> Result<CompactStatement, Fault>
     ensures { (form : FormOf) → result ≡ spec.with_fields Operation.Reserve form (texts fields.now) }
 {
     Ok(Statement::Reserve {
@@ -265,7 +273,7 @@ pub(crate) fn say_reserve(fields: &[Field]) -> Result<Statement, Fault>
 // What END says.
 #[inline(never)]
 #[tactic(auto, unfolding(crate::specs::Saying::with_fields))]
-pub(crate) fn say_end(fields: &[Field]) -> Result<Statement, Fault>
+pub(crate) fn say_end(fields: &[Field]) -> Result<CompactStatement, Fault>
     ensures { (form : FormOf) → result ≡ spec.with_fields Operation.End form (texts fields.now) }
 {
     Ok(Statement::End {

@@ -6,21 +6,21 @@ ghost use Rattle.st_strap.specs.Saying as spec;
 
 use crate::field::Field;
 use crate::fields::{both, expression, index_field, plain_number, selected, signed_number, spot};
-use crate::statement::{Form, Spot, Statement};
+use crate::statement::{CompactSpot, CompactStatement, Form};
 use st_card::Fault;
-use st_expr::Expr;
+use st_expr::ExprText;
 
 // An address and a number.
 #[derive(Drop)]
 pub(crate) struct AddressAndNumber {
-    pub address: Expr,
+    pub address: ExprText,
     pub number: u64,
 }
 
 // A refill address and flags.
 #[derive(Drop)]
 pub(crate) struct RefillAndFlags {
-    pub refill: Expr,
+    pub refill: ExprText,
     pub flags: u64,
 }
 
@@ -28,7 +28,7 @@ pub(crate) struct RefillAndFlags {
 #[derive(Drop)]
 pub(crate) struct CountAndRefill {
     pub count: u64,
-    pub refill: Expr,
+    pub refill: ExprText,
     pub flags: u64,
 }
 
@@ -45,7 +45,7 @@ pub(crate) fn index_alone(fields: &[Field]) -> Result<u8, Fault>
 
 // One address that may have an index part.
 #[tactic(auto, unfolding(crate::specs::Saying::spot_alone))]
-pub(crate) fn spot_alone(fields: &[Field]) -> Result<Spot, Fault>
+pub(crate) fn spot_alone(fields: &[Field]) -> Result<CompactSpot, Fault>
     ensures { result ≡ spec.spot_alone (texts fields.now) }
 {
     match fields {
@@ -56,7 +56,7 @@ pub(crate) fn spot_alone(fields: &[Field]) -> Result<Spot, Fault>
 
 // One address without an index part.
 #[tactic(auto, unfolding(crate::specs::Saying::expression_alone))]
-pub(crate) fn expression_alone(fields: &[Field]) -> Result<Expr, Fault>
+pub(crate) fn expression_alone(fields: &[Field]) -> Result<ExprText, Fault>
     ensures { result ≡ spec.expression_alone (texts fields.now) }
 {
     match fields {
@@ -78,7 +78,7 @@ pub(crate) fn number_alone(fields: &[Field]) -> Result<(bool, u64), Fault>
 
 // An index word and an address.
 #[tactic(auto, unfolding(crate::specs::Saying::index_and_spot))]
-pub(crate) fn index_and_spot(fields: &[Field]) -> Result<(u8, Spot), Fault>
+pub(crate) fn index_and_spot(fields: &[Field]) -> Result<(u8, CompactSpot), Fault>
     ensures { result ≡ spec.index_and_spot (texts fields.now) }
 {
     match fields {
@@ -102,7 +102,7 @@ pub(crate) fn index_and_list(fields: &[Field]) -> Result<(u8, u16), Fault>
 
 // The address of a field and an offset or none.
 #[tactic(auto, unfolding(crate::specs::Saying::operand))]
-pub(crate) fn operand(form: Form, fields: &[Field]) -> Result<(Spot, u64), Fault>
+pub(crate) fn operand(form: Form, fields: &[Field]) -> Result<(CompactSpot, u64), Fault>
     ensures { result ≡ spec.operand form (texts fields.now) }
 {
     match fields {
@@ -114,7 +114,7 @@ pub(crate) fn operand(form: Form, fields: &[Field]) -> Result<(Spot, u64), Fault
 
 // An address and a second one.
 #[tactic(auto, unfolding(crate::specs::Saying::two_addresses))]
-pub(crate) fn two_addresses(fields: &[Field]) -> Result<(Spot, Expr), Fault>
+pub(crate) fn two_addresses(fields: &[Field]) -> Result<(CompactSpot, ExprText), Fault>
     ensures { result ≡ spec.two_addresses (texts fields.now) }
 {
     match fields {
@@ -125,7 +125,7 @@ pub(crate) fn two_addresses(fields: &[Field]) -> Result<(Spot, Expr), Fault>
 
 // An address and a number.
 #[tactic(auto, unfolding(crate::specs::Saying::spot_and_number))]
-pub(crate) fn spot_and_number(fields: &[Field]) -> Result<(Spot, u64), Fault>
+pub(crate) fn spot_and_number(fields: &[Field]) -> Result<(CompactSpot, u64), Fault>
     ensures { result ≡ spec.spot_and_number (texts fields.now) }
 {
     match fields {
@@ -136,7 +136,7 @@ pub(crate) fn spot_and_number(fields: &[Field]) -> Result<(Spot, u64), Fault>
 
 // An address and a number that were read.
 fn address_with_number(
-    address: Result<Expr, Fault>,
+    address: Result<ExprText, Fault>,
     number: Result<u64, Fault>,
 ) -> Result<AddressAndNumber, Fault>
     ensures { result ≡ spec.address_with_number address number }
@@ -160,7 +160,9 @@ fn address_and_number(fields: &[Field]) -> Result<AddressAndNumber, Fault>
 
 // Two addresses and a number.
 #[tactic(auto, unfolding(crate::specs::Saying::two_addresses_and_number))]
-pub(crate) fn two_addresses_and_number(fields: &[Field]) -> Result<(Spot, AddressAndNumber), Fault>
+pub(crate) fn two_addresses_and_number(
+    fields: &[Field],
+) -> Result<(CompactSpot, AddressAndNumber), Fault>
     ensures { result ≡ spec.two_addresses_and_number (texts fields.now) }
 {
     match fields {
@@ -171,7 +173,7 @@ pub(crate) fn two_addresses_and_number(fields: &[Field]) -> Result<(Spot, Addres
 
 // A refill address and flags that were read.
 fn refill_with_flags(
-    refill: Result<Expr, Fault>,
+    refill: Result<ExprText, Fault>,
     flags: Result<u64, Fault>,
 ) -> Result<RefillAndFlags, Fault>
     ensures { result ≡ spec.refill_with_flags refill flags }
@@ -224,7 +226,7 @@ fn count_and_refill(fields: &[Field]) -> Result<CountAndRefill, Fault>
 
 // The parts of an index word.
 #[tactic(auto, unfolding(crate::specs::Saying::index_word_parts))]
-pub(crate) fn index_word_parts(fields: &[Field]) -> Result<(Expr, CountAndRefill), Fault>
+pub(crate) fn index_word_parts(fields: &[Field]) -> Result<(ExprText, CountAndRefill), Fault>
     ensures { result ≡ spec.index_word_parts (texts fields.now) }
 {
     match fields {
@@ -235,7 +237,10 @@ pub(crate) fn index_word_parts(fields: &[Field]) -> Result<(Expr, CountAndRefill
 
 // A statement without fields.
 #[tactic(auto, unfolding(crate::specs::Saying::without_fields))]
-pub(crate) fn without_fields(statement: Statement, fields: &[Field]) -> Result<Statement, Fault>
+pub(crate) fn without_fields(
+    statement: CompactStatement,
+    fields: &[Field],
+) -> Result<CompactStatement, Fault>
     ensures { result ≡ spec.without_fields statement (texts fields.now) }
 {
     if fields.is_empty() {

@@ -1,14 +1,12 @@
-use Rattle.std.proofs.Common.{◌≡◌, ◌≤◌, ◌+◌, ◌*◌, ◌++◌, ◌||◌, length}
-use Rattle.st_expr.specs.Expression.{parts_after, any_bad, any_large, terms_of}
+use Rattle.std.proofs.Common.{◌≡◌, ◌||◌}
+use Rattle.st_expr.specs.Expression.{parts_after, any_bad, any_large}
 use Rattle.st_expr.proofs.ExprLemmas.{parts_left, length_left}
-use Rattle.st_expr.proofs.expressions.read_parts.Given as goal
+use Rattle.st_expr.proofs.expressions.check_parts.Given as goal
 
 abbrev pub invariant-parts : goal.invariant-parts
 invariant-parts l = record {
   none_bad : any_bad (parts_left l.left) ≡ any_bad (parts_after l.fn.minus l.fn.text);
   same_large : (l.large || any_large (parts_left l.left)) ≡ any_large (parts_after l.fn.minus l.fn.text);
-  same_terms : l.terms.items ++ terms_of (parts_left l.left) ≡ terms_of (parts_after l.fn.minus l.fn.text);
-  room : 2 * length l.terms.items + length_left l.left ≤ 64;
 }
 
 abbrev pub decreases-parts : goal.decreases-parts

@@ -1,0 +1,109 @@
+//! Expressions that are kept as their texts.
+
+ghost use Rattle.std.specs.Prelude.{◌≡◌, ◌+◌, ◌≤◌, ◌*◌, ◌^◌, ℕ, ℤ, pos, ◌-ℤ◌, ◌≤ℤ◌, Bool, List, ◌∷◌, length, take, IfSome};
+ghost use Rattle.arrayvec.specs.ArrayVec.{ArrayVec as ListOf};
+ghost use Rattle.st_expr.specs.Expression as spec;
+ghost use Rattle.st_expr.specs.Value.{plus, sum_of as sum_by};
+ghost use Rattle.st_expr.specs.declared.terms.Term.{Term as TermOf};
+
+use crate::expressions::{Expr, behind_sign, check_parts, first_part, terms_in};
+use crate::terms::{AtomReading, Term, read_atom};
+use crate::values::{Symbols, term_value};
+use st_card::Fault;
+use std::marker::Model;
+
+/// An expression that is kept as its text, in less room than its terms take. They are read again where they are asked for.
+#[derive(Drop, Debug)]
+pub struct ExprText {
+    // How many bytes the text has.
+    length: u8,
+    // The text, and what stands behind it.
+    bytes: [u8; 63],
+}
+
+impl Model for ExprText {
+    ghost Value = { ListOf TermOf };
+
+    ghost view = { λ e. record { items = spec.terms_of (spec.parts (take e.length e.bytes)) } };
+
+    ghost invariant = { λ e. e.length ≤ 63 };
+}
+
+impl ExprText {
+    /// The expression that a text of at most 63 bytes says, by the rules of `read_expr`.
+    pub fn read(text: &[u8]) -> Result<ExprText, Fault>
+        requires { length text.now ≤ 63 }
+        ensures { result ≡ spec.expr_of text.now }
+    {
+        let (minus, rest) = behind_sign(text);
+        check_parts(minus, rest)?;
+        Ok(ExprText::new(text))
+    }
+
+    // The expression that a text says, whose parts were found to be good.
+    fn new(text: &[u8]) -> ExprText
+        requires { length text.now ≤ 63 }
+        ensures { result ≡ record { items = spec.terms_of (spec.parts text.now) } }
+    {
+        let mut bytes = [0; 63];
+        bytes[..text.len()].copy_from_slice(text);
+        ExprText {
+            length: text.len() as u8,
+            bytes,
+        }
+    }
+
+    // The text.
+    fn text(&self) -> &[u8]
+        ensures terms { record { items = spec.terms_of (spec.parts result.now) } ≡ self.now }
+        ensures short { length result.now ≤ 63 }
+    {
+        &self.bytes[..usize::from(self.length)]
+    }
+
+    /// The same expression as its terms.
+    pub fn terms(&self) -> Expr
+        ensures { result ≡ self.now }
+    {
+        let (minus, text) = behind_sign(self.text());
+        terms_in(minus, text)
+    }
+
+    /// Its value, as `value_of` gives it of its terms; `None` where a name is not defined.
+    pub fn value(&self, symbols: &Symbols) -> Option<i64>
+        ensures { result ≡ sum_by symbols.now self.now.items }
+    {
+        let (minus, text) = behind_sign(self.text());
+        sum_of(minus, text, symbols)
+    }
+}
+
+// The value of the terms that a text says behind a sign.
+fn sum_of(minus: bool, text: &[u8], symbols: &Symbols) -> Option<i64>
+    requires { length text.now ≤ 63 }
+    ensures value { result ≡ sum_by symbols.now (spec.terms_of (spec.parts_after minus text.now)) }
+    ensures low { IfSome result (λ n. (pos 0 -ℤ pos ((length text.now + 1) * 2 ^ 32)) ≤ℤ n) }
+    ensures high { IfSome result (λ n. n ≤ℤ pos ((length text.now + 1) * 2 ^ 32)) }
+{
+    match first_part(text) {
+        (word, None) => part_value(minus, word, symbols),
+        (word, Some((next, rest))) => {
+            let value = part_value(minus, word, symbols)?;
+            let sum = sum_of(next, rest, symbols)?;
+            Some(value + sum)
+        }
+    }
+}
+
+// The value of the term that a part says; a part that says none adds nothing.
+fn part_value(minus: bool, word: &[u8], symbols: &Symbols) -> Option<i64>
+    ensures value { (parts : List (Bool × List ℕ)) → plus result (sum_by symbols.now (spec.terms_of parts))
+        ≡ sum_by symbols.now (spec.terms_of ((minus, word.now) ∷ parts)) }
+    ensures low { IfSome result (λ n. (pos 0 -ℤ pos (2 ^ 32)) ≤ℤ n) }
+    ensures high { IfSome result (λ n. n ≤ℤ pos (2 ^ 32)) }
+{
+    match read_atom(word) {
+        AtomReading::Good(atom) => term_value(Term { minus, atom }, symbols),
+        AtomReading::Bad | AtomReading::Large => Some(0),
+    }
+}

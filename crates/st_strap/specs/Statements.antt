@@ -1,0 +1,13 @@
+-- Statements whose addresses are lists of terms, in whatever form a program keeps them.
+use Rattle.arrayvec.specs.ArrayVec.{ArrayVec}
+use Rattle.st_expr.specs.declared.terms.Term.{Term}
+use Rattle.st_strap.specs.declared.statement.Spot.{Spot as SpotOf}
+use Rattle.st_strap.specs.declared.statement.Statement.{Statement as StatementOf}
+
+-- an address, and the index word that changes it
+abbrev pub Spot : Type 0
+Spot = SpotOf (ArrayVec Term)
+
+-- a statement
+abbrev pub Statement : Type 0
+Statement = StatementOf (ArrayVec Term)

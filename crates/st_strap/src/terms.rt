@@ -1,0 +1,131 @@
+//! A statement whose addresses are lists of terms.
+
+ghost use Rattle.std.specs.Prelude.{◌≡◌};
+
+use crate::statement::{CompactSpot, CompactStatement, Spot, Statement};
+
+// The same statement.
+pub(crate) fn statement_terms(statement: CompactStatement) -> Statement
+    ensures { result ≡ statement }
+{
+    match statement {
+        Statement::Half { op, j, at } => Statement::Half {
+            op,
+            j,
+            at: spot_terms(at),
+        },
+        Statement::Sum { j, list } => Statement::Sum { j, list },
+        Statement::Refill { j } => Statement::Refill { j },
+        Statement::Branch { op, at: None } => Statement::Branch { op, at: None },
+        Statement::Branch { op, at: Some(at) } => Statement::Branch {
+            op,
+            at: Some(spot_terms(at)),
+        },
+        Statement::Floating { number, at } => Statement::Floating {
+            number,
+            at: spot_terms(at),
+        },
+        Statement::Vfl {
+            op,
+            negated,
+            form,
+            at,
+            offset,
+        } => Statement::Vfl {
+            op,
+            negated,
+            form,
+            at: spot_terms(at),
+            offset,
+        },
+        Statement::Connect {
+            kind,
+            table,
+            form,
+            at,
+            offset,
+        } => Statement::Connect {
+            kind,
+            table,
+            form,
+            at: spot_terms(at),
+            offset,
+        },
+        Statement::Move {
+            swap,
+            at,
+            second,
+            count,
+        } => Statement::Move {
+            swap,
+            at: spot_terms(at),
+            second: second.terms(),
+            count,
+        },
+        Statement::BitBranch {
+            sense,
+            change,
+            at,
+            second,
+        } => Statement::BitBranch {
+            sense,
+            change,
+            at: spot_terms(at),
+            second: second.terms(),
+        },
+        Statement::IndBranch {
+            sense,
+            off,
+            at,
+            second,
+        } => Statement::IndBranch {
+            sense,
+            off,
+            at: spot_terms(at),
+            second: second.terms(),
+        },
+        Statement::StoreCounter { at, second } => Statement::StoreCounter {
+            at: spot_terms(at),
+            second: second.terms(),
+        },
+        Statement::Transfer { write, at, count } => Statement::Transfer {
+            write,
+            at: spot_terms(at),
+            count,
+        },
+        Statement::Data {
+            form,
+            minus,
+            number,
+        } => Statement::Data {
+            form,
+            minus,
+            number,
+        },
+        Statement::IndexWord {
+            value,
+            count,
+            refill,
+            flags,
+        } => Statement::IndexWord {
+            value: value.terms(),
+            count,
+            refill: refill.terms(),
+            flags,
+        },
+        Statement::Synonym { at } => Statement::Synonym { at: at.terms() },
+        Statement::SetLocation { at } => Statement::SetLocation { at: at.terms() },
+        Statement::Reserve { at } => Statement::Reserve { at: at.terms() },
+        Statement::End { at } => Statement::End { at: at.terms() },
+    }
+}
+
+// The same address.
+fn spot_terms(at: CompactSpot) -> Spot
+    ensures { result ≡ at }
+{
+    Spot {
+        expr: at.expr.terms(),
+        index: at.index,
+    }
+}
