@@ -1,5 +1,5 @@
 -- The reads that are made for an entry, in their order, and what they make of the bus.
-use Rattle.std.specs.Prelude.{ℕ, zero, suc, ◌+◌, max, Bool, true, false, nat_lt, if◌then◌else◌, List, [], ◌∷◌, ◌++◌, Option, None, Some}
+use Rattle.std.specs.Prelude.{ℕ, zero, suc, ◌+◌, max, Bool, true, false, nat_lt, if◌then◌else◌, List, [], ◌∷◌, ◌++◌, Option, None, Some, is_none}
 use Rattle.st_bits.specs.Storage.{words_of_storage}
 use Rattle.st_fetch.specs.Planned.{tick_of}
 use Rattle.st_rows.specs.BusTimes.{accept_at, after_read, requested_if}
@@ -15,6 +15,10 @@ pub record Read : Type 0 where
   pub w : ℕ
   pub want : ℕ
   pub fetch : Bool
+
+-- the word w is not held
+abbrev pub is_unheld : Bus → ℕ → Bool
+is_unheld b w = is_none (tick_of b.held.words w)
 
 -- an instruction word, given the tick of its answer if it is held: then no read is made
 abbrev pub word_asked : Option ℕ → ℕ → ℕ → List Read
