@@ -1,8 +1,9 @@
 //! What runs ahead goes on by one tick: the next entry is known further, becomes a level when it is prepared, and a read is made.
 ghost use Rattle.std.specs.Prelude.{◌≡◌, ℕ, ◌+◌, ◌<◌, ◌≤◌, ◌^◌, true, Option, None, List, [], ◌++◌, length};
-ghost use Rattle.st_rows.specs.Asked.{following_asked};
+ghost use Rattle.st_rows.specs.Asked.{following_asked, are_following_asked};
 ghost use Rattle.st_rows.specs.Ranges.{IsEntry};
 ghost use Rattle.st_rows.specs.Rows.{wanted_from};
+ghost use Rattle.st_rows.specs.declared.bus.Bus.{Bus as BusOf};
 ghost use Rattle.st_rows.specs.declared.front.Front.{Front as FrontOf};
 ghost use Rattle.st_port.specs.Parts.{runs_asked};
 
@@ -14,7 +15,7 @@ use st_banks::Delays;
 use st_next::{Next, Outlook};
 use st_port::Port;
 use st_prep::{Place, Prepared};
-use st_rows::{Bus, Entry, LastEntries, completions_are_bounded, rows_are_in_order};
+use st_rows::{Entry, LastEntries, completions_are_bounded, rows_are_in_order};
 use st_segment::guesses_leave_the_rest;
 use st_state::State;
 
@@ -90,13 +91,7 @@ impl<const N: usize> Look<N> {
         completions_are_bounded();
         delays.shape();
         let _few = self.levels.len();
-        ask_data(
-            &mut self.port,
-            &self.front.past,
-            &self.next.entry,
-            &self.next.words.bus,
-            now,
-        );
+        self.port.ask_operands(&self.front.past, self.next.entry.reads, now);
         self.next.prepare(self.levels.index(), state);
         let filled = self.front.fill(
             delays,
@@ -105,6 +100,7 @@ impl<const N: usize> Look<N> {
             self.next.formed,
             &mut self.next.words,
         );
+        self.port.ask_following(filled.following, &self.next.entry, now);
         self.levels
             .push(&self.next.prepared, &self.front, &filled, state);
         self.front
@@ -153,17 +149,18 @@ impl<const N: usize> Look<N> {
 }
 
 // Asks for the operands and the following words of an entry that is prepared at the tick `now`, where no read is left to be made;
-// `bus` is the one after its index-side word.
-fn ask_data(port: &mut Port, past: &LastEntries, entry: &Entry, bus: &Bus, now: u64)
+// `following` says which of the two following words are asked for.
+fn ask_data(port: &mut Port, past: &LastEntries, entry: &Entry, following: [bool; 2], now: u64)
     requires entry { IsEntry entry.now }
     requires made { port.old.reads ≡ [] }
-    ensures reads { (ds : List ℕ) → port.new.reads ≡ port.old.reads
-        ++ (runs_asked past.now entry.now.reads now ++ following_asked ds bus.now entry.now now) }
+    ensures reads { (ds : List ℕ) (b : BusOf) → following ≡ are_following_asked ds b entry.now now →
+        port.new.reads ≡ port.old.reads
+        ++ (runs_asked past.now entry.now.reads now ++ following_asked ds b entry.now now) }
     ensures bus { port.new.bus ≡ port.old.bus }
     ensures few { length port.new.reads ≤ 34 }
 {
     port.ask_operands(past, entry.reads, now);
-    port.ask_following(bus, entry, now);
+    port.ask_following(following, entry, now);
 }
 
 // The place behind an entry, by the counter that it is guessed to leave.

@@ -50,6 +50,10 @@ operands_asked past p w (suc n) = data_asked past w p ++ operands_asked past p (
 abbrev pub inside_asked : Bus → ℕ → ℕ → List Read
 inside_asked b w p = if nat_lt w words_of_storage then word_asked (tick_of b.held.words w) w p else []
 
+-- whether one of them is asked for
+abbrev pub is_inside_asked : Bus → ℕ → Bool
+is_inside_asked b w = if nat_lt w words_of_storage then is_unheld b w else false
+
 -- both of them, where the entry has following words
 unfoldable pub following_asked : List ℕ → Bus → Entry → ℕ → List Read
 following_asked ds b e p =
@@ -57,6 +61,15 @@ following_asked ds b e p =
     then inside_asked b (e.own.first + e.own.len) p
     ++ inside_asked (request_inside ds b (e.own.first + e.own.len) p) (e.own.first + e.own.len + 1) p
     else []
+
+-- whether each of them is asked for
+unfoldable pub are_following_asked : List ℕ → Bus → Entry → ℕ → List Bool
+are_following_asked ds b e p =
+    if e.follows
+    then is_inside_asked b (e.own.first + e.own.len)
+    ∷ is_inside_asked (request_inside ds b (e.own.first + e.own.len) p) (e.own.first + e.own.len + 1)
+    ∷ []
+    else false ∷ false ∷ []
 
 -- the instruction words of the entry e behind the front f
 unfoldable pub fetches_asked : List ℕ → Front → Entry → List Read

@@ -1,4 +1,4 @@
-use Rattle.std.proofs.Common.{ap, sym, ◌∙◌, arith}
+use Rattle.std.proofs.Common.{ap, sym, ◌∙◌}
 use Rattle.st_rows.specs.Entries.{latest_done}
 use Rattle.st_rows.proofs.Writers.{all-left, none-left}
 use Rattle.st_rows.proofs.past.LastEntries.latest_done.Goals as goal
