@@ -1,9 +1,7 @@
 //! What runs ahead goes on by one tick: the next entry is known further, becomes a level when it is prepared, and a read is made.
 ghost use Rattle.std.specs.Prelude.{◌≡◌, ℕ, ◌+◌, ◌<◌, ◌≤◌, ◌^◌, true, Option, None, List, [], ◌++◌, length};
-ghost use Rattle.st_rows.specs.Asked.{following_asked, are_following_asked};
 ghost use Rattle.st_rows.specs.Ranges.{IsEntry};
 ghost use Rattle.st_rows.specs.Rows.{wanted_from};
-ghost use Rattle.st_rows.specs.declared.bus.Bus.{Bus as BusOf};
 ghost use Rattle.st_rows.specs.declared.front.Front.{Front as FrontOf};
 ghost use Rattle.st_port.specs.Parts.{runs_asked};
 
@@ -91,7 +89,7 @@ impl<const N: usize> Look<N> {
         completions_are_bounded();
         delays.shape();
         let _few = self.levels.len();
-        self.port.ask_operands(&self.front.past, self.next.entry.reads, now);
+        ask_operands(&mut self.port, &self.front.past, &self.next.entry, now);
         self.next.prepare(self.levels.index(), state);
         let filled = self.front.fill(
             delays,
@@ -100,7 +98,8 @@ impl<const N: usize> Look<N> {
             self.next.formed,
             &mut self.next.words,
         );
-        self.port.ask_following(filled.following, &self.next.entry, now);
+        self.port
+            .ask_following(filled.following, &self.next.entry, now);
         self.levels
             .push(&self.next.prepared, &self.front, &filled, state);
         self.front
@@ -148,19 +147,15 @@ impl<const N: usize> Look<N> {
     }
 }
 
-// Asks for the operands and the following words of an entry that is prepared at the tick `now`, where no read is left to be made;
-// `following` says which of the two following words are asked for.
-fn ask_data(port: &mut Port, past: &LastEntries, entry: &Entry, following: [bool; 2], now: u64)
+// Asks for the operands of an entry that is prepared at the tick `now`, where no read is left to be made.
+fn ask_operands(port: &mut Port, past: &LastEntries, entry: &Entry, now: u64)
     requires entry { IsEntry entry.now }
     requires made { port.old.reads ≡ [] }
-    ensures reads { (ds : List ℕ) (b : BusOf) → following ≡ are_following_asked ds b entry.now now →
-        port.new.reads ≡ port.old.reads
-        ++ (runs_asked past.now entry.now.reads now ++ following_asked ds b entry.now now) }
+    ensures reads { port.new.reads ≡ port.old.reads ++ runs_asked past.now entry.now.reads now }
     ensures bus { port.new.bus ≡ port.old.bus }
-    ensures few { length port.new.reads ≤ 34 }
+    ensures few { length port.new.reads ≤ 32 }
 {
     port.ask_operands(past, entry.reads, now);
-    port.ask_following(following, entry, now);
 }
 
 // The place behind an entry, by the counter that it is guessed to leave.
