@@ -1,18 +1,16 @@
 -- What runs ahead once the next entry is a level.
-use Rattle.std.specs.Prelude.{All, if◌then◌else◌, nat_lt, ◌==◌}
-use Rattle.std.proofs.Common.{◌≡◌, ℕ, zero, suc, ◌+◌, ◌≤◌, ◌||◌, max, Bool, true, false, not, List, [], ◌∷◌, ◌++◌, length-append, append_assoc, length, Option, None, Some, refl, sym, subst, ◌∙◌, ap, arith}
+use Rattle.std.specs.Prelude.{All, if◌then◌else◌, ◌==◌}
+use Rattle.std.proofs.Common.{◌≡◌, ℕ, zero, suc, ◌+◌, ◌≤◌, ◌||◌, max, Bool, true, false, not, List, [], ◌∷◌, ◌++◌, length-append, append_assoc, length, Option, None, refl, sym, subst, ◌∙◌, ap, arith}
 use Rattle.std.proofs.lemmas.List.{append-nil}
 use Rattle.std.proofs.lemmas.List.Elements.{All-append, All-weaker, All-cons, All-nil}
 use Rattle.st_state.specs.Machine.{Machine}
-use Rattle.st_bits.specs.Storage.{words_of_storage}
-use Rattle.st_fetch.specs.Planned.{tick_of}
 use Rattle.st_prep.specs.Fetch.{place_of}
 use Rattle.st_prep.specs.Plan.{plan}
 use Rattle.st_prep.specs.declared.entries.Prepared.{Prepared}
 use Rattle.st_prep.proofs.GivenLemmas.{differs}
 use Rattle.st_rows.specs.Asked.{Read, asked, following_asked, are_following_asked, operands_asked}
 use Rattle.st_rows.specs.Ranges.{IsTight, IsNear}
-use Rattle.st_rows.specs.Rows.{after, operands, request_inside, is_forwarded, wanted_from, bus_a, tick_p}
+use Rattle.st_rows.specs.Rows.{after, operands, is_forwarded, wanted_from, tick_p}
 use Rattle.st_rows.specs.declared.bus.Bus.{Bus}
 use Rattle.st_rows.specs.declared.entry.Entry.{Entry}
 use Rattle.st_rows.specs.declared.entry.Runs.{Runs}
