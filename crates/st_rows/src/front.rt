@@ -29,7 +29,7 @@ pub struct Row {
 }
 
 /// What the row of the next entry is computed from.
-#[derive(Clone, Copy, Debug, Default, PartialEq, Eq)]
+#[derive(Debug, Default, Drop)]
 pub struct Front {
     /// The bus after the reads of the entries so far.
     pub bus: Bus,

@@ -1,8 +1,23 @@
-use Rattle.std.proofs.Common.{arith}
-use Rattle.st_rows.proofs.Shifted.{bit-is, bits-shifted}
+use Rattle.std.proofs.Common.{◌≡◌, ◌∷◌, List, length, take, length-set, ap, ◌∙◌, arith}
+use Rattle.st_rows.specs.declared.past.Past.{Past}
+use Rattle.st_rows.specs.Rotated.{rotated}
+use Rattle.st_rows.proofs.Shifted.{bit-is, bits-shifted, length-rotated, rotated-put}
 use Rattle.st_rows.proofs.past.LastEntries.put.Goals as goal
 
 pub invariant_of-self : goal.invariant_of-self
 invariant_of-self c =
-    rw (c.from.ensures, bit-is c.any.result, c.any.ensures, c.put_newest.ensures, c.self.invariant)
-    (bits-shifted c.args.newest c.self.inside.entries (omega arith))
+    let q = c.self.inside in
+    let is = c.self.invariant in
+    record {
+      inside = omega arith;
+      whole = length-set q.entries _ c.args.newest ∙ is.whole;
+      writers =
+          rw (c.from.ensures, bit-is c.any.result, c.any.ensures, is.writers, rotated-put q.head q.entries c.args.newest is.inside is.whole)
+          (bits-shifted c.args.newest (rotated q.head q.entries) (length-rotated q.head q.entries is.inside is.whole));
+    }
+
+pub returns : goal.returns
+returns c =
+    let q = c.self.inside in
+    rotated-put q.head q.entries c.args.newest c.self.invariant.inside c.self.invariant.whole
+    ∙ ap (λ (past : List Past). c.args.newest ∷ take 7 past) c.self.view_is
