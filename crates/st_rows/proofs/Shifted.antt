@@ -1,12 +1,9 @@
 -- The last eight entries in a ring, and what one more makes of them.
 use Rattle.std.specs.Prelude.{Bool, if◌then◌else◌, slice_set}
-use Rattle.std.proofs.Common.{◌≡◌, ℕ, zero, suc, ◌+◌, ◌-◌, ◌*◌, ◌%◌, ◌<◌, ◌≤◌, true, false, List, [], ◌∷◌, ◌++◌, length, get_or, take, drop, refl, ap, ◌∙◌, arith, length-append, length-drop, length-take-le, get_or-drop, get_or-take, inl, inr}
-use Rattle.std.proofs.lemmas.List.{get_or_append_left, get_or-append_right}
-use Rattle.std.proofs.lemmas.Bool.{cases_lt}
+use Rattle.std.proofs.Common.{◌≡◌, ℕ, zero, suc, ◌+◌, ◌-◌, ◌*◌, ◌%◌, ◌<◌, ◌≤◌, true, false, List, [], ◌∷◌, length, take, refl, arith}
 use mir.Val.{bool_byte}
-use Rattle.st_rows.specs.Rotated.{rotated}
-use Rattle.st_rows.proofs.Writers.{nth}
-use Rattle.st_rows.specs.Entries.{no_words, has_words, writer_bits}
+use Rattle.st_fetch.specs.Queue.{window}
+use Rattle.st_rows.specs.Entries.{has_words, writer_bits}
 use Rattle.st_rows.specs.declared.past.Past.{Past}
 
 -- a list of eight entries, by its entries
@@ -35,30 +32,13 @@ below_eight P a b c d e f g h (suc (suc (suc (suc (suc (suc zero)))))) below = g
 below_eight P a b c d e f g h (suc (suc (suc (suc (suc (suc (suc zero))))))) below = h
 below_eight P a b c d e f g h (suc (suc (suc (suc (suc (suc (suc (suc n)))))))) below = absurd (omega arith)
 
--- ---- a ring of eight
-
-module _ (head : ℕ) (xs : List Past) (inside : head < 8) (eight : length xs ≡ 8) where
-  pub length-rotated : length (rotated head xs) ≡ 8
-  length-rotated = simp (length-append, length-drop) (omega (arith, length-take-le head xs (omega arith)))
-
-  -- entry i stands i places behind the head, around the end
-  pub nth-rotated : (i : ℕ) → i < 8 → nth (rotated head xs) i ≡ nth xs ((head + i) % 8)
-  nth-rotated i below =
-      let none : Past = record { c = 0; writes = no_words } in
-      let length_tail = length-drop head xs in
-      elim (cases_lt (head + i) 8) [
-        | inl low ↦ get_or_append_left _ _ none i (omega arith) ∙ get_or-drop head xs i none ∙ ap (λ j. get_or xs j none) (omega arith)
-        | inr high ↦ get_or-append_right _ _ (8 - head) i none (omega arith) (omega arith) ∙ get_or-take head xs _ none (omega arith)
-            ∙ ap (λ j. get_or xs j none) (omega arith)
-      ]
-
 -- the newest entry takes the place before the head, that of the oldest one
-pub rotated-put : (head : ℕ) (xs : List Past) (newest : Past) → head < 8 → length xs ≡ 8
-    → rotated ((head + 8 - 1) % 8) (slice_set xs ((head + 8 - 1) % 8) newest) ≡ newest ∷ take 7 (rotated head xs)
-rotated-put head xs newest inside eight =
-    of_eight (λ ys. rotated ((head + 8 - 1) % 8) (slice_set ys ((head + 8 - 1) % 8) newest) ≡ newest ∷ take 7 (rotated head ys))
+pub window-put : (head : ℕ) (xs : List Past) (newest : Past) → head < 8 → length xs ≡ 8
+    → window ((head + 8 - 1) % 8) 8 (slice_set xs ((head + 8 - 1) % 8) newest) ≡ newest ∷ take 7 (window head 8 xs)
+window-put head xs newest inside eight =
+    of_eight (λ ys. window ((head + 8 - 1) % 8) 8 (slice_set ys ((head + 8 - 1) % 8) newest) ≡ newest ∷ take 7 (window head 8 ys))
     (λ a b c d e f g h. let ys = a ∷ b ∷ c ∷ d ∷ e ∷ f ∷ g ∷ h ∷ [] in
-    below_eight (λ k. rotated ((k + 8 - 1) % 8) (slice_set ys ((k + 8 - 1) % 8) newest) ≡ newest ∷ take 7 (rotated k ys))
+    below_eight (λ k. window ((k + 8 - 1) % 8) 8 (slice_set ys ((k + 8 - 1) % 8) newest) ≡ newest ∷ take 7 (window k 8 ys))
     refl refl refl refl refl refl refl refl head inside) xs eight
 
 -- a bit is 1 at most

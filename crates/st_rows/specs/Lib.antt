@@ -3,5 +3,4 @@ pub mod BusTimes
 pub mod Entries
 pub mod Levels
 pub mod Ranges
-pub mod Rotated
 pub mod Rows

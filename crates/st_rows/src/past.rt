@@ -31,12 +31,13 @@ pub struct LastEntries {
 // Clauses see the entries, the newest one first.
 impl Model for LastEntries {
     ghost use Rattle.std.specs.Prelude.{List};
-    ghost use Rattle.st_rows.specs.Rotated.{rotated, IsRing};
+    ghost use Rattle.st_fetch.specs.Queue.{window};
+    ghost use Rattle.st_rows.specs.Entries.{IsRing};
     ghost use Rattle.st_rows.specs.declared.past.Past.{Past as Entry};
 
     ghost Value = { List Entry };
 
-    ghost view = { λ last. rotated last.head last.entries };
+    ghost view = { λ last. window last.head 8 last.entries };
 
     ghost invariant = { λ last. IsRing last.head last.entries last.writers };
 }

@@ -1,7 +1,8 @@
-use Rattle.std.proofs.Common.{◌≡◌, ◌∷◌, List, length, take, length-set, ap, ◌∙◌, arith}
+use Rattle.std.proofs.Common.{◌∷◌, List, take, length-set, ap, ◌∙◌, arith}
 use Rattle.st_rows.specs.declared.past.Past.{Past}
-use Rattle.st_rows.specs.Rotated.{rotated}
-use Rattle.st_rows.proofs.Shifted.{bit-is, bits-shifted, length-rotated, rotated-put}
+use Rattle.st_fetch.specs.Queue.{window}
+use Rattle.st_fetch.proofs.Windows.{length-window}
+use Rattle.st_rows.proofs.Shifted.{bit-is, bits-shifted, window-put}
 use Rattle.st_rows.proofs.past.LastEntries.put.Goals as goal
 
 pub invariant_of-self : goal.invariant_of-self
@@ -12,12 +13,12 @@ invariant_of-self c =
       inside = omega arith;
       whole = length-set q.entries _ c.args.newest ∙ is.whole;
       writers =
-          rw (c.from.ensures, bit-is c.any.result, c.any.ensures, is.writers, rotated-put q.head q.entries c.args.newest is.inside is.whole)
-          (bits-shifted c.args.newest (rotated q.head q.entries) (length-rotated q.head q.entries is.inside is.whole));
+          rw (c.from.ensures, bit-is c.any.result, c.any.ensures, is.writers, window-put q.head q.entries c.args.newest is.inside is.whole)
+          (bits-shifted c.args.newest (window q.head 8 q.entries) (length-window 8 q.head 8 q.entries is.inside (omega arith) is.whole));
     }
 
 pub returns : goal.returns
 returns c =
     let q = c.self.inside in
-    rotated-put q.head q.entries c.args.newest c.self.invariant.inside c.self.invariant.whole
+    window-put q.head q.entries c.args.newest c.self.invariant.inside c.self.invariant.whole
     ∙ ap (λ (past : List Past). c.args.newest ∷ take 7 past) c.self.view_is
