@@ -1,18 +1,16 @@
 -- What runs ahead once the next entry is a level.
-use Rattle.std.specs.Prelude.{All, if◌then◌else◌, nat_lt, ◌==◌}
-use Rattle.std.proofs.Common.{◌≡◌, ℕ, zero, suc, ◌+◌, ◌≤◌, ◌||◌, max, Bool, true, false, not, List, [], ◌∷◌, ◌++◌, length-append, length, Option, None, Some, refl, sym, subst, ◌∙◌, ap, arith}
+use Rattle.std.specs.Prelude.{All, if◌then◌else◌, ◌==◌}
+use Rattle.std.proofs.Common.{◌≡◌, ℕ, zero, suc, ◌+◌, ◌≤◌, ◌||◌, max, Bool, true, false, not, List, [], ◌∷◌, ◌++◌, length-append, append_assoc, length, Option, None, refl, sym, subst, ◌∙◌, ap, arith}
 use Rattle.std.proofs.lemmas.List.{append-nil}
 use Rattle.std.proofs.lemmas.List.Elements.{All-append, All-weaker, All-cons, All-nil}
 use Rattle.st_state.specs.Machine.{Machine}
-use Rattle.st_bits.specs.Storage.{words_of_storage}
-use Rattle.st_fetch.specs.Planned.{tick_of}
 use Rattle.st_prep.specs.Fetch.{place_of}
 use Rattle.st_prep.specs.Plan.{plan}
 use Rattle.st_prep.specs.declared.entries.Prepared.{Prepared}
 use Rattle.st_prep.proofs.GivenLemmas.{differs}
-use Rattle.st_rows.specs.Asked.{Read, asked, word_asked, inside_asked, following_asked, operands_asked}
+use Rattle.st_rows.specs.Asked.{Read, asked, following_asked, are_following_asked, operands_asked}
 use Rattle.st_rows.specs.Ranges.{IsTight, IsNear}
-use Rattle.st_rows.specs.Rows.{after, operands, request_inside, is_forwarded, wanted_from, bus_a, tick_p}
+use Rattle.st_rows.specs.Rows.{after, operands, is_forwarded, wanted_from, tick_p}
 use Rattle.st_rows.specs.declared.bus.Bus.{Bus}
 use Rattle.st_rows.specs.declared.entry.Entry.{Entry}
 use Rattle.st_rows.specs.declared.entry.Runs.{Runs}
@@ -24,7 +22,7 @@ use Rattle.st_segment.specs.Entries.{entry}
 use Rattle.st_segment.specs.Guesses.{guesses, table_behind}
 use Rattle.st_way.specs.Parts.{formed_asked, prepared_asked}
 use Rattle.st_way.specs.Way.{IsOnTheWay}
-use Rattle.st_way.proofs.Wanted.{two-parts, at-prepared, following-held, held-operands}
+use Rattle.st_way.proofs.Wanted.{two-parts, at-prepared}
 use Rattle.st_levels.specs.Levels.{AreAhead, AreNotDone}
 use Rattle.st_next.specs.Going.{known_count}
 use Rattle.st_next.specs.Progress.{IsNext, IsPlanned, IsPlannedIf, Rests, reads_so_far}
@@ -35,12 +33,22 @@ use Rattle.st_ahead.proofs.Due.{asked-more, reads-formed}
 
 -- ---- the reads that are asked for when it is prepared
 
-pub data-asked : (ds : List ℕ) (n now : ℕ) (f : Front) (e : Entry) (b : Bus) → b ≡ bus_a ds f e → now ≡ tick_p ds n f e
-    → runs_asked f.past e.reads now ++ following_asked ds b e now ≡ prepared_asked ds n f e
-data-asked ds n now f e b bus tick =
-    let held : b.held ≡ (operands ds n f e).bus.held = ap (λ (x : Bus). x.held) bus ∙ sym (held-operands ds n f e) in
-    ap (λ l. runs_asked f.past e.reads now ++ l) (following-held ds b (operands ds n f e).bus e now held)
-    ∙ ap (λ p. runs_asked f.past e.reads p ++ following_asked ds (operands ds n f e).bus e p) tick
+data-asked : (ds : List ℕ) (n now : ℕ) (f : Front) (e : Entry) → now ≡ tick_p ds n f e
+    → runs_asked f.past e.reads now ++ following_asked ds (operands ds n f e).bus e now ≡ prepared_asked ds n f e
+data-asked ds n now f e tick =
+    ap (λ p. runs_asked f.past e.reads p ++ following_asked ds (operands ds n f e).bus e p) tick
+
+-- the operands first, and behind them the following words, as far as the entry asks for them
+pub data-reads : (ds : List ℕ) (n now : ℕ) (f : Front) (x e : Entry) (following : List Bool) (old one two : List Read) → x ≡ e
+    → tick_p ds n f x ≡ now → following ≡ are_following_asked ds (operands ds n f x).bus x (tick_p ds n f x)
+    → one ≡ old ++ runs_asked f.past x.reads now
+    → ((b : Bus) → following ≡ are_following_asked ds b x now → two ≡ one ++ following_asked ds b x now)
+    → two ≡ old ++ (runs_asked f.past e.reads now ++ following_asked ds (operands ds n f e).bus e now)
+data-reads ds n now f x e following old one two same tick asked first second =
+    second (operands ds n f x).bus (asked ∙ ap (are_following_asked ds (operands ds n f x).bus x) tick)
+    ∙ ap (λ l. l ++ following_asked ds (operands ds n f x).bus x now) first
+    ∙ append_assoc old (runs_asked f.past x.reads now) (following_asked ds (operands ds n f x).bus x now)
+    ∙ ap (λ (y : Entry). old ++ (runs_asked f.past y.reads now ++ following_asked ds (operands ds n f y).bus y now)) same
 
 few-data : (late : Bool) (w p : ℕ) → length {A = Read} (if late then [] else record { w = w; want = p; fetch = false } ∷ []) ≤ 1
 few-data true w p = omega arith
@@ -59,34 +67,6 @@ few-runs past reads p old new none is one two =
     let second = operands_asked past p reads.two.first reads.two.len in
     let whole : length new ≡ length runs = ap length is ∙ ap (λ (l : List Read). length (l ++ runs)) none in
     omega (arith, whole, length-append first second, few-operands past p reads.one.first reads.one.len, few-operands past p reads.two.first reads.two.len, one, two)
-
-few-word : (o : Option ℕ) (w p : ℕ) → length (word_asked o w p) ≤ 1
-few-word None w p = omega arith
-few-word (Some tick) w p = omega arith
-
-few-inside : (inside : Bool) (o : Option ℕ) (w p : ℕ) → length (if inside then word_asked o w p else []) ≤ 1
-few-inside true o w p = few-word o w p
-few-inside false o w p = omega arith
-
-follow_if : (follows : Bool) (ds : List ℕ) (b : Bus) (w p : ℕ)
-    → length (if follows then inside_asked b w p ++ inside_asked (request_inside ds b w p) (w + 1) p else []) ≤ 2
-follow_if false ds b w p = omega arith
-follow_if true ds b w p =
-    let next = request_inside ds b w p in
-    simp length-append (omega (
-      arith,
-      few-inside (nat_lt w words_of_storage) (tick_of b.held.words w) w p,
-      few-inside (nat_lt (w + 1) words_of_storage) (tick_of next.held.words (w + 1)) (w + 1) p,
-    ))
-
-few-following : (ds : List ℕ) (b : Bus) (e : Entry) (p : ℕ) → length (following_asked ds b e p) ≤ 2
-unfolding following_asked
-few-following ds b e p = follow_if e.follows ds b (e.own.first + e.own.len) p
-
-pub few-more : (ds : List ℕ) (b : Bus) (e : Entry) (p : ℕ) (old new : List Read) → new ≡ old ++ following_asked ds b e p → length old ≤ 32
-    → length new ≤ 34
-few-more ds b e p old new is few =
-    omega (arith, ap length is, length-append old (following_asked ds b e p), few-following ds b e p, few)
 
 -- ---- the entry behind it
 
@@ -140,7 +120,7 @@ module _ (ds : List ℕ) (n now : ℕ) (t : Option ℕ) (s : Machine) (f : Front
 
   way-pushed : IsGoing ds n now (now + 1) t s f v → BecomesLevel ds n now t s f v → v.next.planned ≡ true → v.next.formed.p ≡ now
       → count w ≡ suc (count v) → reads_so_far ds w.front w.next ≡ [] → w.port.bus ≡ v.port.bus
-      → w.port.reads ≡ v.port.reads ++ (runs_asked v.front.past v.next.entry.reads now ++ following_asked ds v.next.words.bus v.next.entry now)
+      → w.port.reads ≡ v.port.reads ++ (runs_asked v.front.past v.next.entry.reads now ++ following_asked ds (operands ds n v.front v.next.entry).bus v.next.entry now)
       → IsOnTheWay ds now (asked_ahead ds n (count w) t s f ++ reads_so_far ds w.front w.next) f.bus w.port
   way-pushed is becomes planned due counted none bus reads =
       let x = v.next.entry in
@@ -149,7 +129,7 @@ module _ (ds : List ℕ) (n now : ℕ) (t : Option ℕ) (s : Machine) (f : Front
       let all : IsPlanned ds n k u v.front v.next = subst (λ (b : Bool). IsPlannedIf b ds n k u v.front v.next) planned becomes.is_next.planned in
       let added = prepared_asked ds n v.front x in
       let tick : tick_p ds n v.front x ≡ now = sym becomes.tick ∙ due in
-      let own = data-asked ds n now v.front x v.next.words.bus becomes.bus (sym tick) in
+      let own = data-asked ds n now v.front x (sym tick) in
       let formed : reads_so_far ds v.front v.next ≡ formed_asked ds v.front x =
       reads-formed ds n k u v.front v.next all planned ∙ ap (formed_asked ds v.front) (sym becomes.same) in
       let parts : asked ds n v.front x ≡ reads_so_far ds v.front v.next ++ added =
@@ -178,7 +158,7 @@ module _ (ds : List ℕ) (n now : ℕ) (t : Option ℕ) (s : Machine) (f : Front
       → w.next.words ≡ record { bus = w.front.bus; answered = 0; awaited = 0 }
       → reads_so_far ds w.front w.next ≡ [] → known_count w.next ≡ 0
       → w.port.bus ≡ v.port.bus
-      → w.port.reads ≡ v.port.reads ++ (runs_asked v.front.past v.next.entry.reads now ++ following_asked ds v.next.words.bus v.next.entry now)
+      → w.port.reads ≡ v.port.reads ++ (runs_asked v.front.past v.next.entry.reads now ++ following_asked ds (operands ds n v.front v.next.entry).bus v.next.entry now)
       → length w.port.reads ≤ 34
       → ((plan u k).serial ≡ false → (guesses (suc (count v)) t s).ic ≡ (plan u k).following)
       → IsGoing ds n now now t s f w

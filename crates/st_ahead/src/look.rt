@@ -51,11 +51,12 @@ impl<const N: usize> Look<N> {
         ensures { IsOpened table state.now (opening banks start) result }
     {
         let front = Front::new(banks, start);
+        let next = Next::new(place_of(state, table), &front);
         Look {
             levels: Levels::new(index_words(state)),
             front,
             port: Port::new(banks, start),
-            next: Next::new(place_of(state, table), &front),
+            next,
         }
     }
 

@@ -1,6 +1,5 @@
 //! What runs ahead goes on by one tick: the next entry is known further, becomes a level when it is prepared, and a read is made.
 ghost use Rattle.std.specs.Prelude.{◌≡◌, ℕ, ◌+◌, ◌<◌, ◌≤◌, ◌^◌, true, Option, None, List, [], ◌++◌, length};
-ghost use Rattle.st_rows.specs.Asked.{following_asked};
 ghost use Rattle.st_rows.specs.Ranges.{IsEntry};
 ghost use Rattle.st_rows.specs.Rows.{wanted_from};
 ghost use Rattle.st_rows.specs.declared.front.Front.{Front as FrontOf};
@@ -14,7 +13,7 @@ use st_banks::Delays;
 use st_next::{Next, Outlook};
 use st_port::Port;
 use st_prep::{Place, Prepared};
-use st_rows::{Bus, Entry, LastEntries, completions_are_bounded, rows_are_in_order};
+use st_rows::{Entry, LastEntries, completions_are_bounded, rows_are_in_order};
 use st_segment::guesses_leave_the_rest;
 use st_state::State;
 
@@ -90,13 +89,7 @@ impl<const N: usize> Look<N> {
         completions_are_bounded();
         delays.shape();
         let _few = self.levels.len();
-        ask_data(
-            &mut self.port,
-            &self.front.past,
-            &self.next.entry,
-            &self.next.words.bus,
-            now,
-        );
+        ask_operands(&mut self.port, &self.front.past, &self.next.entry, now);
         self.next.prepare(self.levels.index(), state);
         let filled = self.front.fill(
             delays,
@@ -105,6 +98,8 @@ impl<const N: usize> Look<N> {
             self.next.formed,
             &mut self.next.words,
         );
+        self.port
+            .ask_following(filled.following, &self.next.entry, now);
         self.levels
             .push(&self.next.prepared, &self.front, &filled, state);
         self.front
@@ -152,18 +147,15 @@ impl<const N: usize> Look<N> {
     }
 }
 
-// Asks for the operands and the following words of an entry that is prepared at the tick `now`, where no read is left to be made;
-// `bus` is the one after its index-side word.
-fn ask_data(port: &mut Port, past: &LastEntries, entry: &Entry, bus: &Bus, now: u64)
+// Asks for the operands of an entry that is prepared at the tick `now`, where no read is left to be made.
+fn ask_operands(port: &mut Port, past: &LastEntries, entry: &Entry, now: u64)
     requires entry { IsEntry entry.now }
     requires made { port.old.reads ≡ [] }
-    ensures reads { (ds : List ℕ) → port.new.reads ≡ port.old.reads
-        ++ (runs_asked past.now entry.now.reads now ++ following_asked ds bus.now entry.now now) }
+    ensures reads { port.new.reads ≡ port.old.reads ++ runs_asked past.now entry.now.reads now }
     ensures bus { port.new.bus ≡ port.old.bus }
-    ensures few { length port.new.reads ≤ 34 }
+    ensures few { length port.new.reads ≤ 32 }
 {
     port.ask_operands(past, entry.reads, now);
-    port.ask_following(bus, entry, now);
 }
 
 // The place behind an entry, by the counter that it is guessed to leave.

@@ -158,6 +158,27 @@ impl<const N: usize> Machine<N> {
         Settled::Missed { dropped }
     }
 
+    /// What runs ahead goes on behind the last tick, as `settle` decides where it answers `Goes`: no interrupt is due, the machine is not at rest,
+    /// and no branch was missed. One is owed.
+    pub fn go_on(&mut self)
+        requires owed { self.old.owed ≡ true }
+        requires due { interrupt_due_of self.old ≡ None }
+        requires goes { rests self.old.state ≡ false }
+        requires right { self.old.behind ≡ None }
+        ensures { self.new ≡ passed self.old }
+    {
+        if self.ended {
+            self.pass();
+            return;
+        }
+        levels_are_the_entries_ahead();
+        let now = self.now;
+        self.look.go_on(now, &self.state, &self.delays);
+        self.owed = false;
+        self.fresh = false;
+        self.now += 1;
+    }
+
     // Whether nothing else comes behind the last tick than that it goes on.
     fn goes_on(&self) -> bool
         ensures yes { result ≡ true → (interrupt_due_of self.entry.now ≡ None)
@@ -283,26 +304,6 @@ impl<const N: usize> Machine<N> {
         self.behind = None;
         self.owed = false;
         self.ended = false;
-        self.fresh = false;
-        self.now += 1;
-    }
-
-    // What runs ahead goes on, where nothing else comes.
-    fn go_on(&mut self)
-        requires owed { self.old.owed ≡ true }
-        requires due { interrupt_due_of self.old ≡ None }
-        requires goes { rests self.old.state ≡ false }
-        requires right { self.old.behind ≡ None }
-        ensures { self.new ≡ passed self.old }
-    {
-        if self.ended {
-            self.pass();
-            return;
-        }
-        levels_are_the_entries_ahead();
-        let now = self.now;
-        self.look.go_on(now, &self.state, &self.delays);
-        self.owed = false;
         self.fresh = false;
         self.now += 1;
     }

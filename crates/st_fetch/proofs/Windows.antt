@@ -19,7 +19,7 @@ module _ {A : Type 0} (N k n : ℕ) (xs : List A) (first_in_range : k < N) (len_
   length-window = length-take-le n _ (simp (length-append, length-drop) (omega (arith, length-take-le k xs (omega arith))))
 
   -- item i of the window is slot (k + i) % N
-  get_or-window : (i : ℕ) (d : A) → i < n → get_or (window k n xs) i d ≡ get_or xs ((k + i) % N) d
+  pub get_or-window : (i : ℕ) (d : A) → i < n → get_or (window k n xs) i d ≡ get_or xs ((k + i) % N) d
   get_or-window i d in_range =
       let length_tail = length-drop k xs in
       get_or-take n _ i d in_range ∙ elim (mod_wraps_once N (k + i) (omega arith)) [

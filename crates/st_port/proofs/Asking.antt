@@ -1,18 +1,17 @@
 -- Words that are asked for, one behind the other.
-use Rattle.std.specs.Prelude.{◌==◌, if◌then◌else◌, nat_lt, Bool}
+use Rattle.std.specs.Prelude.{◌==◌, if◌then◌else◌, nat_lt, Bool, is_none, get_or}
 use Rattle.std.specs.List.{AllZip}
 use Rattle.std.proofs.Common.{◌≡◌, ℕ, zero, suc, ◌+◌, ◌-◌, ◌≤◌, true, false, List, [], ◌∷◌, ◌++◌, take, Option, None, Some, refl, sym, append_assoc, inl, inr, arith}
 use Rattle.std.proofs.lemmas.Bool.{cases_Bool}
 use Rattle.st_bits.specs.Storage.{words_of_storage}
-use Rattle.st_fetch.specs.Planned.{tick_of}
+use Rattle.st_fetch.specs.Planned.{tick_of, asked_for}
 use Rattle.st_fetch.specs.declared.fetched.Fetched.{Fetched}
-use Rattle.st_rows.specs.Asked.{Read, word_asked, inside_asked, data_asked, operands_asked, following_asked}
+use Rattle.st_rows.specs.Asked.{Read, word_asked, inside_asked, is_inside_asked, data_asked, operands_asked, following_asked, are_following_asked}
 use Rattle.st_rows.specs.BusTimes.{after_read, requested_if, requested}
 use Rattle.st_rows.specs.Rows.{request_inside}
 use Rattle.st_rows.specs.declared.bus.Bus.{Bus}
 use Rattle.st_rows.specs.declared.entry.Entry.{Entry}
 use Rattle.st_rows.specs.declared.past.Past.{Past}
-use Rattle.st_port.specs.Making.{held_with}
 
 -- ---- one operand word of a run
 
@@ -25,6 +24,12 @@ run-turn past p w (suc n) xs ys is some =
     rw (is, e) (append_assoc xs (data_asked past w p) (operands_asked past p (w + 1) n))
 
 -- ---- following words: which words are held does not depend on the ticks of their answers
+
+-- the held words after the word w was asked for, given the tick of its answer if it is held; which words they are does not depend on
+-- the tick of the new answer, which is 0 here
+abbrev pub held_with : Option ℕ → List Fetched → ℕ → List Fetched
+held_with (Some tick) held w = held
+held_with None held w = asked_for held w 0
 
 abbrev SameWords : List Fetched → List Fetched → Type 0
 SameWords = AllZip (λ g h. g.w ≡ h.w)
@@ -65,14 +70,32 @@ module _ (ds : List ℕ) (b : Bus) (w p : ℕ) where
       rw is
       (same-inside_if (nat_lt (w + 1) words_of_storage) _ (request_inside ds b w p).held.words (w + 1) p (same-requested_if (nat_lt w words_of_storage)))
 
--- both following words, the second behind the first
-pub both-asked : (ds : List ℕ) (b : Bus) (e : Entry) (p w : ℕ) (held : List Fetched) (old one two : List Read)
-    → e.follows ≡ true → w ≡ e.own.first + e.own.len
-    → held ≡ (if nat_lt w words_of_storage then held_with (tick_of b.held.words w) b.held.words w else b.held.words)
-    → one ≡ old ++ (if nat_lt w words_of_storage then word_asked (tick_of b.held.words w) w p else [])
-    → two ≡ one ++ (if nat_lt (w + 1) words_of_storage then word_asked (tick_of held (w + 1)) (w + 1) p else [])
+-- ---- following words that are asked for as the bus says
+
+abbrev asked_if : Bool → ℕ → ℕ → List Read
+asked_if asked w p = if asked then record { w = w; want = p; fetch = true } ∷ [] else []
+
+word-asked : (o : Option ℕ) (w p : ℕ) → asked_if (is_none o) w p ≡ word_asked o w p
+word-asked None w p = refl
+word-asked (Some tick) w p = refl
+
+inside_if-asked : (inside : Bool) (o : Option ℕ) (w p : ℕ)
+    → asked_if (if inside then is_none o else false) w p ≡ (if inside then word_asked o w p else [])
+inside_if-asked true o w p = word-asked o w p
+inside_if-asked false o w p = refl
+
+inside-asked : (b : Bus) (w p : ℕ) → asked_if (is_inside_asked b w) w p ≡ inside_asked b w p
+inside-asked b w p = inside_if-asked (nat_lt w words_of_storage) (tick_of b.held.words w) w p
+
+-- both of them, the second behind the first
+pub both-asked : (ds : List ℕ) (b : Bus) (e : Entry) (p w : ℕ) (asked : List Bool) (old one two : List Read)
+    → e.follows ≡ true → w ≡ e.own.first + e.own.len → asked ≡ are_following_asked ds b e p
+    → one ≡ old ++ asked_if (get_or asked 0 false) w p
+    → two ≡ one ++ asked_if (get_or asked 1 false) (w + 1) p
     → two ≡ old ++ following_asked ds b e p
-unfolding following_asked
-both-asked ds b e p w held old one two follows here held_is one_is two_is =
-    rw (follows, ← here, two_is, one_is, second-asked ds b w p held held_is)
-    (append_assoc old (inside_asked b w p) (inside_asked (request_inside ds b w p) (w + 1) p))
+unfolding following_asked are_following_asked
+both-asked ds b e p w asked old one two follows here asked_is one_is two_is =
+    let next = request_inside ds b w p in
+    let asked_are : asked ≡ is_inside_asked b w ∷ is_inside_asked next (w + 1) ∷ [] = rw (asked_is, follows, ← here) refl in
+    rw (follows, ← here, two_is, one_is, asked_are, inside-asked b w p, inside-asked next (w + 1) p)
+    (append_assoc old (inside_asked b w p) (inside_asked next (w + 1) p))

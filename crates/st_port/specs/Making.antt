@@ -1,7 +1,5 @@
 -- The reads that are asked for and still to be made.
-use Rattle.std.specs.Prelude.{ℕ, ◌≤◌, ◌==◌, nat_lt, if◌then◌else◌, List, [], ◌∷◌, Option, None, Some}
-use Rattle.st_fetch.specs.Planned.{asked_for}
-use Rattle.st_fetch.specs.declared.fetched.Fetched.{Fetched}
+use Rattle.std.specs.Prelude.{ℕ, ◌≤◌, ◌==◌, nat_lt, if◌then◌else◌, List, [], ◌∷◌}
 use Rattle.st_fetch.specs.declared.wants.Want.{Want}
 use Rattle.st_rows.specs.Asked.{Read, after_one}
 use Rattle.st_rows.specs.BusTimes.{accept_at}
@@ -26,9 +24,3 @@ AreFrom t (r ∷ reads) b = t ≤ accept_at b r.w r.want
 -- the read that a want stands for: of an instruction word where its purpose is 1
 abbrev pub read_of : Want → Read
 read_of want = record { w = want.w; want = want.tick; fetch = want.purpose == 1 }
-
--- the held words after the word w was asked for, given the tick of its answer if it is held; which words they are does not depend on
--- the tick of the new answer, which is 0 here
-abbrev pub held_with : Option ℕ → List Fetched → ℕ → List Fetched
-held_with (Some tick) held w = held
-held_with None held w = asked_for held w 0

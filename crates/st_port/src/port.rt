@@ -1,20 +1,17 @@
 //! The port: reads are asked for, and each is made at the tick at which it is accepted.
-ghost use Rattle.std.specs.Prelude.{◌≡◌, ◌+◌, ◌-◌, ◌<◌, ◌≤◌, ◌^◌, ◌==◌, List, [], ◌∷◌, ◌++◌, ℕ, length, All, nat_lt, if◌then◌else◌};
-ghost use Rattle.st_bits.specs.Storage.{words_of_storage};
+ghost use Rattle.std.specs.Prelude.{◌≡◌, true, ◌+◌, ◌-◌, ◌<◌, ◌≤◌, ◌^◌, ◌==◌, List, [], ◌∷◌, ◌++◌, ℕ, length, All, if◌then◌else◌};
 ghost use Rattle.st_fetch.specs.Planned.{tick_of};
-ghost use Rattle.st_rows.specs.Asked.{word_asked, data_asked, side_asked, operands_asked, following_asked, side_count, made_before};
+ghost use Rattle.st_rows.specs.Asked.{word_asked, data_asked, side_asked, operands_asked, following_asked, are_following_asked, side_count, made_before};
 ghost use Rattle.st_rows.specs.BusTimes.{no_reads};
 ghost use Rattle.st_rows.specs.Ranges.{IsReadable, IsEntry};
-ghost use Rattle.st_port.specs.Making.{not_made as not_made_of, AreFrom, held_with};
+ghost use Rattle.st_rows.specs.declared.bus.Bus.{Bus as BusOf};
+ghost use Rattle.st_port.specs.Making.{not_made as not_made_of, AreFrom};
 ghost use Rattle.st_port.specs.Parts.{runs_asked};
 
 use st_banks::{Delays, LastAnswers};
 use st_fetch::{HeldWords, Want, Wants};
 use st_rows::{Bus, Entry, LastEntries, Run, Runs};
 use std::marker::Model;
-
-// The number of words of storage.
-const WORDS: u32 = 98_304;
 
 // The purpose of a want of an instruction word.
 const FETCH: u8 = 1;
@@ -125,21 +122,21 @@ impl Port {
         self.ask_run(past, reads.two, p);
     }
 
-    /// Asks for the two words that follow those of an entry that is prepared at `p`, as far as they are words of storage and not held; `bus`
-    /// is the one after the operands.
+    /// Asks for the two words that follow those of an entry that is prepared at `p`, as far as `asked` says so of each: it says what it
+    /// does of the bus after the operands.
     #[tactic(auto, unfolding(st_rows::specs::Asked::following_asked))]
-    pub fn ask_following(&mut self, bus: &Bus, entry: &Entry, p: u64)
+    pub fn ask_following(&mut self, asked: [bool; 2], entry: &Entry, p: u64)
         requires entry { IsEntry entry.now }
         requires room { length self.old.reads + 2 ≤ 40 }
-        ensures reads { (ds : List ℕ) →
-            self.new.reads ≡ self.old.reads ++ following_asked ds bus.now entry.now p }
+        ensures reads { (ds : List ℕ) (b : BusOf) → asked ≡ are_following_asked ds b entry.now p →
+            self.new.reads ≡ self.old.reads ++ following_asked ds b entry.now p }
         ensures bus { self.new.bus ≡ self.old.bus }
+        ensures few { length self.new.reads ≤ length self.old.reads + 2 }
     {
         if entry.follows {
             let w = entry.own.first + u32::from(entry.own.len);
-            let mut held = bus.held;
-            self.ask_inside(&mut held, w, p);
-            self.ask_inside(&mut held, w + 1, p);
+            self.ask_if(asked[0], w, p);
+            self.ask_if(asked[1], w + 1, p);
         }
     }
 
@@ -212,25 +209,17 @@ impl Port {
         }
     }
 
-    // Asks for the word `w`, if it is one of storage and not held, and holds it from then on, for the words alone.
-    fn ask_inside(&mut self, held: &mut HeldWords, w: u32, p: u64)
+    // Asks for the instruction word `w`, if it is asked for.
+    fn ask_if(&mut self, asked: bool, w: u32, p: u64)
         requires { length self.old.reads < 40 }
         ensures reads { self.new.reads ≡ self.old.reads
-            ++ (if nat_lt w words_of_storage then word_asked (tick_of held.old.words w) w p else []) }
+            ++ (if asked then record { w = w; want = p; fetch = true } ∷ [] else []) }
         ensures bus { self.new.bus ≡ self.old.bus }
         ensures few { length self.new.reads ≤ length self.old.reads + 1 }
-        ensures held { held.new.words ≡
-            (if nat_lt w words_of_storage then held_with (tick_of held.old.words w) held.old.words w
-            else held.old.words) }
     {
-        if w >= WORDS {
-            return;
+        if asked {
+            self.ask(w, p, true);
         }
-        if held.tick_of(w).is_some() {
-            return;
-        }
-        self.ask(w, p, true);
-        held.request(w, 0);
     }
 }
 

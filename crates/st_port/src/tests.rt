@@ -72,9 +72,7 @@ fn forwarded_and_held_words_are_not_asked_for(rt: HostRuntime) -> Result<(), Fai
     assert_eq!(rt; port.len(), 1);
     port.ask_operands(&past, entry.reads, 16);
     assert_eq!(rt; port.len(), 3);
-    let mut bus = *port.bus();
-    bus.held.request(34, 12);
-    port.ask_following(&bus, &entry, 16);
+    port.ask_following([false, true], &entry, 16);
     assert_eq!(rt; port.len(), 4);
     Ok(())
 }

@@ -1,8 +1,9 @@
--- The last eight entries, moved one place on.
-use Rattle.std.specs.Prelude.{Bool, if◌then◌else◌, slice_set, slice_index_or}
-use Rattle.std.proofs.Common.{◌≡◌, ℕ, ◌+◌, ◌*◌, ◌%◌, ◌≤◌, true, false, List, [], ◌∷◌, length, take, refl, arith}
+-- The last eight entries in a ring, and what one more makes of them.
+use Rattle.std.specs.Prelude.{Bool, if◌then◌else◌, slice_set}
+use Rattle.std.proofs.Common.{◌≡◌, ℕ, zero, suc, ◌+◌, ◌-◌, ◌*◌, ◌%◌, ◌<◌, ◌≤◌, true, false, List, [], ◌∷◌, length, take, refl, arith}
 use mir.Val.{bool_byte}
-use Rattle.st_rows.specs.Entries.{no_words, has_words, writer_bits}
+use Rattle.st_fetch.specs.Queue.{window}
+use Rattle.st_rows.specs.Entries.{has_words, writer_bits}
 use Rattle.st_rows.specs.declared.past.Past.{Past}
 
 -- a list of eight entries, by its entries
@@ -19,15 +20,26 @@ of_eight P each (a ∷ b ∷ c ∷ d ∷ e ∷ f ∷ []) eight = absurd (omega a
 of_eight P each (a ∷ b ∷ c ∷ d ∷ e ∷ f ∷ g ∷ []) eight = absurd (omega arith)
 of_eight P each (a ∷ b ∷ c ∷ d ∷ e ∷ f ∷ g ∷ h ∷ i ∷ xs) eight = absurd (omega arith)
 
--- the item at a place becomes that before it
-abbrev pub moved : ℕ → List Past → List Past
-moved i xs = slice_set xs (i + 1) (slice_index_or xs i (record { c = 0; writes = no_words }))
+-- a number below eight, by each of them
+below_eight : (P : ℕ → Type 0) → P 0 → P 1 → P 2 → P 3 → P 4 → P 5 → P 6 → P 7 → (n : ℕ) → n < 8 → P n
+below_eight P a b c d e f g h zero below = a
+below_eight P a b c d e f g h (suc zero) below = b
+below_eight P a b c d e f g h (suc (suc zero)) below = c
+below_eight P a b c d e f g h (suc (suc (suc zero))) below = d
+below_eight P a b c d e f g h (suc (suc (suc (suc zero)))) below = e
+below_eight P a b c d e f g h (suc (suc (suc (suc (suc zero))))) below = f
+below_eight P a b c d e f g h (suc (suc (suc (suc (suc (suc zero)))))) below = g
+below_eight P a b c d e f g h (suc (suc (suc (suc (suc (suc (suc zero))))))) below = h
+below_eight P a b c d e f g h (suc (suc (suc (suc (suc (suc (suc (suc n)))))))) below = absurd (omega arith)
 
-pub shifted : (xs : List Past) (newest : Past) → length xs ≡ 8
-    → slice_set (moved 0 (moved 1 (moved 2 (moved 3 (moved 4 (moved 5 (moved 6 xs))))))) 0 newest ≡ newest ∷ take 7 xs
-shifted xs newest =
-    of_eight (λ ys. slice_set (moved 0 (moved 1 (moved 2 (moved 3 (moved 4 (moved 5 (moved 6 ys))))))) 0 newest ≡ newest ∷ take 7 ys)
-    (λ a b c d e f g h. refl) xs
+-- the newest entry takes the place before the head, that of the oldest one
+pub window-put : (head : ℕ) (xs : List Past) (newest : Past) → head < 8 → length xs ≡ 8
+    → window ((head + 8 - 1) % 8) 8 (slice_set xs ((head + 8 - 1) % 8) newest) ≡ newest ∷ take 7 (window head 8 xs)
+window-put head xs newest inside eight =
+    of_eight (λ ys. window ((head + 8 - 1) % 8) 8 (slice_set ys ((head + 8 - 1) % 8) newest) ≡ newest ∷ take 7 (window head 8 ys))
+    (λ a b c d e f g h. let ys = a ∷ b ∷ c ∷ d ∷ e ∷ f ∷ g ∷ h ∷ [] in
+    below_eight (λ k. window ((k + 8 - 1) % 8) 8 (slice_set ys ((k + 8 - 1) % 8) newest) ≡ newest ∷ take 7 (window k 8 ys))
+    refl refl refl refl refl refl refl refl head inside) xs eight
 
 -- a bit is 1 at most
 bit-small : (b : Bool) → (if b then 1 else 0) ≤ 1

@@ -7,7 +7,6 @@ use Rattle.std.proofs.lemmas.Bool.Decides.{nat_tests}
 use Rattle.std.proofs.lemmas.Nat.Bits.{bit_at_lowest, bit_at-suc, bit_at-zero, bit_at-trailing_zeros, bit_at_clear_same, bit_at_clear_other, bit_at_and}
 use Rattle.std.proofs.lemmas.Nat.{and_le_l}
 use Rattle.st_rows.specs.Entries.{is_in, is_among, no_words, has_words, writer_bits, latest_done}
-use Rattle.st_rows.specs.declared.entry.Runs.{Runs}
 use Rattle.st_rows.specs.declared.past.Past.{Past}
 
 -- the entry at a place, one without words behind the last one

@@ -1,5 +1,5 @@
 -- The reads that are made for an entry, in their order, and what they make of the bus.
-use Rattle.std.specs.Prelude.{ℕ, zero, suc, ◌+◌, max, Bool, true, false, nat_lt, if◌then◌else◌, List, [], ◌∷◌, ◌++◌, Option, None, Some}
+use Rattle.std.specs.Prelude.{ℕ, zero, suc, ◌+◌, max, Bool, true, false, nat_lt, if◌then◌else◌, List, [], ◌∷◌, ◌++◌, Option, None, Some, is_none}
 use Rattle.st_bits.specs.Storage.{words_of_storage}
 use Rattle.st_fetch.specs.Planned.{tick_of}
 use Rattle.st_rows.specs.BusTimes.{accept_at, after_read, requested_if}
@@ -15,6 +15,10 @@ pub record Read : Type 0 where
   pub w : ℕ
   pub want : ℕ
   pub fetch : Bool
+
+-- the word w is not held
+abbrev pub is_unheld : Bus → ℕ → Bool
+is_unheld b w = is_none (tick_of b.held.words w)
 
 -- an instruction word, given the tick of its answer if it is held: then no read is made
 abbrev pub word_asked : Option ℕ → ℕ → ℕ → List Read
@@ -46,6 +50,10 @@ operands_asked past p w (suc n) = data_asked past w p ++ operands_asked past p (
 abbrev pub inside_asked : Bus → ℕ → ℕ → List Read
 inside_asked b w p = if nat_lt w words_of_storage then word_asked (tick_of b.held.words w) w p else []
 
+-- whether one of them is asked for
+abbrev pub is_inside_asked : Bus → ℕ → Bool
+is_inside_asked b w = if nat_lt w words_of_storage then is_unheld b w else false
+
 -- both of them, where the entry has following words
 unfoldable pub following_asked : List ℕ → Bus → Entry → ℕ → List Read
 following_asked ds b e p =
@@ -53,6 +61,15 @@ following_asked ds b e p =
     then inside_asked b (e.own.first + e.own.len) p
     ++ inside_asked (request_inside ds b (e.own.first + e.own.len) p) (e.own.first + e.own.len + 1) p
     else []
+
+-- whether each of them is asked for
+unfoldable pub are_following_asked : List ℕ → Bus → Entry → ℕ → List Bool
+are_following_asked ds b e p =
+    if e.follows
+    then is_inside_asked b (e.own.first + e.own.len)
+    ∷ is_inside_asked (request_inside ds b (e.own.first + e.own.len) p) (e.own.first + e.own.len + 1)
+    ∷ []
+    else false ∷ false ∷ []
 
 -- the instruction words of the entry e behind the front f
 unfoldable pub fetches_asked : List ℕ → Front → Entry → List Read

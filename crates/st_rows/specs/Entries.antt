@@ -1,5 +1,6 @@
 -- Which words are in a run, and when the entry is done that wrote a word last.
-use Rattle.std.specs.Prelude.{ℕ, ◌+◌, ◌*◌, Bool, ◌&&◌, ◌||◌, nat_lt, nat_le, if◌then◌else◌, List, [], ◌∷◌}
+use Rattle.std.specs.Prelude.{◌≡◌, ℕ, ◌<◌, length, ◌+◌, ◌*◌, Bool, ◌&&◌, ◌||◌, nat_lt, nat_le, if◌then◌else◌, List, [], ◌∷◌}
+use Rattle.st_fetch.specs.Queue.{window}
 use Rattle.st_rows.specs.declared.entry.Run.{Run}
 use Rattle.st_rows.specs.declared.entry.Runs.{Runs}
 use Rattle.st_rows.specs.declared.past.Past.{Past}
@@ -29,3 +30,9 @@ writer_bits (entry ∷ past) = 2 * writer_bits past + (if has_words entry.writes
 unfoldable pub latest_done : List Past → ℕ → ℕ
 latest_done [] w = 0
 latest_done (entry ∷ past) w = if is_among w entry.writes then entry.c else latest_done past w
+
+-- eight entries in a ring, the newest one at the head, and a bit for each
+pub record IsRing (head : ℕ) (entries : List Past) (bits : ℕ) : Type 0 where
+  pub inside : head < 8
+  pub whole : length entries ≡ 8
+  pub writers : bits ≡ writer_bits (window head 8 entries)

@@ -1,5 +1,6 @@
 //! The instruction words of an entry, asked for one after another.
 ghost use Rattle.std.specs.Prelude.{◌≡◌, ◌+◌, ◌*◌, ◌-◌, ◌<◌, ◌≤◌, ◌^◌, All};
+ghost use Rattle.st_rows.specs.Asked.{is_unheld};
 ghost use Rattle.st_rows.specs.Rows.{fetch_word, fetch_words};
 ghost use Rattle.st_rows.specs.Ranges.{IsFetchingWithin, ArePastWithin, IsReadable};
 
@@ -41,18 +42,21 @@ impl Fetching {
         self.awaited = 0;
     }
 
-    /// Fetches the next instruction word, which is wanted from `from` on.
+    /// Fetches the next instruction word, which is wanted from `from` on. The result says whether a read is made for it, which is so exactly
+    /// where it was not held.
     #[tactic(auto, unfolding(crate::specs::Rows::fetch_word))]
-    pub fn word(&mut self, delays: &Delays, past: &LastEntries, w: u32, from: u64)
+    pub fn word(&mut self, delays: &Delays, past: &LastEntries, w: u32, from: u64) -> bool
         requires room { IsFetchingWithin (2 ^ 64 - 512) self.old }
         requires before { ArePastWithin (2 ^ 64 - 512) past.now }
         requires early { from ≤ 2 ^ 64 - 512 }
-        ensures { self.new ≡ fetch_word delays.now past.now self.old w from }
+        ensures after { self.new ≡ fetch_word delays.now past.now self.old w from }
+        ensures asked { result ≡ is_unheld self.old.bus w }
     {
         let want = from.max(self.answered).max(self.awaited);
-        let answer = self.bus.request(delays, w, want);
-        self.answered = self.answered.max(answer);
+        let reply = self.bus.request(delays, w, want);
+        self.answered = self.answered.max(reply.tick);
         self.awaited = self.awaited.max(past.latest_done(w));
+        reply.asked
     }
 
     /// Fetches the next instruction words.

@@ -1,8 +1,9 @@
 //! Fronts: what the row of the next entry is computed from.
 ghost use Rattle.std.specs.Prelude.{◌≡◌, ◌+◌, ◌*◌, ◌-◌, ◌<◌, ◌≤◌, ◌^◌, ℕ, max, All, List};
+ghost use Rattle.st_rows.specs.Asked.{is_inside_asked, are_following_asked};
 ghost use Rattle.st_rows.specs.BusTimes.{requested};
 ghost use Rattle.st_rows.specs.Rows.{opening, wanted_from, fetched, addressed, bus_sided, side_there, prepared as prepared_of};
-ghost use Rattle.st_rows.specs.Rows.{reading_of, operands_read, read_words, request_inside as request_inside_of, bus_followed, tick_a, bus_a, tick_p, row as row_of, after, fills_of, fills as fills_of_entry};
+ghost use Rattle.st_rows.specs.Rows.{reading_of, operands_read, read_words, request_inside as request_inside_of, bus_followed, tick_a, bus_a, tick_p, operands, row as row_of, after, fills_of, fills as fills_of_entry};
 ghost use Rattle.st_rows.specs.Ranges.{IsEntry, IsTight, IsBusWithin, IsFetchingWithin, IsReadingWithin, ArePastWithin, IsReadable};
 
 use crate::bus::Bus;
@@ -28,7 +29,7 @@ pub struct Row {
 }
 
 /// What the row of the next entry is computed from.
-#[derive(Clone, Copy, Debug, Default, PartialEq, Eq)]
+#[derive(Debug, Default, Drop)]
 pub struct Front {
     /// The bus after the reads of the entries so far.
     pub bus: Bus,
@@ -58,6 +59,8 @@ pub struct Filled {
     pub row: Row,
     /// When the first two words of its first run of operands are there, 0 where the run has no such word.
     pub fills: [u64; 2],
+    /// Whether each of the two words that follow its own is asked for.
+    pub following: [bool; 2],
 }
 
 impl Front {
@@ -198,6 +201,8 @@ impl Front {
         requires tick { formed.p ≡ tick_p delays.now levels self.old entry.now }
         ensures value { result.row ≡ row_of delays.now levels self.old entry.now }
         ensures fills { result.fills ≡ fills_of_entry delays.now levels self.old entry.now }
+        ensures following { result.following ≡ are_following_asked delays.now
+            (operands delays.now levels self.old entry.now).bus entry.now (tick_p delays.now levels self.old entry.now) }
         ensures after { self.new ≡ after delays.now levels self.old entry.now }
         ensures tight { IsTight 255 self.new }
         ensures bound { self.new.c ≤ self.old.c + 16576 }
@@ -227,6 +232,8 @@ impl Front {
         requires tick { formed.p ≡ tick_p delays.now levels self.now entry.now }
         ensures value { result.row ≡ row_of delays.now levels self.now entry.now }
         ensures fills { result.fills ≡ fills_of_entry delays.now levels self.now entry.now }
+        ensures following { result.following ≡ are_following_asked delays.now
+            (operands delays.now levels self.now entry.now).bus entry.now (tick_p delays.now levels self.now entry.now) }
         ensures bus { words.new.bus ≡ (after delays.now levels self.now entry.now).bus }
     {
         delays.shape();
@@ -235,10 +242,11 @@ impl Front {
         let fills = read_operands(words, delays, &self.past, entry, p);
         let r = words.answered;
         let c = self.c.max(r) + u64::from(entry.cost);
-        follow(&mut words.bus, delays, entry, p);
+        let following = follow(&mut words.bus, delays, entry, p);
         Filled {
             row: Row { a, p, r, c },
             fills,
+            following,
         }
     }
 
@@ -351,29 +359,34 @@ fn read_run(
     [first, second]
 }
 
-// The bus after the following words of an entry that is prepared at `p`.
-#[tactic(auto, unfolding(crate::specs::Rows::bus_followed))]
-fn follow(bus: &mut Bus, delays: &Delays, entry: &Entry, p: u64)
+// The following words of an entry that is prepared at `p` are asked for. The result says whether each of the two is.
+#[tactic(auto, unfolding(crate::specs::Rows::bus_followed, crate::specs::Asked::are_following_asked))]
+fn follow(bus: &mut Bus, delays: &Delays, entry: &Entry, p: u64) -> [bool; 2]
     requires entry { IsEntry entry.now }
     requires room { IsBusWithin (2 ^ 64 - 1024) bus.old }
     requires early { p ≤ 2 ^ 64 - 1024 }
-    ensures { bus.new ≡ bus_followed delays.now bus.old entry.now p }
+    ensures after { bus.new ≡ bus_followed delays.now bus.old entry.now p }
+    ensures asked { result ≡ are_following_asked delays.now bus.old entry.now p }
 {
     delays.shape();
-    if entry.follows {
-        let w = entry.own.first + u32::from(entry.own.len);
-        request_inside(bus, delays, w, p);
-        request_inside(bus, delays, w + 1, p);
+    if !entry.follows {
+        return [false, false];
     }
+    let w = entry.own.first + u32::from(entry.own.len);
+    let first = request_inside(bus, delays, w, p);
+    let second = request_inside(bus, delays, w + 1, p);
+    [first, second]
 }
 
-// Asks for the word `w`, if it is a word of storage.
-fn request_inside(bus: &mut Bus, delays: &Delays, w: u32, p: u64)
+// Asks for the word `w`, if it is a word of storage. The result says whether a read is made for it.
+fn request_inside(bus: &mut Bus, delays: &Delays, w: u32, p: u64) -> bool
     requires room { IsBusWithin (2 ^ 64 - 512) bus.old }
     requires early { p ≤ 2 ^ 64 - 512 }
-    ensures { bus.new ≡ request_inside_of delays.now bus.old w p }
+    ensures after { bus.new ≡ request_inside_of delays.now bus.old w p }
+    ensures asked { result ≡ is_inside_asked bus.old w }
 {
-    if w < WORDS {
-        bus.request(delays, w, p);
+    if w >= WORDS {
+        return false;
     }
+    bus.request(delays, w, p).asked
 }

@@ -10,7 +10,7 @@ mod laws;
 mod past;
 mod reading;
 
-pub use bus::Bus;
+pub use bus::{Bus, Reply};
 pub use entry::{Entry, Run, Runs};
 pub use fetching::Fetching;
 pub use front::{Filled, Formed, Front, Row};

@@ -15,31 +15,31 @@ pub struct Past {
     pub writes: Runs,
 }
 
+// How many entries are kept.
+const KEPT: usize = 8;
+
 /// The last eight entries of the segment. Contracts see their list, the newest one first.
-#[derive(Clone, Copy, Debug, PartialEq, Eq)]
+#[derive(Debug, Drop)]
 pub struct LastEntries {
-    entries: [Past; 8],
+    // The newest one stands at the head, older ones behind it, around the end.
+    entries: [Past; KEPT],
+    head: usize,
     // A bit for each entry, the lowest one for the newest: whether it writes any word.
     writers: u64,
 }
 
 // Clauses see the entries, the newest one first.
 impl Model for LastEntries {
-    ghost use Rattle.std.specs.Prelude.{◌≡◌, List};
-    ghost use Rattle.std.proofs.Common.{ap, sym};
-    ghost use Rattle.st_rows.specs.Entries.{writer_bits};
+    ghost use Rattle.std.specs.Prelude.{List};
+    ghost use Rattle.st_fetch.specs.Queue.{window};
+    ghost use Rattle.st_rows.specs.Entries.{IsRing};
     ghost use Rattle.st_rows.specs.declared.past.Past.{Past as Entry};
 
     ghost Value = { List Entry };
 
-    ghost view = { λ last. last.entries };
+    ghost view = { λ last. window last.head 8 last.entries };
 
-    ghost invariant = { λ last. last.writers ≡ writer_bits last.entries };
-
-    ghost inverse = { λ entries. record { entries = entries; writers = writer_bits entries } };
-
-    ghost inverse_ok = { λ last h.
-        ap (λ w. record { entries = last.entries; writers = w }) (sym h) };
+    ghost invariant = { λ last. IsRing last.head last.entries last.writers };
 }
 
 impl Default for LastEntries {
@@ -57,7 +57,8 @@ impl LastEntries {
         ensures { result ≡ replicate 8 (record { c = 0; writes = no_words }) }
     {
         LastEntries {
-            entries: [Past::default(); 8],
+            entries: [Past::default(); KEPT],
+            head: 0,
             writers: 0,
         }
     }
@@ -66,8 +67,9 @@ impl LastEntries {
     pub fn put(&mut self, newest: Past)
         ensures { self.new ≡ newest ∷ take 7 self.old }
     {
-        put_newest(&mut self.entries, newest);
-        self.writers = self.writers % 128 * 2 + u64::from(self.entries[0].writes.any());
+        self.head = (self.head + KEPT - 1) % KEPT;
+        self.entries[self.head] = newest;
+        self.writers = self.writers % 128 * 2 + u64::from(newest.writes.any());
     }
 
     /// The tick at which the entry `n` before is done, 1 to 8; 0 where there was no such entry.
@@ -75,7 +77,7 @@ impl LastEntries {
         requires { (1 ≤ n) × (n ≤ 8) }
         ensures { result ≡ done_before_of n self.now }
     {
-        self.entries[n - 1].c
+        self.entries[(self.head + n - 1) % KEPT].c
     }
 
     /// The tick at which the latest of these entries is done that writes the word `w`, 0 where none does.
@@ -97,7 +99,7 @@ impl LastEntries {
         let mut left = self.writers;
         'writers: while left > 0 {
             let newest = left.trailing_zeros();
-            let entry = &self.entries[newest as usize];
+            let entry = &self.entries[(self.head + newest as usize) % KEPT];
             if entry.writes.has(w) {
                 return entry.c;
             }
@@ -105,18 +107,4 @@ impl LastEntries {
         }
         0
     }
-}
-
-// Keeps one entry more, and the seven before it.
-fn put_newest(past: &mut [Past; 8], newest: Past)
-    ensures { past.new ≡ newest ∷ take 7 past.old }
-{
-    past[7] = past[6];
-    past[6] = past[5];
-    past[5] = past[4];
-    past[4] = past[3];
-    past[3] = past[2];
-    past[2] = past[1];
-    past[1] = past[0];
-    past[0] = newest;
 }

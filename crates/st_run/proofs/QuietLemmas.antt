@@ -5,7 +5,7 @@ use Rattle.std.proofs.lemmas.Bool.{le-ltb}
 use Rattle.st_state.specs.Machine.{Machine}
 use Rattle.st_state.specs.Orders.{is_due}
 use Rattle.st_ahead.specs.Overlap.{Overlap, interrupt_due}
-use Rattle.st_ahead.specs.Calls.{settled as settled_of}
+use Rattle.st_ahead.specs.Calls.{settled as settled_of, passed}
 use Rattle.st_card.specs.declared.control_cards.Signal.{Signal}
 use Rattle.st_run.specs.Run.{Scene, with_due_signals, with_due_orders, interlude, uneventful}
 use Rattle.st_run.specs.Together.{Together, scene_of, moment_of, with_scene, IsBehind}
@@ -19,6 +19,7 @@ use Rattle.st_run.proofs.CameLemmas.{came-none, came-is, settled-going, over-goi
 use Rattle.st_run.proofs.ChoiceLemmas.{decided}
 use Rattle.st_run.proofs.PartLemmas.{HasParts, left-parts}
 use Rattle.st_run.proofs.LeftLemmas.{waits}
+use Rattle.st_run.proofs.TickLemmas.{still-settled}
 use Rattle.st_run.proofs.ProgressLemmas.{Quiet, rest-quiet, quiet-taken}
 
 -- ---- the tests
@@ -52,6 +53,23 @@ neither-still : (behind : Bool) (due : Option ℕ) → (behind || is_some due) �
 neither-still true due none = absurd (cc none)
 neither-still false due none = sym none
 
+-- nothing is due and no branch was missed
+still-due : (behind : Bool) (due : Option ℕ) → (behind || is_some due) ≡ false → due ≡ None
+still-due behind due none = sym (neither-first behind due none)
+
+still-right : (behind due : Option ℕ) → (is_some behind || is_some due) ≡ false → behind ≡ None
+still-right None due none = refl
+still-right (Some h) due none = absurd (cc none)
+
+pub quiet-due : (m : Overlap) → IsQuiet m → interrupt_due m ≡ None
+quiet-due m quiet = still-due (is_some m.behind) (interrupt_due m) quiet.open_still
+
+pub quiet-right : (m : Overlap) → IsQuiet m → m.behind ≡ None
+quiet-right m quiet = still-right m.behind (interrupt_due m) quiet.open_still
+
+quiet-settled : (m : Overlap) → IsQuiet m → passed m ≡ settled_of m
+quiet-settled m quiet = still-settled m (quiet-due m quiet) quiet.awake (quiet-right m quiet)
+
 same-count : (n : ℕ) → false ≡ nat_lt n n
 same-count n = sym (le-ltb n n (omega arith))
 
@@ -82,7 +100,10 @@ module _ (left : ℕ) (b n : Together) (is : IsBehind b) (some : left ≢ 0) (si
 
 -- the same of the parts of a machine with what is to come to it
 module _ (left : ℕ) (old : Together) (m k : Overlap) (xs : List Signal) (cards : List (List ℕ)) (view : record { machine = m; signals = xs; cards = cards } ≡ old)
-    (is : IsBehind old) (some : left ≢ 0) (signals : signal_due m.state.done xs ≡ false) (quiet : IsQuiet m) (after : k ≡ settled_of m) where
+    (is : IsBehind old) (some : left ≢ 0) (signals : signal_due m.state.done xs ≡ false) (quiet : IsQuiet m) (after : k ≡ passed m) where
+  abbrev settles : k ≡ settled_of m
+  settles = after ∙ quiet-settled m quiet
+
   abbrev b : Together
   b = record { machine = m; signals = xs; cards = cards }
 
@@ -92,12 +113,12 @@ module _ (left : ℕ) (old : Together) (m k : Overlap) (xs : List Signal) (cards
   pub passed-decided : IsDecided left (moment_of old) nothing_decided n
   passed-decided =
       subst {A = Together} (λ t. IsDecided left (moment_of t) nothing_decided n) view
-      (quiet-decided left b n (subst {A = Together} IsBehind (sym view) is) some signals quiet refl after)
+      (quiet-decided left b n (subst {A = Together} IsBehind (sym view) is) some signals quiet refl settles)
 
   pub passed-parts : HasParts old.machine k
   passed-parts =
       subst {A = Together} (λ t. HasParts t.machine k) view
-      (quiet-parts left b n (subst {A = Together} IsBehind (sym view) is) some signals quiet refl after)
+      (quiet-parts left b n (subst {A = Together} IsBehind (sym view) is) some signals quiet refl settles)
 
 -- ---- what waits is nothing, whichever way
 

@@ -6,8 +6,8 @@ use Rattle.std.proofs.lemmas.Bool.Decides.{nat_tests}
 use Rattle.st_state.specs.Machine.{Machine}
 use Rattle.st_exec.specs.Step.{interrupt, rests}
 use Rattle.st_rows.specs.declared.front.Front.{Front}
-use Rattle.st_ahead.specs.Overlap.{Overlap, seen, oldest_row}
-use Rattle.st_ahead.specs.Calls.{is_done, completed, row_done, ticked, settled}
+use Rattle.st_ahead.specs.Overlap.{Overlap, seen, oldest_row, interrupt_due}
+use Rattle.st_ahead.specs.Calls.{is_done, completed, row_done, ticked, settled, passed}
 use Rattle.st_ahead.specs.Idle.{after_ticks, IsIdle, AreIdle}
 use Rattle.st_ahead.specs.declared.events.Row.{Row}
 use Rattle.st_run.specs.Ticking.{IsReady, at_completion, AreTicked}
@@ -44,6 +44,32 @@ none-due : (s : Machine) (t : Option ℕ) → t ≡ interrupt s → (if is_none 
 none-due s None same = sym same
 none-due s (Some i) same = refl
 
+-- nothing comes behind a tick at which no entry is done
+pub record IsStill (m : Overlap) : Type 0 where
+  pub owed : m.owed ≡ true
+  pub due : interrupt_due m ≡ None
+  pub awake : rests m.state ≡ false
+  pub right : m.behind ≡ None
+
+calm-still : (ds : List ℕ) (n : ℕ) (s : Machine) (t : Option ℕ) (f : Front) (at : ℕ) → t ≡ interrupt s → rests s ≡ false
+    → is_done (calm ds n s t f at) ≡ false → IsStill (ticked (calm ds n s t f at))
+unfolding ticked
+calm-still ds n s t f at same awake late =
+    let is : ticked (calm ds n s t f at) ≡ record (calm ds n s t f at) { owed = true; closing = None } = rw late refl in
+    subst IsStill (sym is) (record { owed = refl; due = none-due s t same; awake = awake; right = refl })
+
+pub tick-still : (o m : Overlap) (at : ℕ) → IsReady o → m ≡ record o { now = at } → is_done m ≡ false → IsStill (ticked m)
+tick-still o m at h same late =
+    let is : m ≡ calm o.delays o.levels o.state o.taken o.front at =
+    same ∙ ap {A = Overlap} (λ q. record q { now = at }) (ready-calm o h) in
+    subst (λ q. IsStill (ticked q)) (sym is)
+    (calm-still o.delays o.levels o.state o.taken o.front at h.table h.awake (ap is_done (sym is) ∙ late))
+
+-- where nothing comes the tick is settled by passing
+pub still-settled : (m : Overlap) → interrupt_due m ≡ None → rests m.state ≡ false → m.behind ≡ None → passed m ≡ settled m
+unfolding settled
+still-settled m due awake right = rw (due, awake, right) refl
+
 -- a tick at which no entry is done passes
 calm-passes : (ds : List ℕ) (n : ℕ) (s : Machine) (t : Option ℕ) (f : Front) (at : ℕ) → t ≡ interrupt s → rests s ≡ false
     → is_done (calm ds n s t f at) ≡ false
@@ -51,7 +77,7 @@ calm-passes : (ds : List ℕ) (n : ℕ) (s : Machine) (t : Option ℕ) (f : Fron
 unfolding ticked settled
 calm-passes ds n s t f at same awake late = rw (late, none-due s t same, awake) refl
 
-pub tick-passes : (o m : Overlap) (at : ℕ) → IsReady o → m ≡ record o { now = at } → is_done m ≡ false
+tick-passes : (o m : Overlap) (at : ℕ) → IsReady o → m ≡ record o { now = at } → is_done m ≡ false
     → settled (ticked m) ≡ record o { now = at + 1 }
 tick-passes o m at h same late =
     let calm_at : (k : ℕ) → record o { now = k } ≡ calm o.delays o.levels o.state o.taken o.front k =
@@ -60,6 +86,12 @@ tick-passes o m at h same late =
     ap {A = Overlap} (λ q. settled (ticked q)) is
     ∙ calm-passes o.delays o.levels o.state o.taken o.front at h.table h.awake (ap is_done (sym is) ∙ late)
     ∙ sym (calm_at (at + 1))
+
+pub tick-passed : (o m : Overlap) (at : ℕ) → IsReady o → m ≡ record o { now = at } → is_done m ≡ false
+    → passed (ticked m) ≡ record o { now = at + 1 }
+tick-passed o m at h same late =
+    let still = tick-still o m at h same late in
+    still-settled (ticked m) still.due still.awake still.right ∙ tick-passes o m at h same late
 
 -- the next entry is done later
 apart : (c at : ℕ) → at ≤ c → (c == at) ≡ false → at + 1 ≤ c
@@ -73,10 +105,6 @@ pub tick-early : (o m : Overlap) (at : ℕ) → at ≤ (oldest_row o).c → m �
 tick-early o m at early same late =
     apart (oldest_row o).c at early
     (ap (λ r. r.c == at) (sym (row-same o at)) ∙ ap is_done (sym same) ∙ late)
-
-pub tick-owed : (m : Overlap) → is_done m ≡ false → (ticked m).owed ≡ true
-unfolding ticked
-tick-owed m late = rw late refl
 
 -- so do ticks that are passed over, one after another
 pub after-none : (m : Overlap) → m ≡ after_ticks 0 m

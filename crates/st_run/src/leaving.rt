@@ -369,6 +369,6 @@ pub(crate) fn pass_on<const N: usize>(driven: &mut Driven<N>, left: u64) -> bool
     if !is_quiet(&driven.machine) {
         return false;
     }
-    driven.machine.settle();
+    driven.machine.go_on();
     true
 }

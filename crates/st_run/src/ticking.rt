@@ -49,7 +49,7 @@ fn make_ticks<const N: usize>(machine: &mut Machine<N>, now: u64, snap: Option<u
         match machine.tick() {
             Event::Done(row) => return Some(row),
             Event::Passed => {
-                machine.settle();
+                machine.go_on();
             }
         }
         at += 1;

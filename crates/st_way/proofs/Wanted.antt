@@ -16,9 +16,9 @@ use Rattle.st_rows.specs.declared.past.Past.{Past}
 use Rattle.st_rows.specs.declared.front.Front.{Front}
 use Rattle.st_rows.proofs.Served.{served-append, served-fetches, served-side, served-asked}
 use Rattle.st_rows.proofs.Tight.{free-a, free-p, free-r, later-r, later-c}
-use Rattle.st_port.specs.Making.{PortView, held_with}
+use Rattle.st_port.specs.Making.{PortView}
 use Rattle.st_port.specs.Parts.{runs_asked}
-use Rattle.st_port.proofs.Asking.{second-asked}
+use Rattle.st_port.proofs.Asking.{held_with, second-asked}
 use Rattle.st_port.proofs.Made.{free-served}
 use Rattle.st_port.proofs.Each.{each-operand, each-following}
 use Rattle.st_port.proofs.Stages.{asked-parts, served-runs, served-following, a-p}

@@ -5,16 +5,16 @@ use Rattle.st_rows.proofs.front.follow.Goals as goal
 
 pub overflow_add-w : goal.overflow_add-w
 overflow_add-w c =
-    let some = c.requires.entry.follows c.if-entry.true in
+    let some = c.requires.entry.follows c.if-not-entry.false in
     omega (arith, words_of_storage_is, c.requires.entry.own.inside some)
 
-pub overflow_add-w-then-entry : goal.overflow_add-w-then-entry
-overflow_add-w-then-entry c =
-    let some = c.requires.entry.follows c.if-entry.true in
+pub overflow_add-w-2 : goal.overflow_add-w-2
+overflow_add-w-2 c =
+    let some = c.requires.entry.follows c.if-not-entry.false in
     omega (arith, words_of_storage_is, c.requires.entry.own.inside some)
 
-pub request_inside-requires-then-entry-clause-room : goal.request_inside-requires-then-entry-clause-room
-request_inside-requires-then-entry-clause-room c =
-    rw c.request_inside.ensures
+pub request_inside-second-requires-clause-room : goal.request_inside-second-requires-clause-room
+request_inside-second-requires-clause-room c =
+    rw c.request_inside-first.ensures.after
     (request_inside-within 255 c.args.delays.now (AreDelays-list c.args.delays.now c.shape.ensures) (2 ^ 64 - 1024) (2 ^ 64 - 512) (omega arith)
     c.args.bus.now _ c.args.p c.requires.room c.requires.early)

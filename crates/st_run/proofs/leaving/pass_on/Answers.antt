@@ -6,18 +6,18 @@ use Rattle.st_run.proofs.leaving.pass_on.Goals as goal
 
 pub returns-clause-decided : goal.returns-clause-decided
 returns-clause-decided g c passed =
-    passed-decided c.args.left c.args.driven.now c.driven.inside.machine c.settle.new.self _ _ c.driven.view_is c.requires c.if-left-eq0.false
+    passed-decided c.args.left c.args.driven.now c.driven.inside.machine c.go_on.new.self _ _ c.driven.view_is c.requires c.if-left-eq0.false
     (ap (λ (s : Machine). signal_due s.done c.driven.inside.signals.now) (sym c.state.ensures) ∙ sym c.signal_is_due.ensures ∙ c.if-signal_is_due.false)
-    (c.is_quiet.ensures c.if-not-is_quiet.false) c.settle.ensures.after
+    (c.is_quiet.ensures c.if-not-is_quiet.false) c.go_on.ensures
 
 pub returns-clause-delays : goal.returns-clause-delays
 returns-clause-delays g c =
-    (passed-parts c.args.left c.args.driven.now c.driven.inside.machine c.settle.new.self _ _ c.driven.view_is c.requires c.if-left-eq0.false
+    (passed-parts c.args.left c.args.driven.now c.driven.inside.machine c.go_on.new.self _ _ c.driven.view_is c.requires c.if-left-eq0.false
     (ap (λ (s : Machine). signal_due s.done c.driven.inside.signals.now) (sym c.state.ensures) ∙ sym c.signal_is_due.ensures ∙ c.if-signal_is_due.false)
-    (c.is_quiet.ensures c.if-not-is_quiet.false) c.settle.ensures.after).delays
+    (c.is_quiet.ensures c.if-not-is_quiet.false) c.go_on.ensures).delays
 
 pub returns-clause-levels : goal.returns-clause-levels
 returns-clause-levels g c =
-    (passed-parts c.args.left c.args.driven.now c.driven.inside.machine c.settle.new.self _ _ c.driven.view_is c.requires c.if-left-eq0.false
+    (passed-parts c.args.left c.args.driven.now c.driven.inside.machine c.go_on.new.self _ _ c.driven.view_is c.requires c.if-left-eq0.false
     (ap (λ (s : Machine). signal_due s.done c.driven.inside.signals.now) (sym c.state.ensures) ∙ sym c.signal_is_due.ensures ∙ c.if-signal_is_due.false)
-    (c.is_quiet.ensures c.if-not-is_quiet.false) c.settle.ensures.after).levels
+    (c.is_quiet.ensures c.if-not-is_quiet.false) c.go_on.ensures).levels

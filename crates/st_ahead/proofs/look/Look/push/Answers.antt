@@ -1,4 +1,4 @@
-use Rattle.std.proofs.Common.{◌≡◌, ℕ, ◌+◌, ◌<◌, ◌≤◌, true, List, refl, sym, subst, ◌∙◌, ap, arith}
+use Rattle.std.proofs.Common.{◌≡◌, ℕ, ◌+◌, ◌<◌, ◌≤◌, true, List, ◌++◌, refl, sym, subst, ◌∙◌, ap, arith}
 use Rattle.st_prep.specs.Plan.{plan}
 use Rattle.st_rows.specs.Ranges.{IsEntry, IsTight}
 use Rattle.st_rows.specs.Rows.{row, after, fills, tick_a, bus_a, tick_p}
@@ -8,6 +8,7 @@ use Rattle.st_rows.specs.declared.front.Front.{Front}
 use Rattle.st_rows.specs.declared.front.Row.{Row}
 use Rattle.st_rows.specs.declared.front.Formed.{Formed}
 use Rattle.st_rows.proofs.Within.{AreDelays-list}
+use Rattle.st_port.specs.Parts.{runs_asked}
 use Rattle.st_segment.specs.Entries.{entry}
 use Rattle.st_segment.specs.Guesses.{guesses, table_behind}
 use Rattle.st_levels.specs.Levels.{AreAhead}
@@ -16,7 +17,7 @@ use Rattle.st_next.specs.declared.next.Next.{Next}
 use Rattle.st_ahead.specs.Look.{LookView, count}
 use Rattle.st_ahead.specs.Going.{IsGoing}
 use Rattle.st_ahead.proofs.Due.{row-p, after-p}
-use Rattle.st_ahead.proofs.Pushed.{going-pushed}
+use Rattle.st_ahead.proofs.Pushed.{data-reads, going-pushed}
 use Rattle.st_ahead.proofs.look.Look.push.Goals as goal
 
 pub prepare-requires-clause-ready : goal.prepare-requires-clause-ready
@@ -108,7 +109,7 @@ returns-clause-going g c = λ t f given.
     let k = table_behind (count view) t in
     let u = guesses (count view) t s in
     let x = view.next.entry in
-    let new : LookView = record { levels = c.push.new.self; front = c.pass.new.self; port = c.ask_data.new.port; next = c.restart.new.self } in
+    let new : LookView = record { levels = c.push.new.self; front = c.pass.new.self; port = c.ask_following.new.self; next = c.restart.new.self } in
     let filled = c.fill-filled.result in
     let same : x ≡ entry k u = becomes.same in
     let serial : (entry k u).serial ≡ true → u ≡ s = λ alone. becomes.alone (ap (λ (e : Entry). e.serial) same ∙ alone) in
@@ -134,4 +135,8 @@ returns-clause-going g c = λ t f given.
     (λ i y from. c.restart.ensures.rests now i y from)
     c.restart.ensures.unplanned c.restart.ensures.own c.restart.ensures.target c.restart.ensures.words
     (c.restart.ensures.reads ds) c.restart.ensures.none
-    c.ask_data.ensures.bus (c.ask_data.ensures.reads ds) c.ask_data.ensures.few (c.guesses_leave_the_rest.ensures.counter (count view) t s)
+    (c.ask_following.ensures.bus ∙ c.ask_operands.ensures.bus)
+    (data-reads ds n now view.front c.prepare.new.self.entry x c.fill-filled.result.following view.port.reads c.ask_operands.new.port.reads new.port.reads
+    entry_is (ap (tick_p ds n view.front) entry_is ∙ sym becomes.tick ∙ due) c.fill-filled.ensures.following
+    (c.ask_operands.ensures.reads ∙ ap (λ (e : Entry). view.port.reads ++ runs_asked view.front.past e.reads now) (sym entry_is)) (c.ask_following.ensures.reads ds))
+    (omega (arith, c.ask_following.ensures.few, c.ask_operands.ensures.few)) (c.guesses_leave_the_rest.ensures.counter (count view) t s)

@@ -14,7 +14,6 @@ overflow_add-w-then-entry c =
     omega (arith, words_of_storage_is, c.requires.entry.own.inside some)
 
 pub returns-then-entry-clause-reads : goal.returns-then-entry-clause-reads
-returns-then-entry-clause-reads c ds =
-    both-asked ds c.args.bus.now c.args.entry.now c.args.p (c.args.entry.now.own.first + c.from.result) c.ask_inside.new.held.words
-    c.args.self.now.reads c.ask_inside.new.self.reads c.ask_inside-then-entry.new.self.reads
-    c.if-entry.true (rw c.from.ensures refl) c.ask_inside.ensures.held c.ask_inside.ensures.reads c.ask_inside-then-entry.ensures.reads
+returns-then-entry-clause-reads c ds b is =
+    both-asked ds b c.args.entry.now c.args.p (c.args.entry.now.own.first + c.from.result) c.args.asked c.args.self.now.reads c.ask_if.new.self.reads
+    c.ask_if-then-entry.new.self.reads c.if-entry.true (rw c.from.ensures refl) is c.ask_if.ensures.reads c.ask_if-then-entry.ensures.reads

@@ -13,9 +13,9 @@ words-preserved c =
     let are = AreDelays-list c.args.delays.now c.shape.ensures in
     let before = past-weaker (2 ^ 64 - 2 ^ 16) m c.args.past.now (omega (arith, c.words.invariant.few)) c.requires.before in
     record {
-      value = fetch-turn c.args.delays.now c.args.past.now c.words.w c.args.from c.words.self c.word.new.self c.words.left c.word.ensures (omega arith)
+      value = fetch-turn c.args.delays.now c.args.past.now c.words.w c.args.from c.words.self c.word.new.self c.words.left c.word.ensures.after (omega arith)
           ∙ c.words.invariant.value;
-      room = fetching-weaker (m + 256) _ c.word.new.self (omega arith) (rw c.word.ensures (fetch_word-within 255 c.args.delays.now are m (m + 256) (omega arith) c.args.past.now c.words.self c.words.w c.args.from before c.words.invariant.room (omega arith)));
+      room = fetching-weaker (m + 256) _ c.word.new.self (omega arith) (rw c.word.ensures.after (fetch_word-within 255 c.args.delays.now are m (m + 256) (omega arith) c.args.past.now c.words.self c.words.w c.args.from before c.words.invariant.room (omega arith)));
       few = omega (arith, c.words.invariant.few);
       inside = λ some. omega (arith, c.words.invariant.inside (omega arith));
     }

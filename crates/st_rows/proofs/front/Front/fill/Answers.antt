@@ -39,8 +39,8 @@ overflow_add-c c =
     (operands_of-within 255 c.args.delays.now are c.args.self.now c.args.entry.now c.requires.entry c.requires.tight c.args.levels) in
     omega (arith, read.answered)
 
-pub follow-requires-clause-room : goal.follow-requires-clause-room
-follow-requires-clause-room c =
+pub follow-following-requires-clause-room : goal.follow-following-requires-clause-room
+follow-following-requires-clause-room c =
     let reads = all-read c.args.delays.now c.args.levels c.args.self.now c.args.entry.now (reading_of c.read_operands-fills.new.operands)
     c.args.words.now.bus c.args.formed.p c.read_operands-fills.ensures.value c.requires.bus c.requires.tick in
     let f = c.args.self.now in
@@ -49,8 +49,8 @@ follow-requires-clause-room c =
     (bus-weaker (f.c + 40 * 255 + 41) (2 ^ 64 - 1024) _ (omega arith)
     (operands_of-within 255 c.args.delays.now are f c.args.entry.now c.requires.entry c.requires.tight c.args.levels).bus)
 
-pub follow-requires-clause-early : goal.follow-requires-clause-early
-follow-requires-clause-early c =
+pub follow-following-requires-clause-early : goal.follow-following-requires-clause-early
+follow-following-requires-clause-early c =
     let are = AreDelays-list c.args.delays.now c.shape.ensures in
     rw c.requires.tick
     (omega (arith, p-within 255 c.args.delays.now are c.args.self.now c.args.entry.now c.requires.entry c.requires.tight c.args.levels))
@@ -67,4 +67,10 @@ unfolding after
 returns-clause-bus c =
     let reads = all-read c.args.delays.now c.args.levels c.args.self.now c.args.entry.now (reading_of c.read_operands-fills.new.operands)
     c.args.words.now.bus c.args.formed.p c.read_operands-fills.ensures.value c.requires.bus c.requires.tick in
-    rw (c.follow.ensures, ap (λ (s : Reading). s.bus) reads, c.requires.tick) refl
+    rw (c.follow-following.ensures.after, ap (λ (s : Reading). s.bus) reads, c.requires.tick) refl
+
+pub returns-clause-following : goal.returns-clause-following
+returns-clause-following c =
+    let reads = all-read c.args.delays.now c.args.levels c.args.self.now c.args.entry.now (reading_of c.read_operands-fills.new.operands)
+    c.args.words.now.bus c.args.formed.p c.read_operands-fills.ensures.value c.requires.bus c.requires.tick in
+    rw (c.follow-following.ensures.asked, ap (λ (s : Reading). s.bus) reads, c.requires.tick) refl

@@ -1,8 +1,24 @@
-use Rattle.std.proofs.Common.{arith}
-use Rattle.st_rows.proofs.Shifted.{bit-is, bits-shifted}
+use Rattle.std.proofs.Common.{◌∷◌, List, take, length-set, ap, ◌∙◌, arith}
+use Rattle.st_rows.specs.declared.past.Past.{Past}
+use Rattle.st_fetch.specs.Queue.{window}
+use Rattle.st_fetch.proofs.Windows.{length-window}
+use Rattle.st_rows.proofs.Shifted.{bit-is, bits-shifted, window-put}
 use Rattle.st_rows.proofs.past.LastEntries.put.Goals as goal
 
 pub invariant_of-self : goal.invariant_of-self
 invariant_of-self c =
-    rw (c.from.ensures, bit-is c.any.result, c.any.ensures, c.put_newest.ensures, c.self.invariant)
-    (bits-shifted c.args.newest c.self.inside.entries (omega arith))
+    let q = c.self.inside in
+    let is = c.self.invariant in
+    record {
+      inside = omega arith;
+      whole = length-set q.entries _ c.args.newest ∙ is.whole;
+      writers =
+          rw (c.from.ensures, bit-is c.any.result, c.any.ensures, is.writers, window-put q.head q.entries c.args.newest is.inside is.whole)
+          (bits-shifted c.args.newest (window q.head 8 q.entries) (length-window 8 q.head 8 q.entries is.inside (omega arith) is.whole));
+    }
+
+pub returns : goal.returns
+returns c =
+    let q = c.self.inside in
+    window-put q.head q.entries c.args.newest c.self.invariant.inside c.self.invariant.whole
+    ∙ ap (λ (past : List Past). c.args.newest ∷ take 7 past) c.self.view_is
