@@ -1,5 +1,5 @@
 //! The entry that is prepared next, as far as it is known.
-ghost use Rattle.std.specs.Prelude.{◌≡◌, ℕ, ◌+◌, ◌-◌, ◌<◌, ◌≤◌, ◌^◌, true, false, max, length, take, map, List, [], ◌++◌, Option, IfSome, get_or, is_none, option_map, None, ◌&&◌, if◌then◌else◌};
+ghost use Rattle.std.specs.Prelude.{◌≡◌, ℕ, ◌+◌, ◌-◌, ◌<◌, ◌≤◌, ◌^◌, true, false, max, length, take, map, List, [], ◌++◌, Option, IfSome, get_or, option_map, None, if◌then◌else◌};
 ghost use Rattle.st_bits.specs.Storage.{words_of_storage};
 ghost use Rattle.st_fetch.specs.Planned.{tick_of};
 ghost use Rattle.st_state.specs.Machine.{Machine, word};
@@ -18,7 +18,7 @@ ghost use Rattle.st_segment.specs.Entries.{above_registers as above_registers_of
 ghost use Rattle.st_next.specs.Words.{words_alone, words_so_far, with_word as with_word_of};
 ghost use Rattle.st_next.specs.Known.{IsBefore};
 ghost use Rattle.st_next.specs.Progress.{IsKnown, IsReady, IsNext, Rests, wanted_next, reads_so_far};
-ghost use Rattle.st_next.specs.Going.{IsFront, IsEarly, GoesOn, AreAskedMore, known_count, entry_seen, prepared_as, IsPlannedAs};
+ghost use Rattle.st_next.specs.Going.{IsFront, IsEarly, GoesOn, AreAskedMore, known_count, entry_seen, as_entry, prepared_as, IsPlannedAs};
 
 use st_banks::Delays;
 use st_bits::register::FIRST_STORAGE_WORD;
@@ -211,11 +211,13 @@ impl Next {
         ensures bus { port.new.bus ≡ port.old.bus }
     {
         let want = from.max(self.words.answered).max(self.words.awaited);
-        port.ask_fetch(&self.words.bus.held, w, want);
-        self.words.word(delays, &front.past, w, from);
+        if self.words.word(delays, &front.past, w, from) {
+            port.ask(w, want, true);
+        }
     }
 
     // Asks for a word of its own.
+    #[inline(always)]
     fn ask_own(&mut self, w: u32, front: &Front, delays: &Delays, port: &mut Port)
         requires words { self.old.own.len ≤ 16 }
         requires room { IsEarly front.now self.old.words }
@@ -420,12 +422,15 @@ impl Next {
             (map (word state.now) (words_of_run self.now.own ++ words_of_run self.now.target)))
             ≡ FoundAll (plain (decoded r.0 r.1))) }
     {
-        let so_far = self.own.len + self.target.len;
-        if so_far == 1 {
-            return halves_known(self.place.address, &[state.word(self.word_at(0))], state);
+        if self.target.len != 0 {
+            return None;
         }
-        if so_far == 2 {
-            let contents = [state.word(self.word_at(0)), state.word(self.word_at(1))];
+        let first = self.own.first;
+        if self.own.len == 1 {
+            return halves_known(self.place.address, &[state.word(first)], state);
+        }
+        if self.own.len == 2 {
+            let contents = [state.word(first), state.word(first + 1)];
             return halves_known(self.place.address, &contents, state);
         }
         None
@@ -487,6 +492,7 @@ impl Next {
         self.fetched = fetched;
         self.prepared.place = self.place;
         self.needs = prepare_without_side(&mut self.prepared, &self.fetched, outlook.x, state);
+        self.show();
         self.plan(outlook, state, delays, port);
     }
 
@@ -499,7 +505,6 @@ impl Next {
             ≡ instruction_of spelled.first spelled.second }
         ensures value { self.new ≡ prepared_as (plain (decoded spelled.first spelled.second)) x.now
             state.now self.old }
-        ensures place { self.new.prepared.place ≡ self.old.place }
     {
         let Spelled {
             format,
@@ -527,7 +532,6 @@ impl Next {
         requires place { IsPlace self.old.place }
         requires fields { HasFields own.instr }
         ensures value { self.new ≡ prepared_as (plain own) x.now state.now self.old }
-        ensures place { self.new.prepared.place ≡ self.old.place }
     {
         self.prepare_own(own, x, state);
     }
@@ -538,7 +542,6 @@ impl Next {
         requires place { IsPlace self.old.place }
         requires fields { HasFields own.instr }
         ensures value { self.new ≡ prepared_as (plain own) x.now state.now self.old }
-        ensures place { self.new.prepared.place ≡ self.old.place }
     {
         let fetched = Fetched {
             instr: own,
@@ -548,6 +551,24 @@ impl Next {
         self.prepared.place = self.place;
         self.needs = prepare_without_side(&mut self.prepared, &fetched, x, state);
         self.fetched = fetched;
+        self.show();
+    }
+
+    // The entry becomes what it is prepared to, as the timetable sees it.
+    #[inline(always)]
+    fn show(&mut self)
+        ensures { self.new ≡ record self.old { entry = as_entry self.old } }
+    {
+        let entry = &mut self.entry;
+        let prepared = &self.prepared;
+        entry.own = self.own;
+        entry.target = self.target;
+        entry.side = side_to_read(self.needs.index_read);
+        entry.reads = words_to_read(prepared.reads);
+        entry.writes = words_to_write(prepared.writes);
+        entry.cost = prepared.cost;
+        entry.serial = prepared.serial;
+        entry.follows = prepared.place.table.is_none() && self.fetched.fault.is_none();
     }
 
     // Plans the entry, which is prepared as far as it goes without its index-side word.
@@ -558,7 +579,8 @@ impl Next {
             ≡ needs_of (seen self.old.place self.old.fetched outlook.now.x.now state.now) }
         requires ready { let v = seen self.old.place self.old.fetched outlook.now.x.now state.now in
             self.old.prepared ≡ prepared_of v (option_map (λ w. 0) (needs_of v).index_read) }
-        requires place { self.old.prepared.place ≡ self.old.place }
+        requires shown { self.old.entry ≡ entry_seen self.old.own self.old.target
+            (seen self.old.place self.old.fetched outlook.now.x.now state.now) }
         requires entry { IsEntry (entry_seen self.old.own self.old.target
             (seen self.old.place self.old.fetched outlook.now.x.now state.now)) }
         requires words { self.old.words
@@ -571,14 +593,6 @@ impl Next {
         ensures bus { port.new.bus ≡ port.old.bus }
     {
         let _ = state;
-        show_entry(
-            &mut self.entry,
-            self.own,
-            self.target,
-            &self.needs,
-            &self.prepared,
-            &self.fetched,
-        );
         let front = outlook.front;
         self.formed = front.form(delays, outlook.levels, &self.entry, &mut self.words);
         self.planned = true;
@@ -602,36 +616,6 @@ fn spelled_unless_execute(first: u32, second: u32) -> Option<Spelled>
         first,
         second,
     })
-}
-
-// The entry becomes that with these instruction words, as the timetable sees it.
-fn show_entry(
-    entry: &mut Entry,
-    own: Run,
-    target: Run,
-    needs: &Needs,
-    prepared: &Prepared,
-    fetched: &Fetched,
-)
-    ensures { entry.new ≡ record {
-      own = own;
-      target = target;
-      side = side_to_read_of needs.now.index_read;
-      reads = words_to_read_of prepared.now.reads;
-      writes = words_to_write_of prepared.now.writes;
-      cost = prepared.now.cost;
-      serial = prepared.now.serial;
-      follows = is_none prepared.now.place.table && is_none fetched.now.fault;
-    } }
-{
-    entry.own = own;
-    entry.target = target;
-    entry.side = side_to_read(needs.index_read);
-    entry.reads = words_to_read(prepared.reads);
-    entry.writes = words_to_write(prepared.writes);
-    entry.cost = prepared.cost;
-    entry.serial = prepared.serial;
-    entry.follows = prepared.place.table.is_none() && fetched.fault.is_none();
 }
 
 // A run with one word more.
