@@ -131,6 +131,27 @@ impl Next {
             .max(self.words.awaited)
     }
 
+    /// Whether its next word is wanted by the tick, as far as the words so far tell.
+    #[inline(always)]
+    pub fn is_due(&self, front: &Front, tick: u64) -> bool
+        ensures due { result ≡ true → wanted_next front.now self.now ≤ tick }
+        ensures later { result ≡ false → tick < wanted_next front.now self.now }
+    {
+        if self.words.answered > tick {
+            return false;
+        }
+        if self.words.awaited > tick {
+            return false;
+        }
+        if front.wanted_from() > tick {
+            return false;
+        }
+        if self.target.len == 0 {
+            return true;
+        }
+        front.c <= tick
+    }
+
     // The address of one of the words so far, 0 behind them.
     fn word_at(&self, k: u8) -> u32
         requires words { IsEntry (words_alone self.now.own self.now.target) }
@@ -256,13 +277,43 @@ impl Next {
         self.target = with_word(self.target, w);
     }
 
-    /// Reads it on as far as the tick allows: asks for the words that are known by now, and once they all are plans it. Whatever the state
-    /// before it is, what is known of it stays so, and nothing more of it can be known before the next tick.
+    /// Asks for its next word where that is one of its own, at a tick by which it is wanted: so an entry begins of which no word is asked for.
+    #[inline(always)]
+    pub fn begin(&mut self, outlook: &Outlook, state: &State, delays: &Delays, port: &mut Port)
+        requires known { IsKnown delays.now outlook.now.levels outlook.now.tick
+            outlook.now.front.now outlook.now.x.now state.now self.old }
+        requires front { IsFront outlook.now.levels outlook.now.front.now }
+        requires unplanned { self.old.planned ≡ false }
+        requires due { wanted_next outlook.now.front.now self.old ≤ outlook.now.tick }
+        requires room { length port.old.reads + 5 ≤ 40 + known_count self.old }
+        ensures next { GoesOn delays.now outlook.now.levels outlook.now.tick outlook.now.front.now
+            outlook.now.x.now state.now self.old self.new outlook.now.tick }
+        ensures reads { AreAskedMore delays.now outlook.now.tick outlook.now.front.now
+            self.old self.new port.old.reads port.new.reads }
+        ensures bus { port.new.bus ≡ port.old.bus }
+        ensures few { length port.new.reads + known_count self.old
+            ≤ length port.old.reads + known_count self.new }
+        ensures unplanned { self.new.planned ≡ false }
+    {
+        delays.shape();
+        match self.given(outlook.x, state) {
+            Given::Next {
+                word,
+                target: false,
+            } => self.ask_own(word, outlook.front, delays, port),
+            _ => {}
+        }
+    }
+
+    /// Reads it on as far as the tick allows, by which its next word is wanted: asks for the words that are known by now, and once they all
+    /// are plans it. Whatever the state before it is, what is known of it stays so, and nothing more of it can be known before the next tick.
     #[inline(always)]
     pub fn advance(&mut self, outlook: &Outlook, state: &State, delays: &Delays, port: &mut Port)
         requires known { IsKnown delays.now outlook.now.levels outlook.now.tick
             outlook.now.front.now outlook.now.x.now state.now self.old }
         requires front { IsFront outlook.now.levels outlook.now.front.now }
+        requires unplanned { self.old.planned ≡ false }
+        requires due { wanted_next outlook.now.front.now self.old ≤ outlook.now.tick }
         requires room { length port.old.reads + 5 ≤ 40 + known_count self.old }
         ensures next { GoesOn delays.now outlook.now.levels outlook.now.tick outlook.now.front.now
             outlook.now.x.now state.now self.old self.new (outlook.now.tick + 1) }
@@ -271,11 +322,9 @@ impl Next {
         ensures bus { port.new.bus ≡ port.old.bus }
         ensures few { length port.new.reads + known_count self.old
             ≤ length port.old.reads + known_count self.new }
-        ensures planned { self.old.planned ≡ false → self.new.planned ≡ true →
-            outlook.now.tick < self.new.formed.a }
-        ensures same { self.old.planned ≡ true → self.new ≡ self.old }
+        ensures planned { self.new.planned ≡ true → outlook.now.tick < self.new.formed.a }
     {
-        'words: while !self.planned && self.wanted(outlook.front) <= outlook.tick {
+        'words: loop {
             if !self.go_on(outlook, state, delays, port) {
                 return;
             }
@@ -318,7 +367,9 @@ impl Next {
         prepare_in(&mut self.prepared, &self.fetched, &mut after, read, state);
     }
 
-    // Reads it on by one word, or plans it, unless the target of EX waits for the entry before. The result says whether it went on.
+    // Reads it on by one word, or plans it, unless the target of EX waits for the entry before. The result says whether one more is wanted by
+    // the tick.
+    #[inline(always)]
     fn go_on(&mut self, outlook: &Outlook, state: &State, delays: &Delays, port: &mut Port) -> bool
         requires known { IsKnown delays.now outlook.now.levels outlook.now.tick
             outlook.now.front.now outlook.now.x.now state.now self.old }
@@ -337,17 +388,61 @@ impl Next {
         ensures few { length port.new.reads + known_count self.old
             ≤ length port.old.reads + known_count self.new }
         ensures planned { self.new.planned ≡ true → outlook.now.tick < self.new.formed.a }
+        ensures unplanned { result ≡ true → self.new.planned ≡ false }
+        ensures due { result ≡ true → wanted_next outlook.now.front.now self.new ≤ outlook.now.tick }
     {
         match self.spelled(state) {
             Some(spelled) => {
                 self.plan_spelled(spelled, outlook, state, delays, port);
-                true
+                false
             }
-            None => self.go_on_by_words(outlook, state, delays, port),
+            None => {
+                let outlook = *outlook;
+                self.go_on_seldom(&outlook, state, delays, port)
+            }
         }
     }
 
-    // The same, whatever its words are.
+    // The same where its words do not tell all of it, or where it is EX.
+    #[inline(never)]
+    fn go_on_seldom(
+        &mut self,
+        outlook: &Outlook,
+        state: &State,
+        delays: &Delays,
+        port: &mut Port,
+    ) -> bool
+        requires known { IsKnown delays.now outlook.now.levels outlook.now.tick
+            outlook.now.front.now outlook.now.x.now state.now self.old }
+        requires front { IsFront outlook.now.levels outlook.now.front.now }
+        requires unplanned { self.old.planned ≡ false }
+        requires due { wanted_next outlook.now.front.now self.old ≤ outlook.now.tick }
+        requires room { length port.old.reads + 5 ≤ 40 + known_count self.old }
+        ensures next { GoesOn delays.now outlook.now.levels outlook.now.tick outlook.now.front.now
+            outlook.now.x.now state.now self.old self.new
+            (if result then outlook.now.tick else outlook.now.tick + 1) }
+        ensures reads { AreAskedMore delays.now outlook.now.tick outlook.now.front.now
+            self.old self.new port.old.reads port.new.reads }
+        ensures bus { port.new.bus ≡ port.old.bus }
+        ensures more { result ≡ true → known_count self.new ≡ known_count self.old + 1 }
+        ensures most { known_count self.old ≤ 4 }
+        ensures few { length port.new.reads + known_count self.old
+            ≤ length port.old.reads + known_count self.new }
+        ensures planned { self.new.planned ≡ true → outlook.now.tick < self.new.formed.a }
+        ensures unplanned { result ≡ true → self.new.planned ≡ false }
+        ensures due { result ≡ true → wanted_next outlook.now.front.now self.new ≤ outlook.now.tick }
+    {
+        if !self.go_on_by_words(outlook, state, delays, port) {
+            return false;
+        }
+        if self.planned {
+            return false;
+        }
+        self.is_due(outlook.front, outlook.tick)
+    }
+
+    // Reads it on by one word, or plans it, whatever its words are, unless the target of EX waits for the entry before. The result says whether
+    // it went on.
     fn go_on_by_words(
         &mut self,
         outlook: &Outlook,

@@ -8,5 +8,5 @@ returns-clause-later g c =
     let t = c.requires.going.table in
     let f = c.requires.going.front in
     prepared-later c.args.delays.now g.row.N c.args.now t c.args.state.now f c.advance-2.new.self
-    (c.advance-2.ensures.going t f (c.push.ensures.going t f (c.advance.ensures.going t f c.requires.going.going)))
-    (ap (λ (h : Front). h.p) c.advance-2.ensures.front ∙ c.push.ensures.prepared)
+    (c.advance-2.ensures.going t f (c.begin.ensures.going t f (c.push.ensures.going t f (c.advance.ensures.going t f c.requires.going.going))))
+    (ap (λ (h : Front). h.p) (c.advance-2.ensures.front ∙ c.begin.ensures.front) ∙ c.push.ensures.prepared)
