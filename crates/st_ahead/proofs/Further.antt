@@ -219,3 +219,16 @@ known-further ds n now later t s f v next port order opened before goes more bus
       near = subst (λ (b : Bus). IsNear 255 b) (sym bus) is.near;
       free = subst (λ (b : Bus). b.free ≤ max now f.c) (sym bus) is.free;
     }
+
+-- what is planned at the tick is prepared later
+pub known-later : (ds : List ℕ) (n now later : ℕ) (t : Option ℕ) (s : Machine) (f : Front) (v : LookView) (next : Next)
+    → ((g : Front) (e : Entry) → (row ds n g e).a < (row ds n g e).p)
+    → is_open v ≡ true → IsBefore now v.front.past v.levels.x s (guesses (count v) t s)
+    → GoesOn ds n now v.front v.levels.x s v.next next later → (next.planned ≡ true → now < next.formed.a) → IsGoing ds n now now t s f v
+    → next.planned ≡ true → now < next.formed.p
+known-later ds n now later t s f v next order opened before goes formed is planned =
+    let k = table_behind (count v) t in
+    let u = guesses (count v) t s in
+    let old = next-known ds n now now t s f v is opened in
+    let new = goes.each k u (behind-indicator (count v) t is.indicator) before old.0 old.1 in
+    omega (arith, formed planned, planned-order ds n order k u v.front next new.0 planned)

@@ -34,6 +34,8 @@ impl<const N: usize> Look<N> {
             IsGoing delays.now N now (now + 1) t state.now f self.new }
         ensures levels { self.new.levels ≡ self.old.levels }
         ensures front { self.new.front ≡ self.old.front }
+        ensures later { self.old.next.planned ≡ false → self.new.next.planned ≡ true →
+            now < self.new.next.formed.p }
     {
         if self.next.planned {
             return;
@@ -58,6 +60,8 @@ impl<const N: usize> Look<N> {
             IsGoing delays.now N now (now + 1) t state.now f self.new }
         ensures levels { self.new.levels ≡ self.old.levels }
         ensures front { self.new.front ≡ self.old.front }
+        ensures later { self.old.next.planned ≡ false → self.new.next.planned ≡ true →
+            now < self.new.next.formed.p }
     {
         next_entries_are_known();
         open_levels_run_ahead();
@@ -146,7 +150,8 @@ impl<const N: usize> Look<N> {
         self.next.restart(place, &self.front);
     }
 
-    // The next entry is known further, and becomes a level where this is its P. What is planned behind it is prepared later.
+    // The next entry is known further; where it is planned and this is its P, it becomes a level, and the one behind it is known further. What is
+    // planned at this tick is prepared later.
     fn settle(&mut self, now: u64, state: &State, delays: &Delays)
         requires some { 1 ≤ N }
         requires few { N ≤ 8 }
@@ -157,15 +162,15 @@ impl<const N: usize> Look<N> {
             IsGoing delays.now N now (now + 1) t state.now f self.new }
         ensures later { self.new.next.planned ≡ true → now < self.new.next.formed.p }
     {
-        self.advance(now, state, delays);
-        if !self.next.planned {
+        if self.next.planned {
+            if self.next.formed.p != now {
+                return;
+            }
+            self.push(now, state, delays);
+            self.begin(now, state, delays);
+            self.advance(now, state, delays);
             return;
         }
-        if self.next.formed.p != now {
-            return;
-        }
-        self.push(now, state, delays);
-        self.begin(now, state, delays);
         self.advance(now, state, delays);
     }
 
