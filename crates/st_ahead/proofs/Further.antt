@@ -21,26 +21,26 @@ use Rattle.st_levels.proofs.LevelLemmas.{levels-beside}
 use Rattle.st_levels.proofs.OrderLemmas.{done-order}
 use Rattle.st_next.specs.Known.{IsBefore}
 use Rattle.st_next.specs.Going.{IsFront, GoesOn, AreAskedMore, known_count}
-use Rattle.st_next.specs.Progress.{IsNext, IsPlanned, IsPlannedIf, IsKnown, Rests, Planned, Waits, Target, reads_so_far}
+use Rattle.st_next.specs.Progress.{IsNext, IsPlanned, IsPlannedIf, IsKnown, Rests, Planned, Waits, Target, reads_so_far, wanted_next}
 use Rattle.st_next.specs.declared.next.Next.{Next}
 use Rattle.st_ahead.specs.Look.{LookView, IsNextIf, count, is_open, asked_ahead}
 use Rattle.st_ahead.specs.Going.{IsGoing}
 
--- ---- the first word of the next entry is wanted later
+-- ---- the next word of the next entry is wanted later
 
-rests-on : (now : ℕ) (t : Option ℕ) (u : Machine) (f : Front) (next : Next) → now < wanted_from f → Rests now t u f next
+rests-on : (now : ℕ) (t : Option ℕ) (u : Machine) (f : Front) (next : Next) → now < wanted_next f next → Rests now t u f next
     → Rests (now + 1) t u f next
 rests-on now t u f next late (Planned planned) = Planned planned
 rests-on now t u f next late (Waits unplanned before) = Waits unplanned (omega arith)
 rests-on now t u f next late (Target unplanned all none some before) = Waits unplanned (omega arith)
 
-next-waits : (b : Bool) (ds : List ℕ) (n now : ℕ) (t : Option ℕ) (s : Machine) (v : LookView) → now < wanted_from v.front
+next-waits : (b : Bool) (ds : List ℕ) (n now : ℕ) (t : Option ℕ) (s : Machine) (v : LookView) → now < wanted_next v.front v.next
     → IsNextIf b ds n now t s v → IsNextIf b ds n (now + 1) t s v
 next-waits true ds n now t s v late is =
     (is.0, rests-on now (table_behind (count v) t) (guesses (count v) t s) v.front v.next late is.1)
 next-waits false ds n now t s v late is = is
 
-pub going-waits : (ds : List ℕ) (n now : ℕ) (t : Option ℕ) (s : Machine) (f : Front) (v : LookView) → now < wanted_from v.front
+pub going-waits : (ds : List ℕ) (n now : ℕ) (t : Option ℕ) (s : Machine) (f : Front) (v : LookView) → now < wanted_next v.front v.next
     → IsGoing ds n now now t s f v → IsGoing ds n now (now + 1) t s f v
 going-waits ds n now t s f v late is = record {
   machine = is.machine;
@@ -184,15 +184,15 @@ more-way ds now before so_far after added b port new late is bus reads way =
     subst (λ (p : PortView). IsOnTheWay ds now (before ++ after) b p) (port-is new port.bus (port.reads ++ added) bus reads)
     (subst (λ (l : List Read). IsOnTheWay ds now l b (record { bus = port.bus; reads = port.reads ++ added })) list more)
 
-pub known-further : (ds : List ℕ) (n now : ℕ) (t : Option ℕ) (s : Machine) (f : Front) (v : LookView) (next : Next) (port : PortView)
+pub known-further : (ds : List ℕ) (n now later : ℕ) (t : Option ℕ) (s : Machine) (f : Front) (v : LookView) (next : Next) (port : PortView)
     → ((g : Front) (e : Entry) → (row ds n g e).a < (row ds n g e).p)
     → is_open v ≡ true → IsBefore now v.front.past v.levels.x s (guesses (count v) t s)
-    → GoesOn ds n now v.front v.levels.x s v.next next (now + 1) → AreAskedMore ds now v.front v.next next v.port.reads port.reads
+    → GoesOn ds n now v.front v.levels.x s v.next next later → AreAskedMore ds now v.front v.next next v.port.reads port.reads
     → port.bus ≡ v.port.bus → length port.reads + known_count v.next ≤ length v.port.reads + known_count next
     → (v.next.planned ≡ false → next.planned ≡ true → now < next.formed.a) → (v.next.planned ≡ true → next ≡ v.next)
     → IsGoing ds n now now t s f v
-    → IsGoing ds n now (now + 1) t s f (record { levels = v.levels; front = v.front; port = port; next = next })
-known-further ds n now t s f v next port order opened before goes more bus few planned same is =
+    → IsGoing ds n now later t s f (record { levels = v.levels; front = v.front; port = port; next = next })
+known-further ds n now later t s f v next port order opened before goes more bus few planned same is =
     let k = table_behind (count v) t in
     let u = guesses (count v) t s in
     let old = next-known ds n now now t s f v is opened in
@@ -208,7 +208,7 @@ known-further ds n now t s f v next port order opened before goes more bus few p
       start = is.start;
       early = is.early;
       next =
-          subst (λ (b : Bool). IsNextIf b ds n (now + 1) t s (record { levels = v.levels; front = v.front; port = port; next = next }))
+          subst (λ (b : Bool). IsNextIf b ds n later t s (record { levels = v.levels; front = v.front; port = port; next = next }))
           (sym opened) new;
       late =
           still-late now v.next.planned v.next next refl is.late planned same (planned-order ds n order k u v.front next new.0);
@@ -219,3 +219,16 @@ known-further ds n now t s f v next port order opened before goes more bus few p
       near = subst (λ (b : Bus). IsNear 255 b) (sym bus) is.near;
       free = subst (λ (b : Bus). b.free ≤ max now f.c) (sym bus) is.free;
     }
+
+-- what is planned at the tick is prepared later
+pub known-later : (ds : List ℕ) (n now later : ℕ) (t : Option ℕ) (s : Machine) (f : Front) (v : LookView) (next : Next)
+    → ((g : Front) (e : Entry) → (row ds n g e).a < (row ds n g e).p)
+    → is_open v ≡ true → IsBefore now v.front.past v.levels.x s (guesses (count v) t s)
+    → GoesOn ds n now v.front v.levels.x s v.next next later → (next.planned ≡ true → now < next.formed.a) → IsGoing ds n now now t s f v
+    → next.planned ≡ true → now < next.formed.p
+known-later ds n now later t s f v next order opened before goes formed is planned =
+    let k = table_behind (count v) t in
+    let u = guesses (count v) t s in
+    let old = next-known ds n now now t s f v is opened in
+    let new = goes.each k u (behind-indicator (count v) t is.indicator) before old.0 old.1 in
+    omega (arith, formed planned, planned-order ds n order k u v.front next new.0 planned)

@@ -1,7 +1,7 @@
 //! What runs ahead goes on by one tick: the next entry is known further, becomes a level when it is prepared, and a read is made.
-ghost use Rattle.std.specs.Prelude.{◌≡◌, ℕ, ◌+◌, ◌<◌, ◌≤◌, ◌^◌, true, Option, None, List, [], ◌++◌, length};
+ghost use Rattle.std.specs.Prelude.{◌≡◌, ℕ, ◌+◌, ◌<◌, ◌≤◌, ◌^◌, true, false, Option, None, List, [], ◌++◌, length};
 ghost use Rattle.st_rows.specs.Ranges.{IsEntry};
-ghost use Rattle.st_rows.specs.Rows.{wanted_from};
+ghost use Rattle.st_next.specs.Progress.{wanted_next};
 ghost use Rattle.st_rows.specs.declared.front.Front.{Front as FrontOf};
 ghost use Rattle.st_port.specs.Parts.{runs_asked};
 
@@ -33,29 +33,34 @@ impl<const N: usize> Look<N> {
             IsGoing delays.now N now (now + 1) t state.now f self.new }
         ensures levels { self.new.levels ≡ self.old.levels }
         ensures front { self.new.front ≡ self.old.front }
+        ensures later { self.old.next.planned ≡ false → self.new.next.planned ≡ true →
+            now < self.new.next.formed.p }
     {
         if self.next.planned {
             return;
         }
-        if self.front.wanted_from() > now {
+        if !self.next.is_due(&self.front, now) {
             return;
         }
         self.advance_now(now, state, delays);
     }
 
-    // The same where its first word is wanted by now.
+    // The same where its next word is wanted by now.
     #[inline(never)]
     fn advance_now(&mut self, now: u64, state: &State, delays: &Delays)
         requires some { 1 ≤ N }
         requires few { N ≤ 8 }
         requires early { now < 2 ^ 63 }
         requires going { Goes delays.now N now now state.now self.old }
-        requires wanted { wanted_from self.old.front ≤ now }
+        requires unplanned { self.old.next.planned ≡ false }
+        requires due { wanted_next self.old.front self.old.next ≤ now }
         ensures going { (t : Option ℕ) (f : FrontOf) →
             IsGoing delays.now N now now t state.now f self.old →
             IsGoing delays.now N now (now + 1) t state.now f self.new }
         ensures levels { self.new.levels ≡ self.old.levels }
         ensures front { self.new.front ≡ self.old.front }
+        ensures later { self.old.next.planned ≡ false → self.new.next.planned ≡ true →
+            now < self.new.next.formed.p }
     {
         next_entries_are_known();
         open_levels_run_ahead();
@@ -68,6 +73,38 @@ impl<const N: usize> Look<N> {
             x: self.levels.index(),
         };
         self.next.advance(&outlook, state, delays, &mut self.port);
+    }
+
+    // The first word of the next entry is asked for, where it is wanted by now. It has just begun, so that straight code does it.
+    #[inline(always)]
+    fn begin(&mut self, now: u64, state: &State, delays: &Delays)
+        requires some { 1 ≤ N }
+        requires few { N ≤ 8 }
+        requires early { now < 2 ^ 63 }
+        requires going { Goes delays.now N now now state.now self.old }
+        ensures going { (t : Option ℕ) (f : FrontOf) →
+            IsGoing delays.now N now now t state.now f self.old →
+            IsGoing delays.now N now now t state.now f self.new }
+        ensures levels { self.new.levels ≡ self.old.levels }
+        ensures front { self.new.front ≡ self.old.front }
+    {
+        if self.next.planned {
+            return;
+        }
+        if !self.next.is_due(&self.front, now) {
+            return;
+        }
+        next_entries_are_known();
+        open_levels_run_ahead();
+        rows_are_in_order();
+        let _few = self.levels.len();
+        let outlook = Outlook {
+            tick: now,
+            levels: N,
+            front: &self.front,
+            x: self.levels.index(),
+        };
+        self.next.begin(&outlook, state, delays, &mut self.port);
     }
 
     // The next entry becomes a level at the tick `now`, its P.
@@ -108,7 +145,8 @@ impl<const N: usize> Look<N> {
         self.next.restart(place, &self.front);
     }
 
-    // The next entry is known further, and becomes a level where this is its P. What is planned behind it is prepared later.
+    // The next entry is known further; where it is planned and this is its P, it becomes a level, and the one behind it is known further. What is
+    // planned at this tick is prepared later.
     fn settle(&mut self, now: u64, state: &State, delays: &Delays)
         requires some { 1 ≤ N }
         requires few { N ≤ 8 }
@@ -119,14 +157,15 @@ impl<const N: usize> Look<N> {
             IsGoing delays.now N now (now + 1) t state.now f self.new }
         ensures later { self.new.next.planned ≡ true → now < self.new.next.formed.p }
     {
-        self.advance(now, state, delays);
-        if !self.next.planned {
+        if self.next.planned {
+            if self.next.formed.p != now {
+                return;
+            }
+            self.push(now, state, delays);
+            self.begin(now, state, delays);
+            self.advance(now, state, delays);
             return;
         }
-        if self.next.formed.p != now {
-            return;
-        }
-        self.push(now, state, delays);
         self.advance(now, state, delays);
     }
 

@@ -1,5 +1,5 @@
 -- Steps after steps.
-use Rattle.std.proofs.Common.{◌≡◌, ℕ, ◌+◌, ◌<◌, ◌⊎◌, inl, inr, true, false, List, arith}
+use Rattle.std.proofs.Common.{◌≡◌, ℕ, ◌+◌, ◌<◌, ◌⊎◌, inl, inr, Bool, true, false, if◌then◌else◌, List, refl, arith}
 use Rattle.st_state.specs.Machine.{Machine}
 use Rattle.st_rows.specs.declared.front.Front.{Front}
 use Rattle.st_next.specs.Progress.{Planned, Waits, wanted_next, IsKnown}
@@ -22,6 +22,12 @@ module _ (ds : List ℕ) (n now : ℕ) (f : Front) (x : List ℕ) (s : Machine) 
       elim why [ inl p ↦ Planned p | inr w ↦ Waits w.0 (omega (arith, w.1)) ],
     );
   }
+
+  -- by what a test says, it goes on at this tick or at the next
+  pub goes-if : (more : Bool) (a b : Next) → GoesOn ds n now f x s a b now → b.planned ≡ false → (more ≡ false → now < wanted_next f b)
+      → GoesOn ds n now f x s a b (if more then now else now + 1)
+  goes-if true a b goes un why = goes
+  goes-if false a b goes un why = goes-done a b goes (inr (un, why refl))
 
   pub known-then : (a b : Next) → IsKnown ds n now f x s a → GoesOn ds n now f x s a b now → IsKnown ds n now f x s b
   known-then a b k goes =

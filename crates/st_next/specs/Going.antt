@@ -60,11 +60,29 @@ entry_seen own target v =
       follows = is_none v.place.table && is_none v.fetched.fault;
     }
 
+-- an entry as the timetable sees it, by what is fetched, what it needs and what it is prepared to
+abbrev pub as_entry : Next → Entry
+as_entry next = record {
+  own = next.own;
+  target = next.target;
+  side = side_to_read next.needs.index_read;
+  reads = words_to_read next.prepared.reads;
+  writes = words_to_write next.prepared.writes;
+  cost = next.prepared.cost;
+  serial = next.prepared.serial;
+  follows = is_none next.prepared.place.table && is_none next.fetched.fault;
+}
+
 -- an entry of which this is fetched, prepared as far as it goes without its index-side word
 abbrev pub prepared_as : Fetched → List ℕ → Machine → Next → Next
 prepared_as fd x s next =
     let v = seen next.place fd x s in
-    record next { fetched = fd; needs = needs v; prepared = prepared v (option_map (λ w. 0) (needs v).index_read) }
+    record next {
+      fetched = fd;
+      needs = needs v;
+      prepared = prepared v (option_map (λ w. 0) (needs v).index_read);
+      entry = entry_seen next.own next.target v;
+    }
 
 -- an entry of which the words are there is planned, of which so much is seen
 pub record IsPlannedAs (ds : List ℕ) (n : ℕ) (f : Front) (v : Sight) (before after : Next) : Type 0 where

@@ -1,5 +1,5 @@
 //! The entry that is prepared next, as far as it is known.
-ghost use Rattle.std.specs.Prelude.{◌≡◌, ℕ, ◌+◌, ◌-◌, ◌<◌, ◌≤◌, ◌^◌, true, false, max, length, take, map, List, [], ◌++◌, Option, IfSome, get_or, is_none, option_map, None, ◌&&◌, if◌then◌else◌};
+ghost use Rattle.std.specs.Prelude.{◌≡◌, ℕ, ◌+◌, ◌-◌, ◌<◌, ◌≤◌, ◌^◌, true, false, max, length, take, map, List, [], ◌++◌, Option, IfSome, get_or, option_map, None, if◌then◌else◌};
 ghost use Rattle.st_bits.specs.Storage.{words_of_storage};
 ghost use Rattle.st_fetch.specs.Planned.{tick_of};
 ghost use Rattle.st_state.specs.Machine.{Machine, word};
@@ -18,7 +18,7 @@ ghost use Rattle.st_segment.specs.Entries.{above_registers as above_registers_of
 ghost use Rattle.st_next.specs.Words.{words_alone, words_so_far, with_word as with_word_of};
 ghost use Rattle.st_next.specs.Known.{IsBefore};
 ghost use Rattle.st_next.specs.Progress.{IsKnown, IsReady, IsNext, Rests, wanted_next, reads_so_far};
-ghost use Rattle.st_next.specs.Going.{IsFront, IsEarly, GoesOn, AreAskedMore, known_count, entry_seen, prepared_as, IsPlannedAs};
+ghost use Rattle.st_next.specs.Going.{IsFront, IsEarly, GoesOn, AreAskedMore, known_count, entry_seen, as_entry, prepared_as, IsPlannedAs};
 
 use st_banks::Delays;
 use st_bits::register::FIRST_STORAGE_WORD;
@@ -131,6 +131,27 @@ impl Next {
             .max(self.words.awaited)
     }
 
+    /// Whether its next word is wanted by the tick, as far as the words so far tell.
+    #[inline(always)]
+    pub fn is_due(&self, front: &Front, tick: u64) -> bool
+        ensures due { result ≡ true → wanted_next front.now self.now ≤ tick }
+        ensures later { result ≡ false → tick < wanted_next front.now self.now }
+    {
+        if self.words.answered > tick {
+            return false;
+        }
+        if self.words.awaited > tick {
+            return false;
+        }
+        if front.wanted_from() > tick {
+            return false;
+        }
+        if self.target.len == 0 {
+            return true;
+        }
+        front.c <= tick
+    }
+
     // The address of one of the words so far, 0 behind them.
     fn word_at(&self, k: u8) -> u32
         requires words { IsEntry (words_alone self.now.own self.now.target) }
@@ -211,11 +232,13 @@ impl Next {
         ensures bus { port.new.bus ≡ port.old.bus }
     {
         let want = from.max(self.words.answered).max(self.words.awaited);
-        port.ask_fetch(&self.words.bus.held, w, want);
-        self.words.word(delays, &front.past, w, from);
+        if self.words.word(delays, &front.past, w, from) {
+            port.ask(w, want, true);
+        }
     }
 
     // Asks for a word of its own.
+    #[inline(always)]
     fn ask_own(&mut self, w: u32, front: &Front, delays: &Delays, port: &mut Port)
         requires words { self.old.own.len ≤ 16 }
         requires room { IsEarly front.now self.old.words }
@@ -254,13 +277,43 @@ impl Next {
         self.target = with_word(self.target, w);
     }
 
-    /// Reads it on as far as the tick allows: asks for the words that are known by now, and once they all are plans it. Whatever the state
-    /// before it is, what is known of it stays so, and nothing more of it can be known before the next tick.
+    /// Asks for its next word where that is one of its own, at a tick by which it is wanted: so an entry begins of which no word is asked for.
+    #[inline(always)]
+    pub fn begin(&mut self, outlook: &Outlook, state: &State, delays: &Delays, port: &mut Port)
+        requires known { IsKnown delays.now outlook.now.levels outlook.now.tick
+            outlook.now.front.now outlook.now.x.now state.now self.old }
+        requires front { IsFront outlook.now.levels outlook.now.front.now }
+        requires unplanned { self.old.planned ≡ false }
+        requires due { wanted_next outlook.now.front.now self.old ≤ outlook.now.tick }
+        requires room { length port.old.reads + 5 ≤ 40 + known_count self.old }
+        ensures next { GoesOn delays.now outlook.now.levels outlook.now.tick outlook.now.front.now
+            outlook.now.x.now state.now self.old self.new outlook.now.tick }
+        ensures reads { AreAskedMore delays.now outlook.now.tick outlook.now.front.now
+            self.old self.new port.old.reads port.new.reads }
+        ensures bus { port.new.bus ≡ port.old.bus }
+        ensures few { length port.new.reads + known_count self.old
+            ≤ length port.old.reads + known_count self.new }
+        ensures unplanned { self.new.planned ≡ false }
+    {
+        delays.shape();
+        match self.given(outlook.x, state) {
+            Given::Next {
+                word,
+                target: false,
+            } => self.ask_own(word, outlook.front, delays, port),
+            _ => {}
+        }
+    }
+
+    /// Reads it on as far as the tick allows, by which its next word is wanted: asks for the words that are known by now, and once they all
+    /// are plans it. Whatever the state before it is, what is known of it stays so, and nothing more of it can be known before the next tick.
     #[inline(always)]
     pub fn advance(&mut self, outlook: &Outlook, state: &State, delays: &Delays, port: &mut Port)
         requires known { IsKnown delays.now outlook.now.levels outlook.now.tick
             outlook.now.front.now outlook.now.x.now state.now self.old }
         requires front { IsFront outlook.now.levels outlook.now.front.now }
+        requires unplanned { self.old.planned ≡ false }
+        requires due { wanted_next outlook.now.front.now self.old ≤ outlook.now.tick }
         requires room { length port.old.reads + 5 ≤ 40 + known_count self.old }
         ensures next { GoesOn delays.now outlook.now.levels outlook.now.tick outlook.now.front.now
             outlook.now.x.now state.now self.old self.new (outlook.now.tick + 1) }
@@ -269,11 +322,9 @@ impl Next {
         ensures bus { port.new.bus ≡ port.old.bus }
         ensures few { length port.new.reads + known_count self.old
             ≤ length port.old.reads + known_count self.new }
-        ensures planned { self.old.planned ≡ false → self.new.planned ≡ true →
-            outlook.now.tick < self.new.formed.a }
-        ensures same { self.old.planned ≡ true → self.new ≡ self.old }
+        ensures planned { self.new.planned ≡ true → outlook.now.tick < self.new.formed.a }
     {
-        'words: while !self.planned && self.wanted(outlook.front) <= outlook.tick {
+        'words: loop {
             if !self.go_on(outlook, state, delays, port) {
                 return;
             }
@@ -316,7 +367,9 @@ impl Next {
         prepare_in(&mut self.prepared, &self.fetched, &mut after, read, state);
     }
 
-    // Reads it on by one word, or plans it, unless the target of EX waits for the entry before. The result says whether it went on.
+    // Reads it on by one word, or plans it, unless the target of EX waits for the entry before. The result says whether one more is wanted by
+    // the tick.
+    #[inline(always)]
     fn go_on(&mut self, outlook: &Outlook, state: &State, delays: &Delays, port: &mut Port) -> bool
         requires known { IsKnown delays.now outlook.now.levels outlook.now.tick
             outlook.now.front.now outlook.now.x.now state.now self.old }
@@ -335,17 +388,61 @@ impl Next {
         ensures few { length port.new.reads + known_count self.old
             ≤ length port.old.reads + known_count self.new }
         ensures planned { self.new.planned ≡ true → outlook.now.tick < self.new.formed.a }
+        ensures unplanned { result ≡ true → self.new.planned ≡ false }
+        ensures due { result ≡ true → wanted_next outlook.now.front.now self.new ≤ outlook.now.tick }
     {
         match self.spelled(state) {
             Some(spelled) => {
                 self.plan_spelled(spelled, outlook, state, delays, port);
-                true
+                false
             }
-            None => self.go_on_by_words(outlook, state, delays, port),
+            None => {
+                let outlook = *outlook;
+                self.go_on_seldom(&outlook, state, delays, port)
+            }
         }
     }
 
-    // The same, whatever its words are.
+    // The same where its words do not tell all of it, or where it is EX.
+    #[inline(never)]
+    fn go_on_seldom(
+        &mut self,
+        outlook: &Outlook,
+        state: &State,
+        delays: &Delays,
+        port: &mut Port,
+    ) -> bool
+        requires known { IsKnown delays.now outlook.now.levels outlook.now.tick
+            outlook.now.front.now outlook.now.x.now state.now self.old }
+        requires front { IsFront outlook.now.levels outlook.now.front.now }
+        requires unplanned { self.old.planned ≡ false }
+        requires due { wanted_next outlook.now.front.now self.old ≤ outlook.now.tick }
+        requires room { length port.old.reads + 5 ≤ 40 + known_count self.old }
+        ensures next { GoesOn delays.now outlook.now.levels outlook.now.tick outlook.now.front.now
+            outlook.now.x.now state.now self.old self.new
+            (if result then outlook.now.tick else outlook.now.tick + 1) }
+        ensures reads { AreAskedMore delays.now outlook.now.tick outlook.now.front.now
+            self.old self.new port.old.reads port.new.reads }
+        ensures bus { port.new.bus ≡ port.old.bus }
+        ensures more { result ≡ true → known_count self.new ≡ known_count self.old + 1 }
+        ensures most { known_count self.old ≤ 4 }
+        ensures few { length port.new.reads + known_count self.old
+            ≤ length port.old.reads + known_count self.new }
+        ensures planned { self.new.planned ≡ true → outlook.now.tick < self.new.formed.a }
+        ensures unplanned { result ≡ true → self.new.planned ≡ false }
+        ensures due { result ≡ true → wanted_next outlook.now.front.now self.new ≤ outlook.now.tick }
+    {
+        if !self.go_on_by_words(outlook, state, delays, port) {
+            return false;
+        }
+        if self.planned {
+            return false;
+        }
+        self.is_due(outlook.front, outlook.tick)
+    }
+
+    // Reads it on by one word, or plans it, whatever its words are, unless the target of EX waits for the entry before. The result says whether
+    // it went on.
     fn go_on_by_words(
         &mut self,
         outlook: &Outlook,
@@ -420,12 +517,15 @@ impl Next {
             (map (word state.now) (words_of_run self.now.own ++ words_of_run self.now.target)))
             ≡ FoundAll (plain (decoded r.0 r.1))) }
     {
-        let so_far = self.own.len + self.target.len;
-        if so_far == 1 {
-            return halves_known(self.place.address, &[state.word(self.word_at(0))], state);
+        if self.target.len != 0 {
+            return None;
         }
-        if so_far == 2 {
-            let contents = [state.word(self.word_at(0)), state.word(self.word_at(1))];
+        let first = self.own.first;
+        if self.own.len == 1 {
+            return halves_known(self.place.address, &[state.word(first)], state);
+        }
+        if self.own.len == 2 {
+            let contents = [state.word(first), state.word(first + 1)];
             return halves_known(self.place.address, &contents, state);
         }
         None
@@ -487,6 +587,7 @@ impl Next {
         self.fetched = fetched;
         self.prepared.place = self.place;
         self.needs = prepare_without_side(&mut self.prepared, &self.fetched, outlook.x, state);
+        self.show();
         self.plan(outlook, state, delays, port);
     }
 
@@ -499,7 +600,6 @@ impl Next {
             ≡ instruction_of spelled.first spelled.second }
         ensures value { self.new ≡ prepared_as (plain (decoded spelled.first spelled.second)) x.now
             state.now self.old }
-        ensures place { self.new.prepared.place ≡ self.old.place }
     {
         let Spelled {
             format,
@@ -527,7 +627,6 @@ impl Next {
         requires place { IsPlace self.old.place }
         requires fields { HasFields own.instr }
         ensures value { self.new ≡ prepared_as (plain own) x.now state.now self.old }
-        ensures place { self.new.prepared.place ≡ self.old.place }
     {
         self.prepare_own(own, x, state);
     }
@@ -538,7 +637,6 @@ impl Next {
         requires place { IsPlace self.old.place }
         requires fields { HasFields own.instr }
         ensures value { self.new ≡ prepared_as (plain own) x.now state.now self.old }
-        ensures place { self.new.prepared.place ≡ self.old.place }
     {
         let fetched = Fetched {
             instr: own,
@@ -548,6 +646,24 @@ impl Next {
         self.prepared.place = self.place;
         self.needs = prepare_without_side(&mut self.prepared, &fetched, x, state);
         self.fetched = fetched;
+        self.show();
+    }
+
+    // The entry becomes what it is prepared to, as the timetable sees it.
+    #[inline(always)]
+    fn show(&mut self)
+        ensures { self.new ≡ record self.old { entry = as_entry self.old } }
+    {
+        let entry = &mut self.entry;
+        let prepared = &self.prepared;
+        entry.own = self.own;
+        entry.target = self.target;
+        entry.side = side_to_read(self.needs.index_read);
+        entry.reads = words_to_read(prepared.reads);
+        entry.writes = words_to_write(prepared.writes);
+        entry.cost = prepared.cost;
+        entry.serial = prepared.serial;
+        entry.follows = prepared.place.table.is_none() && self.fetched.fault.is_none();
     }
 
     // Plans the entry, which is prepared as far as it goes without its index-side word.
@@ -558,7 +674,8 @@ impl Next {
             ≡ needs_of (seen self.old.place self.old.fetched outlook.now.x.now state.now) }
         requires ready { let v = seen self.old.place self.old.fetched outlook.now.x.now state.now in
             self.old.prepared ≡ prepared_of v (option_map (λ w. 0) (needs_of v).index_read) }
-        requires place { self.old.prepared.place ≡ self.old.place }
+        requires shown { self.old.entry ≡ entry_seen self.old.own self.old.target
+            (seen self.old.place self.old.fetched outlook.now.x.now state.now) }
         requires entry { IsEntry (entry_seen self.old.own self.old.target
             (seen self.old.place self.old.fetched outlook.now.x.now state.now)) }
         requires words { self.old.words
@@ -571,14 +688,6 @@ impl Next {
         ensures bus { port.new.bus ≡ port.old.bus }
     {
         let _ = state;
-        show_entry(
-            &mut self.entry,
-            self.own,
-            self.target,
-            &self.needs,
-            &self.prepared,
-            &self.fetched,
-        );
         let front = outlook.front;
         self.formed = front.form(delays, outlook.levels, &self.entry, &mut self.words);
         self.planned = true;
@@ -602,36 +711,6 @@ fn spelled_unless_execute(first: u32, second: u32) -> Option<Spelled>
         first,
         second,
     })
-}
-
-// The entry becomes that with these instruction words, as the timetable sees it.
-fn show_entry(
-    entry: &mut Entry,
-    own: Run,
-    target: Run,
-    needs: &Needs,
-    prepared: &Prepared,
-    fetched: &Fetched,
-)
-    ensures { entry.new ≡ record {
-      own = own;
-      target = target;
-      side = side_to_read_of needs.now.index_read;
-      reads = words_to_read_of prepared.now.reads;
-      writes = words_to_write_of prepared.now.writes;
-      cost = prepared.now.cost;
-      serial = prepared.now.serial;
-      follows = is_none prepared.now.place.table && is_none fetched.now.fault;
-    } }
-{
-    entry.own = own;
-    entry.target = target;
-    entry.side = side_to_read(needs.index_read);
-    entry.reads = words_to_read(prepared.reads);
-    entry.writes = words_to_write(prepared.writes);
-    entry.cost = prepared.cost;
-    entry.serial = prepared.serial;
-    entry.follows = prepared.place.table.is_none() && fetched.fault.is_none();
 }
 
 // A run with one word more.

@@ -1,10 +1,10 @@
-use Rattle.std.proofs.Common.{◌≡◌, ℕ, ◌+◌, ◌≤◌, true, List, sym, subst, arith}
+use Rattle.std.proofs.Common.{◌≡◌, ℕ, ◌+◌, ◌≤◌, true, false, List, sym, subst, ◌∙◌, ap, arith}
 use Rattle.st_rows.specs.Rows.{wanted_from}
-use Rattle.st_next.specs.Progress.{IsKnown}
+use Rattle.st_next.specs.Progress.{IsKnown, wanted_next}
 use Rattle.st_next.specs.Going.{GoesOn}
 use Rattle.st_ahead.specs.Look.{LookView, is_open}
 use Rattle.st_ahead.specs.Going.{IsGoing}
-use Rattle.st_ahead.proofs.Further.{going-open, known, known-further}
+use Rattle.st_ahead.proofs.Further.{going-open, known, known-further, known-later}
 use Rattle.st_ahead.proofs.look.Look.advance_now.Goals as goal
 
 pub advance-requires-clause-known : goal.advance-requires-clause-known
@@ -17,7 +17,8 @@ advance-requires-clause-known g c =
     let f = c.requires.going.front in
     let view : LookView = record { levels = c.self.inside.levels; front = c.self.inside.front; port = c.self.inside.port; next = c.self.inside.next } in
     let is = subst (λ (w : LookView). IsGoing ds n now now t s f w) (sym c.self.view_is) c.requires.going.going in
-    let wanted : wanted_from view.front ≤ now = subst (λ (w : LookView). wanted_from w.front ≤ now) (sym c.self.view_is) c.requires.wanted in
+    let due : wanted_next view.front view.next ≤ now = subst (λ (w : LookView). wanted_next w.front w.next ≤ now) (sym c.self.view_is) c.requires.due in
+    let wanted : wanted_from view.front ≤ now = omega arith in
     let opened : is_open view ≡ true =
     going-open ds n now now (λ h e range. (c.rows_are_in_order.ensures.done ds n h e range).1) t s f view is
     wanted in
@@ -34,7 +35,31 @@ returns-clause-going g c = λ t f given.
     let s = c.args.state.now in
     let view : LookView = record { levels = c.self.inside.levels; front = c.self.inside.front; port = c.self.inside.port; next = c.self.inside.next } in
     let is = subst (λ (w : LookView). IsGoing ds n now now t s f w) (sym c.self.view_is) given in
-    let wanted : wanted_from view.front ≤ now = subst (λ (w : LookView). wanted_from w.front ≤ now) (sym c.self.view_is) c.requires.wanted in
+    let due : wanted_next view.front view.next ≤ now = subst (λ (w : LookView). wanted_next w.front w.next ≤ now) (sym c.self.view_is) c.requires.due in
+    let wanted : wanted_from view.front ≤ now = omega arith in
+    let opened : is_open view ≡ true =
+    going-open ds n now now (λ h e range. (c.rows_are_in_order.ensures.done ds n h e range).1) t s f view is
+    wanted in
+    let run = c.open_levels_run_ahead.ensures ds n now t s f view is.ahead is.prepared is.not_done opened in
+    let before = c.next_entries_are_known.ensures ds n now t s f view is.machine is.indicator is.ahead is.not_done
+    (omega (arith, c.len-few.ensures.value, c.len-few.ensures.within, c.requires.few)) run in
+    let unplanned : view.next.planned ≡ false = ap (λ (w : LookView). w.next.planned) c.self.view_is ∙ c.requires.unplanned in
+    let goes = subst (λ (x : List ℕ). GoesOn ds n now view.front x s view.next c.advance.new.self (now + 1)) c.index.ensures c.advance.ensures.next in
+    known-further ds n now (now + 1) t s f view c.advance.new.self c.advance.new.port (λ h e. c.rows_are_in_order.ensures.prepared ds n h e) opened before
+    goes c.advance.ensures.reads c.advance.ensures.bus c.advance.ensures.few (λ before. c.advance.ensures.planned) (λ planned. let no : true ≡ false = sym planned ∙ unplanned in absurd (cc)) is
+
+pub returns-clause-later : goal.returns-clause-later
+returns-clause-later g c = λ unplanned.
+    let ds = c.args.delays.now in
+    let n = g.row.N in
+    let now = c.args.now in
+    let t = c.requires.going.table in
+    let s = c.args.state.now in
+    let f = c.requires.going.front in
+    let view : LookView = record { levels = c.self.inside.levels; front = c.self.inside.front; port = c.self.inside.port; next = c.self.inside.next } in
+    let is = subst (λ (w : LookView). IsGoing ds n now now t s f w) (sym c.self.view_is) c.requires.going.going in
+    let due : wanted_next view.front view.next ≤ now = subst (λ (w : LookView). wanted_next w.front w.next ≤ now) (sym c.self.view_is) c.requires.due in
+    let wanted : wanted_from view.front ≤ now = omega arith in
     let opened : is_open view ≡ true =
     going-open ds n now now (λ h e range. (c.rows_are_in_order.ensures.done ds n h e range).1) t s f view is
     wanted in
@@ -42,5 +67,4 @@ returns-clause-going g c = λ t f given.
     let before = c.next_entries_are_known.ensures ds n now t s f view is.machine is.indicator is.ahead is.not_done
     (omega (arith, c.len-few.ensures.value, c.len-few.ensures.within, c.requires.few)) run in
     let goes = subst (λ (x : List ℕ). GoesOn ds n now view.front x s view.next c.advance.new.self (now + 1)) c.index.ensures c.advance.ensures.next in
-    known-further ds n now t s f view c.advance.new.self c.advance.new.port (λ h e. c.rows_are_in_order.ensures.prepared ds n h e) opened before
-    goes c.advance.ensures.reads c.advance.ensures.bus c.advance.ensures.few c.advance.ensures.planned c.advance.ensures.same is
+    known-later ds n now (now + 1) t s f view c.advance.new.self (λ h e. c.rows_are_in_order.ensures.prepared ds n h e) opened before goes c.advance.ensures.planned is

@@ -1,12 +1,83 @@
-use Rattle.std.proofs.Common.{◌∙◌, ap}
+use Rattle.std.proofs.Common.{◌≡◌, ℕ, ◌+◌, ◌<◌, true, sym, subst, ◌∙◌, ap, arith}
 use Rattle.st_rows.specs.declared.front.Front.{Front}
+use Rattle.st_ahead.specs.Look.{LookView}
+use Rattle.st_ahead.specs.Going.{IsGoing}
+use Rattle.st_ahead.proofs.Further.{going-planned}
 use Rattle.st_ahead.proofs.Turning.{prepared-later}
 use Rattle.st_ahead.proofs.look.Look.settle.Goals as goal
 
-pub returns-clause-later : goal.returns-clause-later
-returns-clause-later g c =
+pub push-requires : goal.push-requires
+push-requires g c =
+    let ds = c.args.delays.now in
+    let n = g.row.N in
+    let now = c.args.now in
+    let s = c.args.state.now in
     let t = c.requires.going.table in
     let f = c.requires.going.front in
-    prepared-later c.args.delays.now g.row.N c.args.now t c.args.state.now f c.advance-2.new.self
-    (c.advance-2.ensures.going t f (c.push.ensures.going t f (c.advance.ensures.going t f c.requires.going.going)))
-    (ap (λ (h : Front). h.p) c.advance-2.ensures.front ∙ c.push.ensures.prepared)
+    let view : LookView = record { levels = c.self.inside.levels; front = c.self.inside.front; port = c.self.inside.port; next = c.self.inside.next } in
+    let is = subst (λ (w : LookView). IsGoing ds n now now t s f w) (sym c.self.view_is) c.requires.going.going in
+    let rests = subst (λ (w : LookView). IsGoing ds n now (now + 1) t s f w) c.self.view_is (going-planned ds n now t s f view c.if-self.true is) in
+    (omega arith, (c.requires.some, (c.requires.few, (c.requires.early, (record { table = t; front = f; going = rests }, (ap (λ (w : LookView). w.next.planned) (sym c.self.view_is) ∙ c.if-self.true, (omega (arith, ap (λ (w : LookView). w.next.formed.p) c.self.view_is))))))))
+
+pub begin-requires : goal.begin-requires
+begin-requires g c =
+    let ds = c.args.delays.now in
+    let n = g.row.N in
+    let now = c.args.now in
+    let s = c.args.state.now in
+    let t = c.requires.going.table in
+    let f = c.requires.going.front in
+    let view : LookView = record { levels = c.self.inside.levels; front = c.self.inside.front; port = c.self.inside.port; next = c.self.inside.next } in
+    let is = subst (λ (w : LookView). IsGoing ds n now now t s f w) (sym c.self.view_is) c.requires.going.going in
+    let rests = subst (λ (w : LookView). IsGoing ds n now (now + 1) t s f w) c.self.view_is (going-planned ds n now t s f view c.if-self.true is) in
+    (omega arith, (c.requires.some, (c.requires.few, (c.requires.early, (record { table = t; front = f; going = c.push.ensures.going t f rests })))))
+
+pub advance-requires : goal.advance-requires
+advance-requires g c =
+    let ds = c.args.delays.now in
+    let n = g.row.N in
+    let now = c.args.now in
+    let s = c.args.state.now in
+    let t = c.requires.going.table in
+    let f = c.requires.going.front in
+    let view : LookView = record { levels = c.self.inside.levels; front = c.self.inside.front; port = c.self.inside.port; next = c.self.inside.next } in
+    let is = subst (λ (w : LookView). IsGoing ds n now now t s f w) (sym c.self.view_is) c.requires.going.going in
+    let rests = subst (λ (w : LookView). IsGoing ds n now (now + 1) t s f w) c.self.view_is (going-planned ds n now t s f view c.if-self.true is) in
+    (omega arith, (c.requires.some, (c.requires.few, (c.requires.early, (record { table = t; front = f; going = c.begin.ensures.going t f (c.push.ensures.going t f rests) })))))
+
+pub returns-then-self-now-clause-going : goal.returns-then-self-now-clause-going
+returns-then-self-now-clause-going g c = λ t f given.
+    let ds = c.args.delays.now in
+    let n = g.row.N in
+    let now = c.args.now in
+    let s = c.args.state.now in
+    let view : LookView = record { levels = c.self.inside.levels; front = c.self.inside.front; port = c.self.inside.port; next = c.self.inside.next } in
+    let is = subst (λ (w : LookView). IsGoing ds n now now t s f w) (sym c.self.view_is) given in
+    let rests = subst (λ (w : LookView). IsGoing ds n now (now + 1) t s f w) c.self.view_is (going-planned ds n now t s f view c.if-self.true is) in
+    rests
+
+pub returns-then-self-clause-going : goal.returns-then-self-clause-going
+returns-then-self-clause-going g c = λ t f given.
+    let ds = c.args.delays.now in
+    let n = g.row.N in
+    let now = c.args.now in
+    let s = c.args.state.now in
+    let view : LookView = record { levels = c.self.inside.levels; front = c.self.inside.front; port = c.self.inside.port; next = c.self.inside.next } in
+    let is = subst (λ (w : LookView). IsGoing ds n now now t s f w) (sym c.self.view_is) given in
+    let rests = subst (λ (w : LookView). IsGoing ds n now (now + 1) t s f w) c.self.view_is (going-planned ds n now t s f view c.if-self.true is) in
+    c.advance.ensures.going t f (c.begin.ensures.going t f (c.push.ensures.going t f rests))
+
+pub returns-then-self-clause-later : goal.returns-then-self-clause-later
+returns-then-self-clause-later g c =
+    let ds = c.args.delays.now in
+    let n = g.row.N in
+    let now = c.args.now in
+    let s = c.args.state.now in
+    let t = c.requires.going.table in
+    let f = c.requires.going.front in
+    let view : LookView = record { levels = c.self.inside.levels; front = c.self.inside.front; port = c.self.inside.port; next = c.self.inside.next } in
+    let is = subst (λ (w : LookView). IsGoing ds n now now t s f w) (sym c.self.view_is) c.requires.going.going in
+    let rests = subst (λ (w : LookView). IsGoing ds n now (now + 1) t s f w) c.self.view_is (going-planned ds n now t s f view c.if-self.true is) in
+    prepared-later ds n now t s f c.advance.new.self
+    (c.advance.ensures.going t f (c.begin.ensures.going t f (c.push.ensures.going t f rests)))
+    (ap (λ (h : Front). h.p) (c.advance.ensures.front ∙ c.begin.ensures.front) ∙ c.push.ensures.prepared)

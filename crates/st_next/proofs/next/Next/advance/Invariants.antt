@@ -1,8 +1,9 @@
-use Rattle.std.proofs.Common.{◌≡◌, ◌+◌, ◌-◌, ◌≤◌, ◌<◌, true, false, length}
+use Rattle.std.proofs.Common.{◌≡◌, ◌+◌, ◌-◌, ◌≤◌, false, length}
+use Rattle.st_next.specs.Progress.{wanted_next}
 use Rattle.st_next.specs.Going.{GoesOn, AreAskedMore, known_count}
 use Rattle.st_next.proofs.next.Next.advance.Given as goal
 
--- what was known of it is still, and the reads so far are asked for
+-- what was known of it is still, the reads so far are asked for, and one more word is wanted
 abbrev pub invariant-words : goal.invariant-words
 invariant-words l =
     let ds = l.delays in
@@ -13,8 +14,8 @@ invariant-words l =
       asked : AreAskedMore ds now f l.fn.self l.self l.fn.port.reads l.port.reads;
       bus : l.port.bus ≡ l.fn.port.bus;
       few : length l.port.reads + known_count l.fn.self ≤ length l.fn.port.reads + known_count l.self;
-      planned : l.fn.self.planned ≡ false → l.self.planned ≡ true → now < l.self.formed.a;
-      same : l.fn.self.planned ≡ true → l.self ≡ l.fn.self;
+      unplanned : l.self.planned ≡ false;
+      due : wanted_next f l.self ≤ now;
     }
 
 abbrev pub decreases-words : goal.decreases-words

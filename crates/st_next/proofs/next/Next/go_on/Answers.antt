@@ -1,4 +1,5 @@
-use Rattle.std.proofs.Common.{refl, arith}
+use Rattle.std.proofs.Common.{inl, refl, arith}
+use Rattle.st_next.proofs.Goes.{goes-done}
 use Rattle.st_next.proofs.Steps.{plan-goes}
 use Rattle.st_next.proofs.Asking.{known-words, known-place, known-seen, plan-asks, plan-late, more-side, count-most, count-plan}
 use Rattle.st_next.proofs.next.Next.go_on.Goals as goal
@@ -23,16 +24,14 @@ plan_spelled-requires-clause-few c =
 
 pub returns-in-Some-clause-next : goal.returns-in-Some-clause-next
 returns-in-Some-clause-next c =
-    plan-goes _ _ _ _ _ _ _ c.requires.unplanned c.requires.due _ refl _ _ _ (c.in-Some.ensures.found c.args.outlook.now.x.now) c.plan_spelled.ensures.next
+    goes-done _ _ _ _ _ _ _ _
+    (plan-goes _ _ _ _ _ _ _ c.requires.unplanned c.requires.due _ refl _ _ _ (c.in-Some.ensures.found c.args.outlook.now.x.now) c.plan_spelled.ensures.next)
+    (inl c.plan_spelled.ensures.next.planned)
 
 pub returns-in-Some-clause-reads : goal.returns-in-Some-clause-reads
 returns-in-Some-clause-reads c =
     plan-asks _ _ _ _ _ _ _ c.requires.unplanned c.requires.due c.requires.known _ refl _ (c.in-Some.ensures.found c.args.outlook.now.x.now) _ _ _
     c.plan_spelled.ensures.next c.plan_spelled.ensures.reads
-
-pub returns-in-Some-clause-more : goal.returns-in-Some-clause-more
-returns-in-Some-clause-more c done =
-    count-plan c.args.self.now c.plan_spelled.new.self c.requires.unplanned c.plan_spelled.ensures.next.own c.plan_spelled.ensures.next.target c.plan_spelled.ensures.next.planned
 
 pub returns-in-Some-clause-few : goal.returns-in-Some-clause-few
 returns-in-Some-clause-few c =
