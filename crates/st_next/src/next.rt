@@ -397,7 +397,6 @@ impl Next {
                 false
             }
             None => {
-                // A copy, so that the record need not stand in memory for what is frequent.
                 let outlook = *outlook;
                 self.go_on_seldom(&outlook, state, delays, port)
             }
