@@ -730,12 +730,10 @@ fn with_word(run: Run, w: u32) -> Run
 fn above_registers(first: u32, len: u8) -> Run
     ensures { result ≡ above_registers_of first len }
 {
-    if first >= FIRST_STORAGE_WORD {
-        return Run { first, len };
-    }
-    let registers = (FIRST_STORAGE_WORD - first) as u8;
+    let above = first.max(FIRST_STORAGE_WORD);
+    let registers = (above - first) as u8;
     Run {
-        first: FIRST_STORAGE_WORD,
+        first: above,
         len: len.saturating_sub(registers),
     }
 }
