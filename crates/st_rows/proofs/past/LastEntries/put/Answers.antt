@@ -1,4 +1,4 @@
-use Rattle.std.proofs.Common.{◌≡◌, ◌+◌, ◌-◌, ◌%◌, ◌<◌, ◌∷◌, List, length, take, length-set, ap, ◌∙◌, arith}
+use Rattle.std.proofs.Common.{◌≡◌, ◌∷◌, List, take, length-set, ap, ◌∙◌, arith}
 use Rattle.std.proofs.lemmas.List.{get_or-set_same}
 use Rattle.st_rows.specs.declared.past.Past.{Past}
 use Rattle.st_rows.specs.Entries.{has_words}
@@ -11,8 +11,8 @@ pub invariant_of-self : goal.invariant_of-self
 invariant_of-self c =
     let q = c.self.inside in
     let is = c.self.invariant in
-    let inside : (q.head + 8 - 1) % 8 < length q.entries = omega (arith, is.whole) in
-    let kept = c.any-writes.ensures ∙ ap (λ (p : Past). has_words p.writes) (get_or-set_same q.entries _ c.args.newest _ inside) in
+    let kept : c.any-writes.result ≡ has_words c.args.newest.writes =
+    c.any-writes.ensures ∙ ap (λ (p : Past). has_words p.writes) (get_or-set_same q.entries _ c.args.newest _ (omega (arith, is.whole))) in
     record {
       inside = omega arith;
       whole = length-set q.entries _ c.args.newest ∙ is.whole;
