@@ -631,7 +631,7 @@ impl Next {
         self.prepare_own(own, x, state);
     }
 
-    // The same of any instruction.
+    // The same of any instruction. What is fetched is kept field by field, before it is read, so that no copy of it is made with tests.
     #[inline(always)]
     fn prepare_own(&mut self, own: Decoded, x: &[u64; 16], state: &State)
         requires place { IsPlace self.old.place }
@@ -643,9 +643,11 @@ impl Next {
             target: None,
             fault: None,
         };
+        self.fetched.instr = own;
+        self.fetched.target = None;
+        self.fetched.fault = None;
         self.prepared.place = self.place;
         self.needs = prepare_without_side(&mut self.prepared, &fetched, x, state);
-        self.fetched = fetched;
         self.show();
     }
 
@@ -730,12 +732,10 @@ fn with_word(run: Run, w: u32) -> Run
 fn above_registers(first: u32, len: u8) -> Run
     ensures { result ≡ above_registers_of first len }
 {
-    if first >= FIRST_STORAGE_WORD {
-        return Run { first, len };
-    }
-    let registers = (FIRST_STORAGE_WORD - first) as u8;
+    let above = first.max(FIRST_STORAGE_WORD);
+    let registers = (above - first) as u8;
     Run {
-        first: FIRST_STORAGE_WORD,
+        first: above,
         len: len.saturating_sub(registers),
     }
 }

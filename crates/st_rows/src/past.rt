@@ -69,7 +69,8 @@ impl LastEntries {
     {
         self.head = (self.head + KEPT - 1) % KEPT;
         self.entries[self.head] = newest;
-        self.writers = self.writers % 128 * 2 + u64::from(newest.writes.any());
+        let writes = self.entries[self.head].writes.any();
+        self.writers = self.writers % 128 * 2 + u64::from(writes);
     }
 
     /// The tick at which the entry `n` before is done, 1 to 8; 0 where there was no such entry.

@@ -1,5 +1,7 @@
-use Rattle.std.proofs.Common.{◌∷◌, List, take, length-set, ap, ◌∙◌, arith}
+use Rattle.std.proofs.Common.{◌≡◌, ◌∷◌, List, take, length-set, ap, ◌∙◌, arith}
+use Rattle.std.proofs.lemmas.List.{get_or-set_same}
 use Rattle.st_rows.specs.declared.past.Past.{Past}
+use Rattle.st_rows.specs.Entries.{has_words}
 use Rattle.st_fetch.specs.Queue.{window}
 use Rattle.st_fetch.proofs.Windows.{length-window}
 use Rattle.st_rows.proofs.Shifted.{bit-is, bits-shifted, window-put}
@@ -9,11 +11,13 @@ pub invariant_of-self : goal.invariant_of-self
 invariant_of-self c =
     let q = c.self.inside in
     let is = c.self.invariant in
+    let kept : c.any-writes.result ≡ has_words c.args.newest.writes =
+    c.any-writes.ensures ∙ ap (λ (p : Past). has_words p.writes) (get_or-set_same q.entries _ c.args.newest _ (omega (arith, is.whole))) in
     record {
       inside = omega arith;
       whole = length-set q.entries _ c.args.newest ∙ is.whole;
       writers =
-          rw (c.from.ensures, bit-is c.any.result, c.any.ensures, is.writers, window-put q.head q.entries c.args.newest is.inside is.whole)
+          rw (c.from.ensures, bit-is c.any-writes.result, kept, is.writers, window-put q.head q.entries c.args.newest is.inside is.whole)
           (bits-shifted c.args.newest (window q.head 8 q.entries) (length-window 8 q.head 8 q.entries is.inside (omega arith) is.whole));
     }
 
