@@ -7,8 +7,7 @@ mod made;
 mod numbers;
 
 pub use agreement::{
-    counts_agree, digits_agree, numbers_agree, sizes_of_storage_agree,
-    symbols_agree,
+    counts_agree, digits_agree, numbers_agree, sizes_of_storage_agree, symbols_agree,
 };
 pub use made::made_decks_are_not_refused;
 pub use numbers::laid_numbers_are_read;
