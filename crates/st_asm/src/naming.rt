@@ -184,7 +184,7 @@ fn add_line(names: &mut Names, line: &Line) -> Result<(), Stop>
     ensures err { IfErr result (λ stop. stop ≡ Stop.NoMemory) }
     ensures kept { OnOk result (spec.IsKept names.new) }
 {
-    let (place, behind) = placed(&names.table, names.location, &line.statement);
+    let (place, behind) = place_and_behind(&names.table, names.location, &line.statement);
     if let Some(name) = line.name {
         define(names, name, place.unwrap_or(0))?;
     }
@@ -196,7 +196,7 @@ fn add_line(names: &mut Names, line: &Line) -> Result<(), Stop>
 }
 
 // The place of a card, and the location behind it.
-fn placed(
+fn place_and_behind(
     symbols: &Symbols,
     location: u32,
     statement: &Option<CompactStatement>,
@@ -209,11 +209,11 @@ fn placed(
 {
     match statement {
         None => (None, location),
-        Some(statement) => placed_statement(symbols, location, statement),
+        Some(statement) => place_and_behind_statement(symbols, location, statement),
     }
 }
 
-fn placed_statement(
+fn place_and_behind_statement(
     symbols: &Symbols,
     location: u32,
     statement: &CompactStatement,

@@ -16,8 +16,8 @@ scaled_mod : (m r w : ℕ) → 0 < r → 0 < w → m % r * w ≡ m * w % (r * w)
 scaled_mod m r w some more = rw (mod-mul (m * w) some more, mul-div_cancel m more, mul-mod_left m w) (omega arith)
 
 -- what stays of a number that is moved to a place, and whether digits are lost
-pub placed : (m place : ℕ) → place < 32 → m % 10 ^ (32 - place) * 10 ^ place ≡ m * 10 ^ place % 10 ^ 32
-placed m place few =
+pub digits_at_place : (m place : ℕ) → place < 32 → m % 10 ^ (32 - place) * 10 ^ place ≡ m * 10 ^ place % 10 ^ 32
+digits_at_place m place few =
     rw (powers_of_places place few) (scaled_mod m (10 ^ (32 - place)) (10 ^ place) (power_above_zero (32 - place)) (power_above_zero place))
 
 scaled_le : (r m w : ℕ) → 0 < w → leb r m ≡ leb (r * w) (m * w)
@@ -30,4 +30,4 @@ pub lost_place : (m place : ℕ) → place < 32 → leb (10 ^ (32 - place)) m �
 lost_place m place few = rw (powers_of_places place few) (scaled_le (10 ^ (32 - place)) m (10 ^ place) (power_above_zero place))
 
 -- what moving to a place does
-pub ruleset place_rules = (placed, lost_place)
+pub ruleset place_rules = (digits_at_place, lost_place)

@@ -69,7 +69,7 @@ impl Base for Two {
         indicator(BINARY_TRANSIT)
     }
 
-    fn placed(taken: &Taken) -> Kept {
+    fn at_place(taken: &Taken) -> Kept {
         shift(u128::from(taken.field.mag), taken.shape.offset)
     }
 

@@ -80,12 +80,12 @@ value_fits b n m wide =
 moved-below : (p : ℕ) (cs : List ℕ) → AllBelow 4 cs → AllBelow 4 (replicate p 0 ++ cs)
 moved-below p cs all = append-below 4 (replicate p 0) cs (zeros-below 4 p) all
 
-pub joined-placed : (p : ℕ) (ds : List ℕ) → joined 4 (take 32 (replicate p 0 ++ map (λ d. d % 16) ds)) ≡ joined 4 (map (λ d. d % 16) ds) * 2 ^ (4 * p) % 2 ^ 128
-joined-placed p ds =
+pub joined-at_place : (p : ℕ) (ds : List ℕ) → joined 4 (take 32 (replicate p 0 ++ map (λ d. d % 16) ds)) ≡ joined 4 (map (λ d. d % 16) ds) * 2 ^ (4 * p) % 2 ^ 128
+joined-at_place p ds =
     rw (joined-take 4 32 (replicate p 0 ++ map (λ d. d % 16) ds) (moved-below p (map (λ d. d % 16) ds) (codes-below ds)), joined-zeros-append 4 p (map (λ d. d % 16) ds)) refl
 
-pub value-placed : (p d : ℕ) (ds : List ℕ) → d ≡ joined 4 (take 32 (replicate p 0 ++ map (λ d. d % 16) ds)) → value_of 32 d ≡ value (take 32 (replicate p 0 ++ map (λ d. d % 16) ds))
-value-placed p d ds is =
+pub value-at_place : (p d : ℕ) (ds : List ℕ) → d ≡ joined 4 (take 32 (replicate p 0 ++ map (λ d. d % 16) ds)) → value_of 32 d ≡ value (take 32 (replicate p 0 ++ map (λ d. d % 16) ds))
+value-at_place p d ds is =
     let short : length (take 32 (replicate p 0 ++ map (λ d. d % 16) ds)) ≤ 32 = rw length-take (omega arith) in
     rw is (value-joined 32 (take 32 (replicate p 0 ++ map (λ d. d % 16) ds)) (take-below 4 32 (replicate p 0 ++ map (λ d. d % 16) ds) (moved-below p (map (λ d. d % 16) ds) (codes-below ds))) short)
 

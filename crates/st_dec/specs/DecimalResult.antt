@@ -19,8 +19,8 @@ use Rattle.st_dec.specs.DecimalOperand.{digit_count, digit_bytes, codes, field_v
 -- ---- what is kept
 
 -- the codes of the operand at the digit place
-abbrev pub placed : Field → Shape → Kept
-placed f h = record {
+abbrev pub at_place : Field → Shape → Kept
+at_place f h = record {
   bits = joined 4 (codes_kept f h);
   value = value (codes_kept f h);
   is_lost = any_code (codes_lost f h);
@@ -72,7 +72,7 @@ base t = record {
   value = field_value t.field t.shape;
   content = joined 4 (codes t.field t.shape);
   transit = indicator DECIMAL_TRANSIT;
-  placed = placed t.field t.shape;
+  at_place = at_place t.field t.shape;
   stored = stored t;
   summed = summed;
   replaced = replaced t.field t.shape;

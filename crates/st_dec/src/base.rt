@@ -43,7 +43,7 @@ impl Base for Ten {
         indicator(DECIMAL_TRANSIT)
     }
 
-    fn placed(taken: &Taken) -> Kept {
+    fn at_place(taken: &Taken) -> Kept {
         let codes = codes(&taken.field, &taken.shape);
         let codes = shift(u128::from(codes), 4 * digit_place(&taken.shape));
         Kept {

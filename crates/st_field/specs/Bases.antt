@@ -37,7 +37,7 @@ pub record InBase : Type 0 where
   pub content : ℕ
   pub transit : ℕ
   -- the field at its place in the accumulator, and the accumulator from the offset on as the field stores it
-  pub placed : Kept
+  pub at_place : Kept
   pub stored : Kept
   -- what a number makes of the accumulator, and of the field
   pub summed : ℕ → Kept
@@ -59,7 +59,7 @@ abbrev pub operand : InBase → Taken → Signed
 operand b t = operand_of t.field t.shape b.value
 
 abbrev pub aligned : InBase → Taken → Aligned
-aligned b t = aligned_of t.field t.shape b.placed
+aligned b t = aligned_of t.field t.shape b.at_place
 
 -- the field as a number, and what is added to it: the accumulator from the offset on
 abbrev pub field_number : InBase → Taken → Signed

@@ -78,9 +78,9 @@ pub trait Base {
         ensures few { result < 2 ^ 42 };
 
     /// The field at its place in the accumulator.
-    fn placed(taken: &Taken) -> Kept
+    fn at_place(taken: &Taken) -> Kept
         requires { IsTaken Allows taken.now }
-        ensures value { result ≡ (base taken.now).placed }
+        ensures value { result ≡ (base taken.now).at_place }
         ensures bound { result.value < limit };
 
     /// The accumulator from the offset on as the field stores it.

@@ -42,7 +42,7 @@ fn aligned<B: Base>(taken: &Taken) -> Aligned
     ensures bound { result.number.mag < B.limit }
     ensures few { result.on < 2 ^ 42 }
 {
-    align(&taken.field, &taken.shape, B::placed(taken))
+    align(&taken.field, &taken.shape, B::at_place(taken))
 }
 
 // The field as a number.
