@@ -28,7 +28,7 @@ use Rattle.st_dec.specs.DecimalOperand.{IsDecimalShape, digit_count, digit_bytes
 use Rattle.st_dec.specs.DigitLists.{joined}
 use Rattle.st_dec.proofs.DigitLemmas.{joined-below}
 use Rattle.st_dec.proofs.ListLemmas.{codes-below}
-use Rattle.st_dec.proofs.PartLemmas.{length-codes, joined-placed}
+use Rattle.st_dec.proofs.PartLemmas.{length-codes, joined-at_place}
 use Rattle.st_dec.proofs.RecodeLemmas.{decimal_fits}
 use Rattle.st_dec.proofs.ShapeLemmas.{count-few}
 use Rattle.st_conn.specs.Connective.{connected, is_covered, inserted_at, inserted}
@@ -90,7 +90,7 @@ is_decimal_shape d u n p l b o f h e =
 -- what a base leaves fits the registers
 record FitsBase (b : InBase) : Type 0 where
   content : b.content < 2 ^ 64
-  placed : b.placed.bits < 2 ^ 128
+  at_place : b.at_place.bits < 2 ^ 128
   summed : (n : ℕ) → (b.summed n).bits < 2 ^ 128
   product : FitsRegisters b.product
   product_added : (ft : ℕ) → FitsRegisters (b.product_added ft)
@@ -99,8 +99,8 @@ record FitsBase (b : InBase) : Type 0 where
 
 based-fits : (op : VflOp) (b : InBase) (t : Taken) (ft ind : ℕ) → t.acc.mag < 2 ^ 128 → FitsBase b → FitsRegisters (result_of op b t ft ind)
 unfolding stored
-based-fits L b t ft ind acc fits = fits_alone _ fits.placed refl refl refl
-based-fits Lwf b t ft ind acc fits = fits_alone _ fits.placed refl refl refl
+based-fits L b t ft ind acc fits = fits_alone _ fits.at_place refl refl refl
+based-fits Lwf b t ft ind acc fits = fits_alone _ fits.at_place refl refl refl
 based-fits Ltrs b t ft ind acc fits = record { acc = acc; rm = tt; ft = tt; tr = fits.content }
 based-fits Lft b t ft ind acc fits = record { acc = acc; rm = tt; ft = fits.content; tr = tt }
 based-fits St b t ft ind acc fits = fits_alone _ acc refl refl refl
@@ -148,7 +148,7 @@ binary-fits : (t : Taken) → t.acc.mag < 2 ^ 128 → t.field.mag < 2 ^ 64 → F
 unfolding binary.product_added binary.converted
 binary-fits t acc mag = record {
   content = mag;
-  placed = omega arith;
+  at_place = omega arith;
   summed = λ n. omega arith;
   product = product-fits t.acc t.field t.shape mag;
   product_added = λ ft. fits_alone _ (omega arith) refl refl refl;
@@ -174,7 +174,7 @@ decimal-fits t is acc =
     let transit : FitsRegisters (decimal.transit_set t.acc t.field t.shape) = record { acc = acc; rm = tt; ft = tt; tr = codes } in
     record {
       content = codes;
-      placed = omega (arith, joined-placed (place t.shape) (digit_bytes t.field t.shape));
+      at_place = omega (arith, joined-at_place (place t.shape) (digit_bytes t.field t.shape));
       summed = λ n. omega (arith, decimal_fits 32 n);
       product = transit;
       product_added = λ ft. transit;
