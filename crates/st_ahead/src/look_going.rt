@@ -187,6 +187,7 @@ impl<const N: usize> Look<N> {
 }
 
 // Asks for the operands of an entry that is prepared at the tick `now`, where no read is left to be made.
+#[inline(always)]
 fn ask_operands(port: &mut Port, past: &LastEntries, entry: &Entry, now: u64)
     requires entry { IsEntry entry.now }
     requires made { port.old.reads ≡ [] }

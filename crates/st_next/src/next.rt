@@ -532,6 +532,7 @@ impl Next {
     }
 
     // Plans the entry, which is this instruction.
+    #[inline(always)]
     fn plan_spelled(
         &mut self,
         spelled: Spelled,

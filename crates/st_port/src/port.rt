@@ -111,6 +111,7 @@ impl Port {
     }
 
     /// Asks for the operand words of an entry that is prepared at `p`, except those that an earlier entry writes that is done later.
+    #[inline(always)]
     pub fn ask_operands(&mut self, past: &LastEntries, reads: Runs, p: u64)
         requires one { IsReadable reads.one }
         requires two { IsReadable reads.two }

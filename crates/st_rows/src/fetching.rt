@@ -45,6 +45,7 @@ impl Fetching {
     /// Fetches the next instruction word, which is wanted from `from` on. The result says whether a read is made for it, which is so exactly
     /// where it was not held.
     #[tactic(auto, unfolding(crate::specs::Rows::fetch_word))]
+    #[inline(always)]
     pub fn word(&mut self, delays: &Delays, past: &LastEntries, w: u32, from: u64) -> bool
         requires room { IsFetchingWithin (2 ^ 64 - 512) self.old }
         requires before { ArePastWithin (2 ^ 64 - 512) past.now }

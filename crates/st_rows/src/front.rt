@@ -126,6 +126,7 @@ impl Front {
 
     /// The address of the next entry is formed, whose instruction words are fetched, and its index-side word is asked for behind them; `levels`
     /// are those of the machine, 1 to 8.
+    #[inline(always)]
     pub fn form(
         &self,
         delays: &Delays,
@@ -215,6 +216,7 @@ impl Front {
 
     /// The operand words of the next entry are read, whose address is formed as `form` says, and its following words are asked for; the front
     /// stays before it.
+    #[inline(always)]
     pub fn fill(
         &self,
         delays: &Delays,
@@ -302,6 +304,7 @@ fn prepared_at(levels: usize, past: &LastEntries, a: u64, y: u64) -> u64
 // The operand words are read of an entry that is prepared at `p`. The result says when the first two of its first run are there, 0 where
 // that has no such word.
 #[tactic(auto, unfolding(crate::specs::Rows::operands_read))]
+#[inline(always)]
 fn read_operands(
     operands: &mut Fetching,
     delays: &Delays,
@@ -325,6 +328,7 @@ fn read_operands(
 
 // The words of a run of operands are read. The result says when the first two are there, 0 where there is no such word.
 #[tactic(auto, unfolding(crate::specs::Rows::fills_of))]
+#[inline(always)]
 fn read_run(
     operands: &mut Fetching,
     delays: &Delays,
@@ -361,6 +365,7 @@ fn read_run(
 
 // The following words of an entry that is prepared at `p` are asked for. The result says whether each of the two is.
 #[tactic(auto, unfolding(crate::specs::Rows::bus_followed, crate::specs::Asked::are_following_asked))]
+#[inline(always)]
 fn follow(bus: &mut Bus, delays: &Delays, entry: &Entry, p: u64) -> [bool; 2]
     requires entry { IsEntry entry.now }
     requires room { IsBusWithin (2 ^ 64 - 1024) bus.old }
