@@ -1,7 +1,8 @@
 -- How the entry that is prepared next goes on, and what it takes for granted.
-use Rattle.std.specs.Prelude.{ℕ, ◌≡◌, ◌+◌, ◌-◌, ◌^◌, ◌≤◌, ◌<◌, true, ◌&&◌, if◌then◌else◌, List, ◌++◌, All, Option, IfSome, is_none, option_map}
+use Rattle.std.specs.Prelude.{ℕ, ◌≡◌, ◌+◌, ◌-◌, ◌^◌, ◌≤◌, ◌<◌, true, ◌&&◌, if◌then◌else◌, Bool, List, ◌++◌, All, Option, IfSome, is_none, option_map}
 use Rattle.st_state.specs.Machine.{Machine}
 use Rattle.st_prep.specs.declared.entries.Fetched.{Fetched}
+use Rattle.st_prep.specs.declared.entries.Prepared.{Prepared}
 use Rattle.st_prep.specs.Plan.{Sight, seen, needs, prepared}
 use Rattle.st_rows.specs.Asked.{Read, asked}
 use Rattle.st_rows.specs.Ranges.{IsTight, IsFetchingWithin, ArePastWithin}
@@ -45,33 +46,30 @@ pub record IsEarly (f : Front) (words : Fetching) : Type 0 where
   pub wanted : wanted_from f ≤ 2 ^ 64 - 512
   pub done : f.c ≤ 2 ^ 64 - 512
 
+-- an entry with these words, its index-side word and what it is prepared to; following words are asked for as `follows` says
+abbrev pub entry_with : Run → Run → Option ℕ → Prepared → Bool → Entry
+entry_with own target side p follows = record {
+  own = own;
+  target = target;
+  side = side_to_read side;
+  reads = words_to_read p.reads;
+  writes = words_to_write p.writes;
+  cost = p.cost;
+  serial = p.serial;
+  follows = follows;
+}
+
 -- the entry with these instruction words, of which so much is seen
 abbrev pub entry_seen : Run → Run → Sight → Entry
 entry_seen own target v =
-    let p = prepared v (option_map (λ w. 0) (needs v).index_read) in
-    record {
-      own = own;
-      target = target;
-      side = side_to_read (needs v).index_read;
-      reads = words_to_read p.reads;
-      writes = words_to_write p.writes;
-      cost = p.cost;
-      serial = p.serial;
-      follows = is_none v.place.table && is_none v.fetched.fault;
-    }
+    entry_with own target (needs v).index_read (prepared v (option_map (λ w. 0) (needs v).index_read))
+    (is_none v.place.table && is_none v.fetched.fault)
 
 -- an entry as the timetable sees it, by what is fetched, what it needs and what it is prepared to
 abbrev pub as_entry : Next → Entry
-as_entry next = record {
-  own = next.own;
-  target = next.target;
-  side = side_to_read next.needs.index_read;
-  reads = words_to_read next.prepared.reads;
-  writes = words_to_write next.prepared.writes;
-  cost = next.prepared.cost;
-  serial = next.prepared.serial;
-  follows = is_none next.prepared.place.table && is_none next.fetched.fault;
-}
+as_entry next =
+    entry_with next.own next.target next.needs.index_read next.prepared
+    (is_none next.prepared.place.table && is_none next.fetched.fault)
 
 -- an entry of which this is fetched, prepared as far as it goes without its index-side word
 abbrev pub prepared_as : Fetched → List ℕ → Machine → Next → Next

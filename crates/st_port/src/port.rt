@@ -1,7 +1,6 @@
 //! The port: reads are asked for, and each is made at the tick at which it is accepted.
 ghost use Rattle.std.specs.Prelude.{◌≡◌, true, ◌+◌, ◌-◌, ◌<◌, ◌≤◌, ◌^◌, ◌==◌, List, [], ◌∷◌, ◌++◌, ℕ, length, All, if◌then◌else◌};
-ghost use Rattle.st_fetch.specs.Planned.{tick_of};
-ghost use Rattle.st_rows.specs.Asked.{word_asked, data_asked, side_asked, operands_asked, following_asked, are_following_asked, side_count, made_before};
+ghost use Rattle.st_rows.specs.Asked.{data_asked, side_asked, operands_asked, following_asked, are_following_asked, side_count, made_before};
 ghost use Rattle.st_rows.specs.BusTimes.{no_reads};
 ghost use Rattle.st_rows.specs.Ranges.{IsReadable, IsEntry};
 ghost use Rattle.st_rows.specs.declared.bus.Bus.{Bus as BusOf};
@@ -9,7 +8,7 @@ ghost use Rattle.st_port.specs.Making.{not_made as not_made_of, AreFrom};
 ghost use Rattle.st_port.specs.Parts.{runs_asked};
 
 use st_banks::{Delays, LastAnswers};
-use st_fetch::{HeldWords, Want, Wants};
+use st_fetch::{Want, Wants};
 use st_rows::{Bus, Entry, LastEntries, Run, Runs};
 use std::marker::Model;
 
@@ -84,17 +83,6 @@ impl Port {
             tick: want,
             purpose: purpose_of(fetch),
         });
-    }
-
-    /// Asks for the instruction word `w`, wanted from the tick `want` on, unless it is one of these held words.
-    pub fn ask_fetch(&mut self, held: &HeldWords, w: u32, want: u64)
-        requires { length self.old.reads < 40 }
-        ensures reads { self.new.reads ≡ self.old.reads ++ word_asked (tick_of held.now.words w) w want }
-        ensures bus { self.new.bus ≡ self.old.bus }
-    {
-        if held.tick_of(w).is_none() {
-            self.ask(w, want, true);
-        }
     }
 
     /// Asks for the index-side word of an entry, if there is one, whose address is formed at `a`, unless an earlier entry writes it that
