@@ -1,7 +1,7 @@
--- The slots of a list that wraps round: what a push and a pop do to them.
-use Rattle.std.proofs.Common.{◌≡◌, ℕ, ◌+◌, ◌-◌, ◌%◌, ◌<◌, ◌≤◌, ◌⊎◌, List, [], ◌∷◌, ◌++◌, length, get_or, drop, set, ap, ◌∙◌, inl, inr, mod-eq_of_lt, arith, length-append, length-drop, length-set, length-take-le, get_or-drop, get_or-take}
+-- The slots of a list that wraps round: what is read of them, and what a push, a write and a pop do to them.
+use Rattle.std.proofs.Common.{◌≡◌, ℕ, ◌+◌, ◌-◌, ◌%◌, ◌<◌, ◌≤◌, ◌⊎◌, List, [], ◌∷◌, ◌++◌, length, get_or, drop, set, ap, sym, ◌∙◌, inl, inr, mod-eq_of_lt, arith, length-append, length-drop, length-set, length-take-le, get_or-drop, get_or-take}
 use native.Mathlib.Nat.{mod-eq-sub-mod, mod-add-mod}
-use Rattle.std.proofs.lemmas.List.{same_lists, get_or_append_left, get_or-append_right}
+use Rattle.std.proofs.lemmas.List.{same_lists, drop_more, get_or_append_left, get_or-append_right, set-get_or}
 use Rattle.std.proofs.lemmas.Bool.{cases_lt}
 use Rattle.std.proofs.lemmas.Grind.{common_steps}
 use Rattle.st_fetch.specs.Queue.{window}
@@ -45,6 +45,22 @@ module _ {A : Type 0} (N k n : ℕ) (xs : List A) (first_in_range : k < N) (len_
         get_or-window N k (n + 1) ys first_in_range (omega arith) length_ys i d,
       ))
 
+  -- a write over item i changes item i alone
+  pub window-set : (i : ℕ) (x : A) → i < n → window k n (set xs ((k + i) % N) x) ≡ set (window k n xs) i x
+  window-set i x in_window =
+      let ys = set xs ((k + i) % N) x in
+      let length_ys = length-set xs ((k + i) % N) x ∙ length_xs in
+      let length_old = length-window N k n xs first_in_range len_fits length_xs in
+      let length_new = length-window N k n ys first_in_range len_fits length_ys in
+      let written_slot = mod_wraps_once N (k + i) (omega arith) in
+      same_lists _ _ (grind (arith, common_steps)) (λ j d in_range. grind (
+        arith,
+        common_steps,
+        mod_wraps_once N (k + j) (omega arith),
+        get_or-window N k n xs first_in_range len_fits length_xs j d,
+        get_or-window N k n ys first_in_range len_fits length_ys j d,
+      ))
+
   -- the window from the next slot is the window without its first item
   pub window-pop : 0 < n → window ((k + 1) % N) (n - 1) xs ≡ drop 1 (window k n xs)
   window-pop nonempty =
@@ -59,3 +75,16 @@ module _ {A : Type 0} (N k n : ℕ) (xs : List A) (first_in_range : k < N) (len_
         get_or-window N k n xs first_in_range len_fits length_xs (1 + i) d,
         get_or-window N _ (n - 1) xs next_in_range (omega arith) length_xs i d,
       ))
+
+  -- the first item is that of slot k
+  pub window-oldest : (d : A) → 0 < n → window k n xs ≡ get_or xs k d ∷ drop 1 (window k n xs)
+  window-oldest d nonempty =
+      let length_old = length-window N k n xs first_in_range len_fits length_xs in
+      drop_more (window k n xs) 0 d (omega arith)
+      ∙ ap (λ x. x ∷ drop 1 (window k n xs))
+      (get_or-window N k n xs first_in_range len_fits length_xs 0 d nonempty ∙ ap (λ j. get_or xs j d) (mod-eq_of_lt (omega arith) ∙ omega arith))
+
+  -- the last item is that of slot (k + n) % N: it is written over itself
+  pub window-youngest : (d : A) → n < N → window k (n + 1) xs ≡ window k n xs ++ get_or xs ((k + n) % N) d ∷ []
+  window-youngest d has_room =
+      ap (window k (n + 1)) (sym (set-get_or xs ((k + n) % N) d)) ∙ window-push (get_or xs ((k + n) % N) d) has_room

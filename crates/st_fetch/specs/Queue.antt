@@ -1,4 +1,4 @@
--- A list whose first item goes first.
+-- The items of a ring of slots, in their order.
 use Rattle.std.specs.Prelude.{ℕ, List, ◌++◌, take, drop}
 
 -- the n slots from the slot k on, around the end

@@ -1,4 +1,3 @@
-pub mod Windows
 pub mod LevelLemmas
 pub mod WriterLemmas
 pub mod AloneLemmas

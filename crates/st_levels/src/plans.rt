@@ -33,8 +33,9 @@ pub struct Plans {
 // Clauses see the rows, oldest first.
 impl Model for Plans {
     ghost use Rattle.std.specs.Prelude.{List};
+    ghost use Rattle.st_fetch.specs.Queue.{window};
     ghost use Rattle.st_levels.specs.declared.plans.Plan.{Plan as Row};
-    ghost use Rattle.st_levels.specs.Rotated.{window, IsRing};
+    ghost use Rattle.st_levels.specs.Rotated.{IsRing};
 
     ghost Value = { List Row };
 

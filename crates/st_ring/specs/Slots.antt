@@ -1,15 +1,7 @@
 -- Eight slots that levels go round.
-use Rattle.std.specs.Prelude.{◌≡◌, ℕ, ◌<◌, ◌≤◌, List, ◌++◌, length, take, drop, All}
+use Rattle.std.specs.Prelude.{◌≡◌, ℕ, ◌<◌, ◌≤◌, List, length, All}
 use Rattle.st_ring.specs.declared.level.Level.{Level}
 use Rattle.st_ring.specs.Levels.{HasNumber}
-
--- the slots in order from slot `head` on, around the end
-abbrev pub rotated : ℕ → List Level → List Level
-rotated head slots = drop head slots ++ take head slots
-
--- the first n of them
-abbrev pub window : ℕ → ℕ → List Level → List Level
-window head n slots = take n (rotated head slots)
 
 -- a ring of at most `most` levels
 pub record IsRing (most head n : ℕ) (slots : List Level) : Type 0 where

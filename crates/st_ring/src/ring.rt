@@ -22,8 +22,9 @@ pub struct SpecRing<const N: usize> {
 // Clauses see the levels, oldest first.
 impl<const N: usize> Model for SpecRing<N> {
     ghost use Rattle.std.specs.Prelude.{List};
+    ghost use Rattle.st_fetch.specs.Queue.{window};
     ghost use Rattle.st_ring.specs.declared.level.Level.{Level as Row};
-    ghost use Rattle.st_ring.specs.Slots.{window, IsRing};
+    ghost use Rattle.st_ring.specs.Slots.{IsRing};
 
     ghost Value = { List Row };
 

@@ -1,13 +1,13 @@
-use Rattle.std.proofs.Common.{◌<◌, List, length, drop, ap, sym, ◌∙◌, arith, rules}
+use Rattle.std.proofs.Common.{◌<◌, List, length, drop, ap, ◌∙◌, arith, rules}
+use Rattle.st_fetch.proofs.Windows.{length-window, window-pop}
 use Rattle.st_ring.specs.declared.level.Level.{Level}
-use Rattle.st_ring.proofs.Windows.{length-window, window-dropped}
 use Rattle.st_ring.proofs.ring.SpecRing.drop_oldest.Goals as goal
 
 pub returns-clause-levels : goal.returns-clause-levels
 returns-clause-levels g c =
     let q = c.self.inside in
-    let counted = length-window q.head q.slots c.self.invariant.inside (search rules) q.len (omega arith) in
+    let counted = length-window 8 q.head q.len q.slots c.self.invariant.inside (omega arith) (search rules) in
     let same = ap length c.self.view_is in
     let some : 0 < q.len = omega (arith, counted, same) in
-    sym (window-dropped q.head q.slots c.self.invariant.inside (search rules) q.len some (omega arith))
+    window-pop 8 q.head q.len q.slots c.self.invariant.inside (omega arith) (search rules) some
     ∙ ap (λ (levels : List Level). drop 1 levels) c.self.view_is

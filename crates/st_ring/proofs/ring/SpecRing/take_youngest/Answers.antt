@@ -1,6 +1,6 @@
 use Rattle.std.proofs.Common.{◌≡◌, ◌+◌, ◌-◌, ap, sym, ◌∙◌, arith, rules}
-use Rattle.st_ring.specs.Slots.{window}
-use Rattle.st_ring.proofs.Windows.{window-youngest}
+use Rattle.st_fetch.specs.Queue.{window}
+use Rattle.st_fetch.proofs.Windows.{window-youngest}
 use Rattle.st_ring.proofs.ring.SpecRing.take_youngest.Goals as goal
 
 pub returns-clause-level : goal.returns-clause-level
@@ -9,4 +9,4 @@ returns-clause-level g c =
     let one_less : q.len ≡ q.len - 1 + 1 = omega arith in
     sym c.self.view_is
     ∙ (ap (λ n. window q.head n q.slots) one_less
-    ∙ window-youngest q.head q.slots c.self.invariant.inside (search rules) (q.len - 1) _ (omega arith))
+    ∙ window-youngest 8 q.head (q.len - 1) q.slots c.self.invariant.inside (omega arith) (search rules) _ (omega arith))
