@@ -17,7 +17,7 @@ use Rattle.st_segment.specs.Guesses.{guesses, table_behind, split_words}
 use Rattle.st_segment.specs.Alone.{RunAhead}
 use Rattle.st_segment.proofs.IndexLemmas.{split-change, index-split}
 use Rattle.st_levels.specs.Levels.{LevelsView, IsLevel, AreLevels, AreAhead}
-use Rattle.st_levels.specs.Rotated.{planned}
+use Rattle.st_levels.specs.PlannedRows.{planned}
 use Rattle.st_levels.specs.Slots.{slot_of, register_in}
 use Rattle.st_levels.specs.declared.plans.Plan.{Plan}
 use Rattle.st_levels.proofs.LevelLemmas.{levels-append}

@@ -1,3 +1,3 @@
 pub mod Slots
-pub mod Rotated
+pub mod PlannedRows
 pub mod Levels

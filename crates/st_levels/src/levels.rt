@@ -13,7 +13,7 @@ ghost use Rattle.st_segment.specs.Entries.{entry};
 ghost use Rattle.st_segment.specs.Guesses.{guesses, table_behind};
 ghost use Rattle.st_segment.specs.Alone.{RunAhead};
 ghost use Rattle.st_levels.specs.Levels.{LevelsView, AreSound, AreAhead, AreNotDone, HasOperands, IsOldestReady, IsCompleted, is_due as is_due_of};
-ghost use Rattle.st_levels.specs.Rotated.{planned};
+ghost use Rattle.st_levels.specs.PlannedRows.{planned};
 ghost use Rattle.st_levels.specs.Slots.{register_in};
 
 use crate::filling::fill_all;

@@ -1,6 +1,6 @@
 //! The planned rows of the levels, oldest first.
 ghost use Rattle.std.specs.Prelude.{◌≡◌, ◌+◌, ◌<◌, ◌≤◌, [], ◌∷◌, ◌++◌, length, drop, slice_get, Some};
-ghost use Rattle.st_levels.specs.Rotated.{planned};
+ghost use Rattle.st_levels.specs.PlannedRows.{planned};
 
 use st_rows::{Filled, Front};
 use std::marker::Model;
@@ -35,7 +35,7 @@ impl Model for Plans {
     ghost use Rattle.std.specs.Prelude.{List};
     ghost use Rattle.st_fetch.specs.Queue.{window};
     ghost use Rattle.st_levels.specs.declared.plans.Plan.{Plan as Row};
-    ghost use Rattle.st_levels.specs.Rotated.{IsRing};
+    ghost use Rattle.st_levels.specs.PlannedRows.{IsRing};
 
     ghost Value = { List Row };
 

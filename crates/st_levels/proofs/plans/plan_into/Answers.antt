@@ -1,6 +1,6 @@
 use Rattle.std.proofs.Common.{ap}
 use Rattle.st_rows.specs.declared.front.Front.{Front}
-use Rattle.st_levels.specs.Rotated.{planned}
+use Rattle.st_levels.specs.PlannedRows.{planned}
 use Rattle.st_levels.proofs.plans.plan_into.Goals as goal
 
 pub returns : goal.returns

@@ -6,7 +6,7 @@ use Rattle.st_ring.specs.Levels.{prepared_at}
 use Rattle.st_ring.specs.declared.level.Level.{Level}
 use Rattle.st_segment.specs.Guesses.{guesses, table_behind}
 use Rattle.st_levels.specs.Levels.{LevelsView}
-use Rattle.st_levels.specs.Rotated.{planned}
+use Rattle.st_levels.specs.PlannedRows.{planned}
 use Rattle.st_levels.specs.declared.plans.Plan.{Plan}
 use Rattle.st_levels.proofs.PushLemmas.{pushed_level, pushed-level, push-ahead}
 use Rattle.st_levels.proofs.levels.Levels.push.Goals as goal
