@@ -1,6 +1,6 @@
 -- What a machine keeps when a card comes.
-use Rattle.std.specs.Prelude.{IfSome, IsSome, take, drop, get_or}
-use Rattle.std.proofs.Common.{◌≡◌, ◌≢◌, ℕ, ◌+◌, ◌<◌, ◌≤◌, Bool, true, false, List, [], ◌∷◌, length, Option, None, Some, refl, sym, subst, ◌∙◌, ap, arith}
+use Rattle.std.specs.Prelude.{IfSome, IsSome, take, drop}
+use Rattle.std.proofs.Common.{◌≡◌, ℕ, ◌+◌, ◌<◌, ◌≤◌, Bool, true, false, List, [], ◌∷◌, length, Option, None, Some, refl, sym, subst, ◌∙◌, ap, arith}
 use Rattle.std.proofs.lemmas.List.{length-take, length-drop, length-set, ext_get_or, get_or-take, get_or-drop, get_or-set_other}
 use Rattle.st_state.specs.Machine.{Machine, HasArea, word, stored}
 use Rattle.st_state.specs.Interrupts.{signalled}

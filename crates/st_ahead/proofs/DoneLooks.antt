@@ -1,5 +1,5 @@
 -- What runs ahead once the oldest entry is done, and once the operands that come at the tick are there.
-use Rattle.std.proofs.Common.{◌≡◌, ℕ, zero, suc, ◌+◌, ◌*◌, ◌<◌, ◌≤◌, max, Bool, true, false, not, ◌&&◌, ◌||◌, List, [], ◌∷◌, ◌++◌, append_assoc, length, Option, None, refl, sym, subst, ◌∙◌, ap, ap₂, arith}
+use Rattle.std.proofs.Common.{◌≡◌, ℕ, zero, suc, ◌+◌, ◌*◌, ◌<◌, ◌≤◌, Bool, true, false, not, ◌&&◌, ◌||◌, List, [], ◌∷◌, ◌++◌, append_assoc, length, Option, None, refl, sym, subst, ◌∙◌, ap, arith}
 use Rattle.std.specs.Prelude.{All, IfSome, ◌==◌, if◌then◌else◌}
 use Rattle.std.proofs.lemmas.List.Elements.{All-nil, All-head, All-tail}
 use Rattle.std.proofs.lemmas.Bool.{and_parts, eqb-true, ne_eqb}
@@ -7,10 +7,9 @@ use Rattle.st_state.specs.Machine.{Machine, IsMachine}
 use Rattle.st_prep.specs.Fetch.{place_of}
 use Rattle.st_prep.specs.Plan.{plan}
 use Rattle.st_exec.specs.Completion.{executed, guess}
-use Rattle.st_rows.specs.Asked.{Read, asked, fetches_asked, words_asked}
-use Rattle.st_rows.specs.Ranges.{AreDelays, IsTight}
-use Rattle.st_rows.specs.Rows.{row, after, tick_c, fetched, fetch_words, wanted_from}
-use Rattle.st_rows.specs.declared.entry.Run.{Run}
+use Rattle.st_rows.specs.Asked.{Read, asked}
+use Rattle.st_rows.specs.Ranges.{AreDelays}
+use Rattle.st_rows.specs.Rows.{row, after, tick_c, wanted_from}
 use Rattle.st_rows.specs.declared.entry.Entry.{Entry}
 use Rattle.st_rows.specs.declared.fetching.Fetching.{Fetching}
 use Rattle.st_rows.specs.declared.front.Front.{Front}
@@ -24,13 +23,12 @@ use Rattle.st_segment.proofs.GuessLemmas.{guess-machine, behind-none}
 use Rattle.st_segment.proofs.StepLemmas.{guess-alone}
 use Rattle.st_way.specs.Way.{IsOnTheWay}
 use Rattle.st_way.proofs.Wanted.{way-done}
-use Rattle.st_levels.specs.Levels.{LevelsView, AreLevels, AreAhead, AreNotDone}
+use Rattle.st_levels.specs.Levels.{LevelsView, AreLevels, AreAhead}
 use Rattle.st_levels.specs.declared.plans.Plan.{Plan}
 use Rattle.st_levels.proofs.LevelLemmas.{levels-front}
 use Rattle.st_levels.proofs.OrderLemmas.{after-c}
 use Rattle.st_next.specs.Going.{known_count}
-use Rattle.st_next.specs.Progress.{IsNext, Rests, Waits, reads_so_far, wanted_next}
-use Rattle.st_next.specs.Words.{words_so_far, IsStart, AreFirst}
+use Rattle.st_next.specs.Progress.{IsNext, Rests, Waits, reads_so_far}
 use Rattle.st_next.specs.declared.next.Next.{Next}
 use Rattle.st_ahead.specs.Look.{LookView, IsLook, IsNextIf, is_open, count, asked_ahead}
 use Rattle.st_ahead.proofs.Openings.{first-none, so-far}

@@ -15,7 +15,7 @@ use Rattle.st_ring.specs.declared.level.Level.{Level}
 use Rattle.st_levels.specs.Levels.{oldest_front}
 use Rattle.st_segment.specs.Ahead.{ahead, prepared_before}
 use Rattle.st_levels.proofs.LevelLemmas.{length-ahead}
-use Rattle.st_ahead.specs.Overlap.{Overlap, seen, with_counter, levels_of, interrupt_due, idle_banks, last_tick}
+use Rattle.st_ahead.specs.Overlap.{Overlap, seen, with_counter, levels_of, interrupt_due, idle_banks}
 use Rattle.st_ahead.specs.Calls.{dropped, ended, passed, settled, answer, settled_by, answer_by}
 use Rattle.st_ahead.specs.Look.{LookView, IsLook, IsOpened, count}
 use Rattle.st_ahead.specs.Going.{IsGoing}

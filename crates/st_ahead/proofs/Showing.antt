@@ -1,7 +1,7 @@
 -- What is shown of a machine, and lent.
-use Rattle.std.specs.Prelude.{All, IfSome, ◌++◌, map, replicate, if◌then◌else◌, ◌-◌}
+use Rattle.std.specs.Prelude.{if◌then◌else◌, ◌-◌}
 use Rattle.std.specs.List.{AllZip}
-use Rattle.std.proofs.Common.{◌≡◌, ℕ, ◌+◌, ◌<◌, ◌≤◌, Bool, true, false, List, [], ◌∷◌, length, Option, None, Some, refl, sym, subst, ◌∙◌, ap, arith}
+use Rattle.std.proofs.Common.{◌≡◌, ℕ, ◌+◌, ◌≤◌, Bool, true, false, List, [], ◌∷◌, length, Option, None, sym, subst, ◌∙◌, ap, arith}
 use Rattle.st_state.specs.Machine.{Machine, IsMachine}
 use Rattle.st_exec.specs.Completion.{guess}
 use Rattle.st_rows.specs.Rows.{opening, after}
@@ -15,7 +15,7 @@ use Rattle.st_levels.specs.declared.plans.Plan.{Plan}
 use Rattle.st_levels.proofs.LevelLemmas.{length-ahead}
 use Rattle.st_ahead.specs.Overlap.{Overlap, seen, levels_of, last_tick}
 use Rattle.st_ahead.specs.Shown.{IsLevelOf, AreLevelsOf, index_of}
-use Rattle.st_ahead.specs.Look.{LookView, IsLook, IsOpened, count}
+use Rattle.st_ahead.specs.Look.{LookView, IsLook, count}
 use Rattle.st_ahead.specs.Inside.{standing, IsBetween, IsInside}
 use Rattle.st_ahead.proofs.Openings.{opening-looks}
 use Rattle.st_ahead.proofs.Standing.{opened-front}

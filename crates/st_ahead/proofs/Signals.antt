@@ -1,16 +1,15 @@
 -- What a machine keeps when a signal comes, or an order takes effect.
-use Rattle.std.specs.Prelude.{All, IfSome, IsSome, is_none, ◌&&◌, if◌then◌else◌}
-use Rattle.std.proofs.Common.{◌≡◌, ◌⊎◌, inl, inr, ℕ, ◌+◌, ◌-◌, ◌<◌, ◌≤◌, Bool, true, false, List, length, Option, None, Some, refl, sym, subst, ◌∙◌, ap, arith}
+use Rattle.std.specs.Prelude.{IsSome, is_none, if◌then◌else◌}
+use Rattle.std.proofs.Common.{◌≡◌, ◌⊎◌, inl, inr, ℕ, ◌-◌, Bool, true, false, List, Option, None, Some, refl, sym, subst, ◌∙◌, arith}
 use Rattle.st_state.specs.Machine.{Machine, IsMachine}
 use Rattle.st_state.specs.Interrupts.{pending}
 use Rattle.st_prep.specs.BesideOrders.{AreAlikeBesideOrders}
-use Rattle.st_exec.specs.Step.{interrupt, rests}
 use Rattle.st_rows.specs.Rows.{opening}
 use Rattle.st_rows.specs.declared.front.Front.{Front}
 use Rattle.st_levels.specs.Levels.{oldest_front, AreNotDone}
 use Rattle.st_ahead.specs.Overlap.{seen, with_counter}
-use Rattle.st_ahead.specs.Look.{LookView, IsLook, IsOpened}
-use Rattle.st_ahead.specs.Inside.{standing, IsBetween, IsInside, IsUnstarted}
+use Rattle.st_ahead.specs.Look.{LookView, IsLook}
+use Rattle.st_ahead.specs.Inside.{standing, IsBetween, IsInside}
 use Rattle.st_ahead.proofs.SameLook.{opened-same}
 use Rattle.st_ahead.proofs.Standing.{off-if, off-and}
 

@@ -1,5 +1,5 @@
 -- What a machine keeps, from one of its moments to the next.
-use Rattle.std.specs.Prelude.{All, IfSome, IsSome, is_none, replicate, ◌&&◌, ◌==◌, if◌then◌else◌}
+use Rattle.std.specs.Prelude.{All, is_none, replicate, ◌&&◌, if◌then◌else◌}
 use Rattle.std.proofs.Common.{◌≡◌, ℕ, ◌+◌, ◌-◌, ◌<◌, ◌≤◌, ◌^◌, zero, suc, Bool, true, false, List, [], ◌∷◌, ◌++◌, length, Option, None, Some, refl, sym, subst, ◌∙◌, ap, arith}
 use Rattle.std.proofs.lemmas.Bool.{eq-eqb, ne_eqb}
 use Rattle.std.proofs.lemmas.List.Elements.{All-head, All-replicate}
@@ -7,7 +7,6 @@ use Rattle.st_state.specs.Machine.{Machine, IsMachine}
 use Rattle.st_state.specs.Interrupts.{pending}
 use Rattle.st_banks.specs.declared.answers.LastAnswers.{LastAnswers}
 use Rattle.st_banks.specs.declared.answers.TheConstants.{BANKS}
-use Rattle.st_prep.specs.Fetch.{place_of}
 use Rattle.st_prep.specs.Plan.{plan}
 use Rattle.st_exec.specs.Completion.{executed, guess, is_missed}
 use Rattle.st_exec.specs.Step.{interrupt, rests}
@@ -15,7 +14,7 @@ use Rattle.st_rows.specs.Rows.{opening, row, after}
 use Rattle.st_rows.specs.declared.entry.Entry.{Entry}
 use Rattle.st_rows.specs.declared.front.Front.{Front}
 use Rattle.st_segment.specs.Entries.{entry}
-use Rattle.st_segment.specs.Ahead.{ahead, prepared_before, reads_before}
+use Rattle.st_segment.specs.Ahead.{ahead, reads_before}
 use Rattle.st_rows.specs.Asked.{asked, made_before}
 use Rattle.st_rows.specs.declared.bus.Bus.{Bus}
 use Rattle.st_ahead.specs.declared.events.Row.{Row}
@@ -23,12 +22,11 @@ use Rattle.st_levels.specs.Levels.{oldest_front}
 use Rattle.st_levels.specs.declared.levels.Completed.{Completed}
 use Rattle.st_levels.specs.declared.plans.Plan.{Plan}
 use Rattle.st_ring.specs.declared.level.Level.{Level}
-use Rattle.st_levels.proofs.LevelLemmas.{length-ahead}
-use Rattle.st_ahead.specs.Overlap.{Overlap, started, seen, with_counter, oldest, oldest_row, levels_of, banks_at_its_end, interrupt_due, last_tick}
-use Rattle.st_ahead.specs.Calls.{is_done, row_done, missed_counter, completed, ticked, dropped, ended, passed}
-use Rattle.st_ahead.specs.Look.{LookView, IsLook, IsOpened, count}
+use Rattle.st_ahead.specs.Overlap.{Overlap, started, seen, with_counter, oldest_row, banks_at_its_end}
+use Rattle.st_ahead.specs.Calls.{is_done, row_done, completed, ticked, ended}
+use Rattle.st_ahead.specs.Look.{LookView, IsLook, IsOpened}
 use Rattle.st_ahead.specs.Ticked.{IsPassedBy, IsDoneAt}
-use Rattle.st_ahead.specs.Inside.{standing, IsBetween, IsInside, IsUnstarted}
+use Rattle.st_ahead.specs.Inside.{standing, IsInside}
 use Rattle.st_ahead.proofs.Openings.{opening-looks}
 
 -- ---- tests

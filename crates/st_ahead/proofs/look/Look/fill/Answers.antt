@@ -1,5 +1,4 @@
-use Rattle.std.proofs.Common.{◌≡◌, refl, sym, subst, ap}
-use Rattle.st_ahead.specs.Look.{LookView, IsLook}
+use Rattle.st_ahead.specs.Look.{LookView}
 use Rattle.st_ahead.proofs.DoneLooks.{all-filled, ahead-through}
 use Rattle.st_ahead.proofs.LevelTicks.{done-after}
 use Rattle.st_ahead.proofs.look.Look.fill.Goals as goal

@@ -1,4 +1,4 @@
-use Rattle.std.proofs.Common.{◌≡◌, ℕ, ◌+◌, ◌<◌, true, sym, subst, ◌∙◌, ap, arith}
+use Rattle.std.proofs.Common.{◌+◌, sym, subst, ◌∙◌, ap, arith}
 use Rattle.st_rows.specs.declared.front.Front.{Front}
 use Rattle.st_ahead.specs.Look.{LookView}
 use Rattle.st_ahead.specs.Going.{IsGoing}

@@ -1,12 +1,11 @@
-use Rattle.std.proofs.Common.{◌≡◌, ◌≢◌, ℕ, ◌+◌, ◌<◌, ◌≤◌, true, false, length, None, refl, sym, subst, ◌∙◌, ap, arith}
+use Rattle.std.proofs.Common.{◌≡◌, ◌<◌, ◌≤◌, None, refl, sym, subst, ◌∙◌, ap, arith}
 use Rattle.st_state.specs.Machine.{Machine, word}
-use Rattle.st_exec.specs.Completion.{executed, guess}
+use Rattle.st_exec.specs.Completion.{guess}
 use Rattle.st_rows.specs.Rows.{row, after}
 use Rattle.st_segment.specs.Entries.{entry}
 use Rattle.st_segment.proofs.EntryRanges.{entry-ranges}
 use Rattle.st_segment.proofs.GuessLemmas.{guess-machine}
-use Rattle.st_levels.specs.Levels.{is_due}
-use Rattle.st_levels.proofs.OrderLemmas.{after-c, due-row}
+use Rattle.st_levels.proofs.OrderLemmas.{due-row}
 use Rattle.st_ahead.specs.Look.{LookView, IsLook, count}
 use Rattle.st_ahead.proofs.LevelTicks.{done-later}
 use Rattle.st_ahead.proofs.DoneLooks.{look-without}

@@ -1,5 +1,5 @@
 use Rattle.std.specs.Prelude.{IsSome}
-use Rattle.std.proofs.Common.{◌≡◌, ℕ, ◌+◌, ◌<◌, ◌≤◌, ◌^◌, true, sym, subst, ◌∙◌, arith}
+use Rattle.std.proofs.Common.{◌≡◌, ◌<◌, ◌≤◌, ◌^◌, true, sym, subst, ◌∙◌, arith}
 use Rattle.st_rows.proofs.Within.{AreDelays-list}
 use Rattle.st_levels.specs.Levels.{oldest_front}
 use Rattle.st_ahead.specs.Overlap.{Overlap, with_counter}

@@ -1,11 +1,9 @@
-use Rattle.std.proofs.Common.{◌≡◌, subst, ◌∙◌, sym}
+use Rattle.std.proofs.Common.{◌≡◌, subst, ◌∙◌}
 use Rattle.st_rows.proofs.Within.{AreDelays-list}
-use Rattle.st_ring.specs.declared.level.Level.{Level}
-use Rattle.std.specs.Prelude.{List}
 use Rattle.st_ahead.specs.Overlap.{Overlap, seen, last_tick}
-use Rattle.st_ahead.specs.Shown.{index_of, AreLevelsOf}
+use Rattle.st_ahead.specs.Shown.{index_of}
 use Rattle.st_ahead.specs.Inside.{standing}
-use Rattle.st_ahead.proofs.Showing.{look-inside, soon-last, showing, showing-ring, showing-index}
+use Rattle.st_ahead.proofs.Showing.{look-inside, soon-last, showing, showing-index}
 use Rattle.st_ahead.proofs.machine.Machine.index.Goals as goal
 
 pub returns : goal.returns

@@ -1,9 +1,6 @@
-use Rattle.std.proofs.Common.{◌≡◌, ◌+◌, ◌<◌, ◌^◌, true, false, None, Some, ap, refl, sym, subst, ◌∙◌, arith}
+use Rattle.std.proofs.Common.{◌≡◌, ◌<◌, ◌^◌, true, None, Some, ap, refl, sym, subst, ◌∙◌, arith}
 use Rattle.st_exec.specs.Step.{interrupt}
-use Rattle.st_prep.specs.Fetch.{place_of}
-use Rattle.st_state.specs.Machine.{Machine}
-use Rattle.st_ahead.specs.Overlap.{Overlap, interrupt_due}
-use Rattle.st_ahead.specs.Calls.{passed, answer, settled}
+use Rattle.st_ahead.specs.Overlap.{Overlap}
 use Rattle.st_ahead.specs.Inside.{standing}
 use Rattle.st_ahead.proofs.Settling.{some-closing, ended-rest, due-taken, interrupt-taken, owed-early, answer-interrupt, settled-interrupt}
 use Rattle.st_ahead.proofs.machine.Machine.interrupt.Goals as goal

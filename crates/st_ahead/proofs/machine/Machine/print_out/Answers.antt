@@ -1,4 +1,4 @@
-use Rattle.std.specs.Prelude.{IsSome, IfSome}
+use Rattle.std.specs.Prelude.{IfSome}
 use Rattle.std.proofs.Common.{◌≡◌, inr, ap, sym, subst}
 use Rattle.st_state.specs.Machine.{Machine}
 use Rattle.st_prep.specs.BesideOrders.{AreAlikeBesideOrders}

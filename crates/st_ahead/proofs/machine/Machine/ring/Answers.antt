@@ -1,11 +1,11 @@
-use Rattle.std.proofs.Common.{◌≡◌, length, subst, ◌∙◌, sym, ap, arith}
+use Rattle.std.proofs.Common.{length, subst, sym, ap, arith}
 use Rattle.st_rows.proofs.Within.{AreDelays-list}
 use Rattle.st_ring.specs.declared.level.Level.{Level}
 use Rattle.std.specs.Prelude.{List}
 use Rattle.st_ahead.specs.Overlap.{Overlap, seen, last_tick}
-use Rattle.st_ahead.specs.Shown.{index_of, AreLevelsOf}
+use Rattle.st_ahead.specs.Shown.{AreLevelsOf}
 use Rattle.st_ahead.specs.Inside.{standing}
-use Rattle.st_ahead.proofs.Showing.{look-inside, soon-last, showing, showing-ring, showing-index}
+use Rattle.st_ahead.proofs.Showing.{look-inside, soon-last, showing, showing-ring}
 use Rattle.st_ahead.proofs.machine.Machine.ring.Goals as goal
 
 pub returns-clause-levels : goal.returns-clause-levels

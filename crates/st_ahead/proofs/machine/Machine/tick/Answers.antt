@@ -1,6 +1,6 @@
 use Rattle.std.proofs.Common.{◌≡◌, ℕ, ◌+◌, ◌-◌, ◌<◌, ◌≤◌, ◌^◌, true, false, Option, None, refl, ap, sym, subst, ◌∙◌, arith}
 use Rattle.st_prep.specs.Plan.{plan}
-use Rattle.st_exec.specs.Completion.{guess, is_missed, completed as completed_by}
+use Rattle.st_exec.specs.Completion.{guess, is_missed}
 use Rattle.st_rows.specs.Rows.{after}
 use Rattle.st_rows.proofs.Within.{AreDelays-list}
 use Rattle.st_segment.specs.Entries.{entry}
