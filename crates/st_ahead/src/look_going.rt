@@ -46,7 +46,7 @@ impl<const N: usize> Look<N> {
     }
 
     // The same where its next word is wanted by now.
-    #[inline(never)]
+    #[inline(always)]
     fn advance_now(&mut self, now: u64, state: &State, delays: &Delays)
         requires some { 1 ≤ N }
         requires few { N ≤ 8 }

@@ -93,7 +93,7 @@ fn finish(p: &Prepared, operands: &[u64; 2], state: &mut State)
 
 /// Completes an entry that is prepared, of which the first two operands are given: its early change, then what it does,
 /// then the counter.
-#[inline(always)]
+#[inline(never)]
 #[tactic(auto, unfolding(crate::specs::Completion::completed))]
 pub fn complete_with(p: &Prepared, operands: &[u64; 2], state: &mut State)
     requires prepared { IsPrepared p.now }
@@ -110,6 +110,7 @@ pub fn complete_with(p: &Prepared, operands: &[u64; 2], state: &mut State)
 /// `p.reads.len` operands, and the `p.reads.len2` behind them, are the words that `p` says it reads, as they stand in the
 /// state; where one of them is a register that the entry itself has changed, it is taken as that change leaves it. It gives
 /// the words that are written.
+#[inline(always)]
 pub fn complete(p: &Prepared, operands: &[u64; 32], state: &mut State) -> Words
     requires prepared { IsPrepared p.now }
     requires operands { AreOperands p.now.reads operands.now state.old }

@@ -307,7 +307,7 @@ impl Next {
 
     /// Reads it on as far as the tick allows, by which its next word is wanted: asks for the words that are known by now, and once they all
     /// are plans it. Whatever the state before it is, what is known of it stays so, and nothing more of it can be known before the next tick.
-    #[inline(always)]
+    #[inline(never)]
     pub fn advance(&mut self, outlook: &Outlook, state: &State, delays: &Delays, port: &mut Port)
         requires known { IsKnown delays.now outlook.now.levels outlook.now.tick
             outlook.now.front.now outlook.now.x.now state.now self.old }

@@ -131,6 +131,7 @@ impl Port {
 
     /// Makes the first of the reads, if it is accepted at the tick `now`, at most 2^64 - 1,024; it is accepted then or later. The next one
     /// is accepted later.
+    #[inline(always)]
     pub fn serve(&mut self, delays: &Delays, now: u64)
         requires early { now ≤ 2 ^ 64 - 1024 }
         requires turn { AreFrom now self.old.reads self.old.bus }

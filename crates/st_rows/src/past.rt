@@ -92,8 +92,8 @@ impl LastEntries {
         self.latest_writer(w)
     }
 
-    // The same, where some entry writes any word; apart, so that the test before it is all that stands in its callers.
-    #[inline(never)]
+    // The same, where some entry writes any word.
+    #[inline(always)]
     fn latest_writer(&self, w: u32) -> u64
         ensures { result ≡ latest_done_of self.now w }
     {

@@ -69,6 +69,18 @@ fn pass_idle<const N: usize>(machine: &mut Machine<N>, before: u64, snap: Option
     if before <= DENSE {
         return 0;
     }
+    pass_seldom(machine, snap)
+}
+
+// The same however long that is. It is apart, so that what is frequent works out no limit.
+#[inline(never)]
+fn pass_seldom<const N: usize>(machine: &mut Machine<N>, snap: Option<u64>) -> u64
+    requires settled { machine.old.owed ≡ false }
+    ensures few { result ≤ 2 ^ 63 - machine.old.now }
+    ensures snap { IfSome snap (λ x. result ≤ x + 1 - machine.old.now) }
+    ensures idle { AreIdle result machine.old }
+    ensures after { machine.new ≡ after_ticks result machine.old }
+{
     machine.pass_idle_ticks(limit_of(snap))
 }
 

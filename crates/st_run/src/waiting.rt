@@ -59,9 +59,10 @@ impl Waiting {
             *printed = text;
             return Some(What::Printed);
         }
-        let Some(indicator) = self.taken.take() else {
+        let Some(indicator) = self.taken else {
             return None;
         };
+        self.taken = None;
         Some(What::Interrupted(indicator))
     }
 }

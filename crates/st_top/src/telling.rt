@@ -284,7 +284,35 @@ fn moment_of(told: &Told) -> Moment
 }
 
 // Writes the lines of what a run has just told.
+#[tactic(auto, using(st_io::proofs::Progress::wrote_nothing))]
 fn write_told<K: Sink, const N: usize>(
+    out: &mut K,
+    run: &Run<'_, N>,
+    moment: Moment,
+    what: What,
+    controls: &Controls,
+) -> Result<(), Failed>
+    requires { AllPass is_part controls.now.dumps }
+    ensures { WritesLines (K.output out.old) (K.output out.new)
+        (lines_told controls.now (record {
+          done = moment.done;
+          tick = moment.tick;
+          what = what_told what moment.tick run.now.seen run.now.ahead run.now.text;
+        })) result }
+{
+    if let What::Done { .. } = what {
+        if !is_traced(controls) {
+            if !is_charted(controls) {
+                return Ok(());
+            }
+        }
+    }
+    write_any(out, run, moment, what, controls)
+}
+
+// The same whatever is told. It is apart, so that an entry that is only counted makes no room for what the others need.
+#[inline(never)]
+fn write_any<K: Sink, const N: usize>(
     out: &mut K,
     run: &Run<'_, N>,
     moment: Moment,

@@ -1,4 +1,4 @@
-use Rattle.st_run.proofs.TickLemmas.{after-none, none-within, within-limit}
+use Rattle.st_run.proofs.TickLemmas.{after-none, none-within}
 use Rattle.st_run.proofs.ticking.pass_idle.Goals as goal
 
 pub returns-then-before-le-DENSE-clause-snap : goal.returns-then-before-le-DENSE-clause-snap
@@ -6,7 +6,3 @@ returns-then-before-le-DENSE-clause-snap g c = none-within c.args.machine.now.no
 
 pub returns-then-before-le-DENSE-clause-after : goal.returns-then-before-le-DENSE-clause-after
 returns-then-before-le-DENSE-clause-after g c = after-none c.args.machine.now
-
-pub returns-clause-snap : goal.returns-clause-snap
-returns-clause-snap g c =
-    within-limit c.pass_idle_ticks.result c.limit_of.result c.args.machine.now.now c.args.snap c.pass_idle_ticks.ensures.limit c.limit_of.ensures.snap

@@ -15,22 +15,20 @@ returns-in-Some-text-clause-told c s =
     ap (λ (w : Waiting). whats w s) (sym c.self.view_is)
     ∙ whats-text _ _ c.in-Some-text.text.bytes s none (rw c.in-Some-text.is refl) (rw (same, none) refl)
 
-pub returns-in_default-take-clause-told : goal.returns-in_default-take-clause-told
-returns-in_default-take-clause-told c s =
+pub returns-in_default-taken-clause-told : goal.returns-in_default-taken-clause-told
+returns-in_default-taken-clause-told c s =
     ap (λ (w : Waiting). whats w s) (sym c.self.view_is)
     ∙ whats-none _ s (no-items c.self.inside.drops.items c.in_default.ensures.variant.1)
-    (rw c.in_default-text.is refl) (sym c.in_default-take.ensures.value)
+    (rw c.in_default-text.is refl) (rw c.in_default-taken.is refl)
 
 pub returns-clause-told : goal.returns-clause-told
 returns-clause-told c s =
     let none = no-items c.self.inside.drops.items c.in_default.ensures.variant.1 in
     let same = c.in_default.ensures.empty in
     ap (λ (w : Waiting). whats w s) (sym c.self.view_is)
-    ∙ whats-taken _ _ c.in-Some-take.indicator s none (rw c.in_default-text.is refl) (sym c.in-Some-take.ensures.value)
-    (rw (same, none, c.in_default-text.is, c.in-Some-take.ensures.after) refl)
+    ∙ whats-taken _ _ c.in-Some-taken.indicator s none (rw c.in_default-text.is refl) (rw c.in-Some-taken.is refl)
+    (rw (same, none, c.in_default-text.is) refl)
 
-pub returns-in_default-take-clause-none : goal.returns-in_default-take-clause-none
-returns-in_default-take-clause-none c =
-    waiting-same _ _ (ap (λ q. q.items) c.in_default.ensures.empty) refl
-    (c.in_default-take.ensures.after ∙ c.in_default-take.ensures.value)
-    ∙ c.self.view_is
+pub returns-in_default-taken-clause-none : goal.returns-in_default-taken-clause-none
+returns-in_default-taken-clause-none c =
+    waiting-same _ _ (ap (λ q. q.items) c.in_default.ensures.empty) refl refl ∙ c.self.view_is
