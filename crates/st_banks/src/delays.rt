@@ -63,7 +63,10 @@ impl Delays {
         ensures value { result ≡ delay self.now tick }
         ensures least { 1 ≤ result }
     {
-        self.list[(tick % self.list.len() as u64) as usize]
+        let len = self.list.len() as u64;
+        // One delay for all is frequent, and needs no division.
+        let place = if len == 1 { 0 } else { tick % len };
+        self.list[place as usize]
     }
 
     /// The tick, 1 to 255 later, at which a read is answered that is accepted at `tick`, which is below 2^64 - 255.
