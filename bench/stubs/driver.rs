@@ -1,4 +1,5 @@
-//! Runs an object text with so many instructions and these delays, and shows sums of what is told and of the last state.
+//! Runs an object text with so many instructions, these delays and this number of levels, four where none is given, and shows sums of what is told and of
+//! the last state. All eight machines are in it, as in the program that is proved: what they share has eight callers.
 use crate::st_banks::Delays;
 use crate::st_exch::Hopper;
 use crate::st_run::{Run, What};
@@ -25,7 +26,21 @@ pub fn main() {
     }
     let Ok(state) = State::new(Global, &image, start) else { panic!() };
     let Ok(delays) = Delays::new(Global, &delays) else { panic!() };
-    let mut run: Run<4> = Run::new(state, delays, &[], Hopper::empty(), &[], budget);
+    match words.get(4).map_or(4, |levels| levels.parse().unwrap()) {
+        1 => tell::<1>(state, delays, budget),
+        2 => tell::<2>(state, delays, budget),
+        3 => tell::<3>(state, delays, budget),
+        4 => tell::<4>(state, delays, budget),
+        5 => tell::<5>(state, delays, budget),
+        6 => tell::<6>(state, delays, budget),
+        7 => tell::<7>(state, delays, budget),
+        _ => tell::<8>(state, delays, budget),
+    }
+}
+
+#[inline(never)]
+fn tell<const N: usize>(state: State, delays: Delays, budget: u64) {
+    let mut run: Run<N> = Run::new(state, delays, &[], Hopper::empty(), &[], budget);
     let (mut told, mut tick, mut rows, mut last) = (0u64, 0, 0u64, 0u64);
     while let Some(next) = run.next() {
         told += 1;

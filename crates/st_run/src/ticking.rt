@@ -13,7 +13,7 @@ use st_ahead::{Event, Machine, Row};
 const END: u64 = 1 << 63;
 
 // After so many ticks at which no entry is done it is worth a look whether nothing happens for some time.
-const DENSE: u64 = 2;
+const DENSE: u64 = 1;
 
 // Makes the ticks from `now` on until an entry is done, whose row is the result; or until that of the next snapshot is
 // made, if it comes before.
