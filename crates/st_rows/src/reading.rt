@@ -30,6 +30,7 @@ impl Fetching {
 
     // Reads the next operand words.
     #[tactic(auto, unfolding(crate::specs::Rows::read_words))]
+    #[inline(always)]
     pub(crate) fn read_on(&mut self, delays: &Delays, past: &LastEntries, run: Run, p: u64)
         requires room { IsReadingWithin (2 ^ 64 - 2 ^ 16) (reading_of self.old) }
         requires before { ArePastWithin (2 ^ 64 - 2 ^ 16) past.now }
