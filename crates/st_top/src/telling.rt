@@ -300,55 +300,25 @@ fn write_told<K: Sink, const N: usize>(
           what = what_told what moment.tick run.now.seen run.now.ahead run.now.text;
         })) result }
 {
-    if let What::Done { address, p, r } = what {
+    // Of an entry that is only counted nothing is written.
+    if let What::Done { .. } = what {
         if !is_traced(controls) {
             if !is_charted(controls) {
                 return Ok(());
             }
         }
-        return write_done(out, row_of(moment, address, p, r), controls);
     }
-    write_any(out, run, moment, what, controls)
-}
-
-// The row of an entry that is done at this moment.
-fn row_of(moment: Moment, address: u32, p: u64, r: u64) -> Row
-    ensures { result ≡ record {
-      number = moment.done;
-      address = address;
-      p = p;
-      r = r;
-      c = moment.tick;
-    } }
-{
-    Row {
-        number: moment.done,
-        address,
-        p,
-        r,
-        c: moment.tick,
-    }
-}
-
-// The same whatever is told. It is apart, so that an entry that is only counted makes no room for what the others need.
-#[inline(never)]
-fn write_any<K: Sink, const N: usize>(
-    out: &mut K,
-    run: &Run<'_, N>,
-    moment: Moment,
-    what: What,
-    controls: &Controls,
-) -> Result<(), Failed>
-    requires { AllPass is_part controls.now.dumps }
-    ensures { WritesLines (K.output out.old) (K.output out.new)
-        (lines_told controls.now (record {
-          done = moment.done;
-          tick = moment.tick;
-          what = what_told what moment.tick run.now.seen run.now.ahead run.now.text;
-        })) result }
-{
     match what {
-        What::Done { address, p, r } => { write_done(out, row_of(moment, address, p, r), controls) }
+        What::Done { address, p, r } => {
+            let row = Row {
+                number: moment.done,
+                address,
+                p,
+                r,
+                c: moment.tick,
+            };
+            write_done(out, row, controls)
+        }
         What::Dropped { address, p } => write_dropped(out, address, p, controls),
         What::Printed => write_printed(out, run.printed()),
         What::Interrupted(i) => write_interrupt(out, moment, i, &run.seen(), controls),
