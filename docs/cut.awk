@@ -102,11 +102,11 @@ fence == "console" && /^[$] / {
 fence == "console" { if (given) print >wanted; else fault("a console that begins with no command"); next }
 fence != "" && file != "" { print >file; next }
 fence != "" {
-    if (fence != "sh" && /^[ $]*\.\/(stretch|chart|delays|indicators)( |$)/) fault("a command that is not run")
+    if (fence != "sh" && /^[ $]*(\.\/(stretch|chart)|tools\/[a-z]+)( |$)/) fault("a command that is not run")
     if (/^.........END,/) fault("a deck without a name")
     next
 }
-/^    .*\.\/(stretch|chart|delays|indicators) / { fault("a command that is not run") }
+/^    .*(\.\/(stretch|chart)|tools\/[a-z]+) / { fault("a command that is not run") }
 /^    .....END,/ || /^    .........END,/ { fault("a deck without a name") }
 /^<!-- (all )?lines of: .* -->$/ {
     close_command()
