@@ -16,6 +16,10 @@ class Refused(Exception):
         return f'CARD {self.card} {self.fault}\n'.encode()
 
 
+class Fault(Exception):
+    """A fault of a card whose number is known above."""
+
+
 @dataclass
 class Controls:
     """What control cards ask for. Numbers are 0, lists empty and marks off where no card asked."""
