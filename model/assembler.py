@@ -144,11 +144,11 @@ def lay_card(row, symbols, words):
 
 def laid(said, symbols):
     """The bits that a statement lays, and how many; raises Fault."""
-    values = [expressions.value_of(it.terms, symbols) if isinstance(it, statements.Address) else it for it in said.fields]
     name = said.operation.name
-    for k, field in enumerate(said.fields):
-        if isinstance(field, statements.Address) and not 0 <= values[k] < ADDRESSES and not (name == 'XW' and k == 0):
-            raise Fault('ADDRESS OUT OF RANGE')
+    values = [field_value(field, symbols) for field in said.fields]
+    addresses = [value for value, field in zip(values, said.fields) if isinstance(field, statements.Address)]
+    if any(not 0 <= address < ADDRESSES for address in addresses[name == 'XW':]):
+        raise Fault('ADDRESS OUT OF RANGE')
     if name == 'DD':
         return number_laid(said.parts, *values[0]), said.parts['length']
     if name == 'XW':
@@ -158,6 +158,10 @@ def laid(said, symbols):
             raise Fault('NOT ON A BOUNDARY')
         return 0, 0
     return instruction_laid(said, values)
+
+
+def field_value(field, symbols):
+    return expressions.value_of(field.terms, symbols) if isinstance(field, statements.Address) else field
 
 
 def fit(condition):

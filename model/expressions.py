@@ -17,7 +17,8 @@ SYSTEM = {              # bit addresses of the system symbols
         ('$L', 8, 0), ('$R', 9, 0), ('$SB', 10, 0), ('$IND', 11, 0), ('$MASK', 12, 0), ('$RM', 13, 0), ('$FT', 14, 0),
         ('$TR', 15, 0)]}
 SYSTEM |= {f'$X{n}': 64 * (16 + n) for n in range(16)}
-SYSTEM |= {f'${name}': 64 * 11 + first + k for first, names in INDICATORS.items() for k, name in enumerate(names.split())}
+SYSTEM |= {f'${name}': 64 * 11 + number
+           for first, names in INDICATORS.items() for number, name in enumerate(names.split(), first)}
 
 
 def terms_of(text):

@@ -6,9 +6,10 @@ from program import Controls, Fault, Program, Refused
 
 # The kinds of lines in their order: keyword, how many numbers, and how often it stands (`1` once, `?` once or not,
 # `+` once or more, `*` any number of times).
-KINDS = [('OBJECT', 0, '1'), ('START', 1, '1'), ('W', 2, '*'), ('BUDGET', 1, '1'), ('DELAY', 1, '+'), ('SIGNAL', 2, '*'),
-         ('DUMP', 2, '*'), ('TRACE', 0, '?'), ('TIME', 0, '?'), ('CHART', 0, '?'), ('SNAP', 1, '*'), ('BACK', 1, '?'),
-         ('FIN', 0, '1')]
+KINDS = [
+    ('OBJECT', 0, '1'), ('START', 1, '1'), ('W', 2, '*'), ('BUDGET', 1, '1'), ('DELAY', 1, '+'), ('SIGNAL', 2, '*'),
+    ('DUMP', 2, '*'), ('TRACE', 0, '?'), ('TIME', 0, '?'), ('CHART', 0, '?'), ('SNAP', 1, '*'), ('BACK', 1, '?'),
+    ('FIN', 0, '1')]
 PLACE = {keyword: place for place, (keyword, _, _) in enumerate(KINDS)}
 NUMBER = re.compile('0|[1-9][0-9]{0,11}')
 

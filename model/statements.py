@@ -87,7 +87,7 @@ def is_misnamed(name, operation):
 
 
 def cut(text):
-    """The operation; the groups, with their parentheses; and the rest, which begins with the first comma if all is well."""
+    """The operation; the groups, with their parentheses; and the rest, which begins with a comma if all is well."""
     operation = re.match('[^(,]*', text)[0]
     groups, rest = [], text[len(operation):]
     while rest.startswith('(') and len(groups) < 2:
