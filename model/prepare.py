@@ -24,7 +24,7 @@ class Entry:
     is_ex: bool = False
     words: list = field(default_factory=list)   # the instruction words that are read, one after another
     own: int = 0                                # how many of them are not of the target of EX
-    last: int = None                            # the last word of the instruction itself
+    last: int = None                            # the instruction's own last word, where it asks for those behind it
     fault: int = None                           # the indicator of the check that fails
     following: int = 0
     counter: int = 0
@@ -89,7 +89,7 @@ def fetch_all(state, entry):
     """Fetches the instruction and the target of EX; gives the indicator of the first check that fails, or None."""
     entry.made, entry.words, fault = fetch(state, entry.place)
     entry.own = len(entry.words)
-    entry.last = entry.place + entry.made.halves - 1 >> 1
+    last = entry.place + entry.made.halves - 1 >> 1
     entry.following = entry.place + entry.made.halves & COUNTER if entry.table is None else state.counter
     if fault:
         return fault
@@ -100,6 +100,8 @@ def fetch_all(state, entry):
         entry.words = entry.words + words
         if fault:
             return fault
+    if entry.table is None:
+        entry.last = last
     if not entry.made.valid or entry.made.group == 'floating':
         return OP
     return EXE if entry.is_ex and entry.made.name == 'EX' else None

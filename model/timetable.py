@@ -89,7 +89,7 @@ def next_row(front, entry, levels):
         if word >= 32 and front.writer_done(word) <= p:     # else it is a register, or it is forwarded
             r = max(r, bus.read(word, p))
     c = max(r, front.c) + entry.cost
-    if entry.table is None:
+    if entry.last is not None:
         for word in (entry.last + 1, entry.last + 2):
             if 32 <= word < WORDS:
                 bus.fetch(word, p)
