@@ -29,11 +29,13 @@ class Row:
 
 def assemble(job):
     """The program of a job; raises Refused."""
-    rows, controls, end = form_pass([Row(card) for card in cards.split(job)])
-    symbols = name_pass(rows)
-    words, start = value_pass(rows, symbols)
+    rows = [Row(card) for card in cards.split(job)]
+    controls, end = form_pass(rows)
+    said = [row for row in rows if row.statement]
+    symbols = name_pass(said)
+    words, start = value_pass(said, symbols)
     controls.set_defaults()
-    reader = [row.card.columns for row in rows[end + 1:] if row.card.kind == 'comment']
+    reader = [row.card.columns for row in rows[end:] if row.card.kind == 'comment']
     return Program(words, start, controls, reader, listing(rows, symbols))
 
 
@@ -49,37 +51,37 @@ def over(rows, work):
 # The form pass.
 
 def form_pass(rows):
-    seen = SimpleNamespace(controls=Controls(), end=None)
+    """Reads each card; gives the controls and the number of the card END."""
+    seen = SimpleNamespace(controls=Controls(), end=0)
     over(rows, lambda row: read_card(row, seen))
-    if seen.end is None:
+    if not seen.end:
         raise Refused(len(rows) + 1, 'NO END')
-    return rows, seen.controls, seen.end
+    return seen.controls, seen.end
 
 
 def read_card(row, seen):
     card = row.card
-    after = card.kind == 'statement' and seen.end is not None
+    after = card.kind == 'statement' and seen.end
     if card.fault and not (after and card.fault == 'BAD NAME'):
         raise Fault(card.fault)
     if after:
         raise Fault('CARD AFTER END')
     if card.kind == 'control':
-        if seen.end is None:
+        if not seen.end:
             raise Fault('BAD CONTROL CARD')
         cards.add_control(card.words, seen.controls)
     if card.kind == 'statement':
         row.statement = statements.read(card.name, card.statement)
         if row.statement.operation.name == 'END':
-            seen.end = card.number - 1
+            seen.end = card.number
 
 
 # The name pass.
 
 def name_pass(rows):
-    """Finds the place of each card; gives the symbols in order of definition."""
-    names = {row.statement.name for row in rows if row.statement}
-    seen = SimpleNamespace(location=32 * 64, symbols={}, names=names)
-    over([row for row in rows if row.statement], lambda row: place_card(row, seen))
+    """Finds the place of each statement card; gives the symbols in order of definition."""
+    seen = SimpleNamespace(location=32 * 64, symbols={}, names={row.statement.name for row in rows})
+    over(rows, lambda row: place_card(row, seen))
     return seen.symbols
 
 
@@ -129,9 +131,8 @@ def size_of(said):
 def value_pass(rows, symbols):
     """Lays the bits; gives the words, and the start."""
     words = {}
-    over([row for row in rows if row.statement], lambda row: lay_card(row, symbols, words))
-    end = [row.statement for row in rows if row.statement][-1]
-    return words, expressions.value_of(end.fields[0].terms, symbols)
+    over(rows, lambda row: lay_card(row, symbols, words))
+    return words, field_value(rows[-1].statement.fields[0], symbols)
 
 
 def lay_card(row, symbols, words):
