@@ -258,6 +258,47 @@ def names_deck(d):
     return text(deck + [card('END,' + d.choice(['32.0', '32.0', 'A', '0.1']))])
 
 
+def edges_deck(d):
+    """Places at the ends of storage and of addresses, with names that are used before they are there."""
+    deck = [card(f'{d.choice(["B", "L", "L", "XW,0,0"])},{d.choice("ABC")}{d.choice(["", "", "+0.1", "-0.32"])}')]
+    word = d.choice([31, 32, 32, 98302, 98302, 98303, 98304, 262142, 262143])
+    deck.append(card(f'SLC,{word}.{d.choice([0, 1, 31, 32, 63])}'))
+    for name in 'ABC':
+        passed = f'{d.choice([0, 0, 1, 2])}.{d.choice([0, 1, 63])}'
+        number = f'DD({d.choice(["BU", "B"])},{d.randint(8, 64)}),{d.choice(["0", "255", "-0", "+1"])}'
+        value = d.choice(['', '-']) + d.choice(['262143.63', '0', '0.1', '262143.63+0.1'])
+        index = f'XW,{value},262143,{d.choice([0, 262143])},7'
+        deck.append(card(d.choice([f'DR,{passed}', number, 'NOP', 'L,1', index]), name))
+    return text(deck + [card('END,32.0')])
+
+
+WISHES = {                  # what stands several times: how often at most, and the k-th of them
+    'SNAP': (64, lambda k: f'{k}'), 'DUMP': (16, lambda k: f'0 {k}'), 'SIGNAL': (4096, lambda k: f'{k} {k % 14}'),
+    'DELAY': (4096, lambda k: f'{k % 255 + 1}')}
+
+
+def limits_job(d):
+    """As many wishes of a kind, or names, as there may be, or one more or less; as a deck or as an object text."""
+    if d.odds(.3):
+        return 'assemble', many_names(d)
+    keyword, (most, wish) = d.choice(list(WISHES.items()))
+    count = most + d.choice([-1, 0, 1])
+    lines = [f'{keyword} {wish(k)}' for k in range(count)]
+    if d.odds(.5):
+        cards = ['/' + line.replace('DELAY', 'DELAYS') for line in lines]
+        return 'assemble', text([card('END,32.0'), *cards, *['/DELAYS 7'] * d.odds(.3)])
+    delays = lines if keyword == 'DELAY' else ['DELAY 1']
+    lines = [] if keyword == 'DELAY' else lines
+    return 'disassemble', text(['OBJECT', 'START 32.0', 'BUDGET 1', *delays, *lines, 'FIN'])
+
+
+def many_names(d):
+    """About as many names as there may be, and cards with names that are twice, unknown or too late behind them."""
+    deck = [card('NOP', f'N{k}') for k in range(4000 - d.randint(0, 2))]
+    last = [card('NOP', 'N7'), card('B,NONE', 'LAST'), card('SYN,END', 'A'), card('NOP', 'B'), card('SLC,N9')]
+    return text(deck + d.sample(last + [card('NOP', 'END')], d.randint(1, 5)) + [card('END,32.0')])
+
+
 def mutated(d, job):
     """A job with a few characters, numbers or cards changed, dropped, doubled or put elsewhere."""
     for _ in range(d.choice([1, 1, 2, 3])):
@@ -330,6 +371,8 @@ KINDS = {                   # of each kind the words of the command line and the
     'faulty': lambda d: ('assemble', mutated(d, statement_deck(d))),
     'pieces': lambda d: ('assemble', pieces_deck(d)),
     'names': lambda d: ('assemble', names_deck(d)),
+    'edges': lambda d: ('assemble', edges_deck(d)),
+    'limits': limits_job,
     'returned': lambda d: ('disassemble', object_text(d)),
     'objects': object_job,
     'soaks': soak_job}
