@@ -22,6 +22,7 @@ class Draw(decks.Draw):
     code = 12
     registers = 3           # how much weight registers have among addresses,
     faults = 2              # and words that do not exist
+    burst = 0
 
     def some(self, *weighted):
         """One of the things that stand behind weights."""
@@ -59,7 +60,8 @@ def on_index(d):
 
 
 def on_field(d):
-    name = d.some(5, d.choice(FIELDS), 1, 'ST', 2, d.choice(['*', '/', 'LCV']), 1, d.choice(['C0110', 'CM0111', 'CT0001']))
+    name = d.some(5, d.choice(FIELDS), 1, 'ST', 1, d.choice(['*', '/', 'LCV']),
+                  1, d.choice(['C0110', 'CM0111', 'CT0001']))
     sort = 'BU' if name[0] == 'C' else d.choice(['B', 'BU', 'BU', 'BU', 'D', 'DU'])
     form = d.some(8, '', 1, '(IM)' if name[:2] != 'CM' and name not in formats.WRITING else '',
                   3, f'({d.choice([*formats.FORMS.values()])})')
@@ -90,8 +92,16 @@ def order(d):
 
 
 def ahead(d):
-    """Mostly what is not done alone."""
-    return d.some(6, on_index(d), 5, on_field(d), 1, branch(d), 1, f'BI{d.randrange(2)},$XCZ,{d.place()}')
+    """Mostly what is not done alone; behind some long operations what is prepared at once."""
+    if d.burst:
+        d.burst -= 1
+        j = d.randrange(8)
+        return d.some(3, f'V+I,$X{j},{d.randrange(2)}.32', 1, f'LVI,$X{j},{d.data()}.0', 1, on_index(d), 1, on_field(d),
+                      2, f'BI{d.randrange(2)},{d.choice(INDICATORS)},{d.place()}')
+    if d.odds(.2):
+        d.burst = d.randint(2, 6)
+        return f'{d.choice(["*", "/", "LCV", "*+"])}(BU,{d.randint(1, 64)}),{DATA + d.randrange(8)}.0'
+    return d.some(6, on_index(d), 5, on_field(d), 1, branch(d))
 
 
 def mixed(d):
