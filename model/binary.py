@@ -1,8 +1,8 @@
 """The binary operations on a field. Follows docs/variable-fields.md, "Where a field meets the accumulator" and "The
 operations". `made` is the instruction, `bits` its field, `acc` the accumulator with its sign byte.
 """
-from fields import (Number, Outcome, added, codes_value, flag_indicators, read_binary, room, to_codes, write_binary)
-from words import AE, AH, AL, BTR, LC, MOP, PF, RGZ, RLZ, RN, RZ, ZD, bits_of, ones, result_number, signed
+from fields import Number, Outcome, added, codes_value, flag_indicators, read_binary, room, to_codes, write_binary
+from words import AE, AH, AL, BTR, LC, MOP, PF, ZD, bits_of, ones, signed
 
 ACC = ones(128)
 COMPARED = bits_of(AL, AE, AH)
@@ -50,11 +50,9 @@ def binary(made, bits, acc, factor, is_on):
             out.on |= bits_of(BTR)
         else:
             out.factor = field.magnitude
-        out.turn(*result_number(field.magnitude, field.minus))
+        out.result(field.magnitude, field.minus)
     else:
         ACCUMULATING[made.name](made, field, acc, factor, out)
-        if made.name != 'LCV':
-            out.turn(*result_number(out.accumulator.magnitude, out.accumulator.minus))
     return out
 
 
@@ -63,9 +61,7 @@ def store(made, acc, out):
     number = Number(high & ones(room(made)), 0 if made.unsigned else acc.minus ^ made.negated, acc.flags, acc.zone)
     if high != number.magnitude:
         out.on |= bits_of(PF)
-    out.field = write_binary(made, number)
-    out.turn(bits_of(MOP))
-    out.turn(*result_number(number.magnitude, number.minus))
+    out.write(write_binary(made, number), number)
 
 
 def add_to_field(made, field, acc, out):
@@ -77,15 +73,13 @@ def add_to_field(made, field, acc, out):
     number = Number(total & ones(room(made)), minus, field.flags, field.zone)
     if total != number.magnitude:
         out.on |= bits_of(LC)
-    out.field = write_binary(made, number)
-    out.turn(bits_of(MOP))
-    out.turn(*result_number(number.magnitude, number.minus))
+    out.write(write_binary(made, number), number)
 
 
 def load(made, field, acc, factor, out):
     v, lost = lift(made, field.magnitude)
     out.on |= lost
-    out.accumulator = Number(v, field.minus, *((field.flags, field.zone) if made.name == 'LWF' else (0, 0)))
+    out.accumulate(Number(v, field.minus, *((field.flags, field.zone) if made.name == 'LWF' else (0, 0))))
 
 
 def add(made, field, acc, factor, out):
@@ -93,33 +87,33 @@ def add(made, field, acc, factor, out):
     out.on |= lost
     total, minus = added(acc, signed(v, field.minus), made.name == '+MG')
     out.on |= bits_of(LC) if total > ACC else 0
-    out.accumulator = Number(total & ACC, minus, acc.flags, acc.zone)
+    out.accumulate(Number(total & ACC, minus, acc.flags, acc.zone))
 
 
 def multiply(made, field, acc, factor, out):
     high = acc.magnitude >> made.offset
     out.on |= bits_of(PF) if high > ones(64) else 0
     product = (high & ones(64)) * field.magnitude
-    out.accumulator = Number(product, acc.minus ^ field.minus, acc.flags, acc.zone)
+    out.accumulate(Number(product, acc.minus ^ field.minus, acc.flags, acc.zone))
 
 
 def multiply_and_add(made, field, acc, factor, out):
     product = factor * field.magnitude << made.offset
     total, minus = added(acc, signed(product & ACC, field.minus))
     out.on |= bits_of(LC) if product > ACC or total > ACC else 0
-    out.accumulator = Number(total & ACC, minus, acc.flags, acc.zone)
+    out.accumulate(Number(total & ACC, minus, acc.flags, acc.zone))
 
 
 def divide(made, field, acc, factor, out):
     quotient, out.remainder = divmod(acc.magnitude >> made.offset, field.magnitude)
-    out.accumulator = Number(quotient, acc.minus ^ field.minus, acc.flags, acc.zone)
+    out.accumulate(Number(quotient, acc.minus ^ field.minus, acc.flags, acc.zone))
 
 
 def convert(made, field, acc, factor, out):
     codes = to_codes(field.magnitude, 20) << made.offset // 4 * 4
     out.on |= bits_of(PF) if codes > ACC else 0
     out.accumulator = Number(codes & ACC, field.minus)
-    out.turn(*result_number(codes_value(codes & ACC), field.minus))
+    out.result(codes_value(codes & ACC), field.minus)
 
 
 ACCUMULATING = {'L': load, 'LWF': load, '+': add, '+MG': add, '*': multiply, '*+': multiply_and_add, '/': divide,

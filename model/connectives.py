@@ -1,6 +1,6 @@
 """The connectives. Follows docs/connectives.md."""
 from fields import Number, Outcome
-from words import MOP, PF, bits_of, ones, result_number
+from words import MOP, PF, bits_of, ones
 
 
 def connect(table, field, accumulator, length):
@@ -25,5 +25,5 @@ def connective(made, bits, acc):
     elif made.name == 'CM':
         out.field = result
         out.turn(bits_of(MOP))
-    out.turn(*result_number(result, 0))
+    out.result(result, 0)
     return out

@@ -1,8 +1,8 @@
 """The decimal operations on a field. Follows docs/variable-fields.md, "Decimal fields" and "The decimal operations"."""
 from binary import ACC, compare, lift
-from fields import (Number, Outcome, added, codes_value, digits, flag_indicators, read_decimal, to_codes, write_decimal,
-                    zones_of)
-from words import DTR, LC, MOP, PF, bits_of, ones, result_number, signed
+from fields import (Number, Outcome, added, codes_value, digits, flag_indicators, read_decimal, to_codes,
+                    write_decimal, zones_of)
+from words import DTR, LC, MOP, PF, bits_of, ones, signed
 
 
 def decimal(made, bits, acc, is_on):
@@ -13,7 +13,7 @@ def decimal(made, bits, acc, is_on):
     if made.name == 'ST':
         number = Number(low, 0 if made.unsigned else acc.minus ^ made.negated, acc.flags, acc.zone)
         out.on |= bits_of(PF) if high != low else 0
-        write(made, out, number, [acc.zone] * count)
+        out.write(write_decimal(made, number, [acc.zone] * count), number)
         return out
     field = read_decimal(made, bits)
     out.on |= flag_indicators(field)
@@ -32,10 +32,11 @@ def decimal(made, bits, acc, is_on):
         else:
             out.transit = field.magnitude
             out.on |= bits_of(DTR)
-        out.turn(*result_number(field.magnitude, field.minus))
+        out.result(field.magnitude, field.minus)
     elif made.name == 'LCV':
         v, lost = lift(made, codes_value(field.magnitude))
-        leave(out, Number(v, field.minus), lost)
+        out.on |= lost
+        out.accumulate(Number(v, field.minus))
     else:
         with_accumulator(made, field, field.magnitude << 4 * place, acc, out, is_on)
     return out
@@ -43,34 +44,22 @@ def decimal(made, bits, acc, is_on):
 
 def with_accumulator(made, field, codes, acc, out, is_on):
     """L, LWF, +, +MG and the comparisons with the whole accumulator; `codes` may go past its last place."""
-    lost = bits_of(PF) if codes > ACC else 0
+    out.on |= bits_of(PF) if codes > ACC else 0
     v = codes & ACC
     if made.name in ('L', 'LWF'):
-        leave(out, Number(v, field.minus, *((field.flags, field.zone) if made.name == 'LWF' else (0, 0))), lost)
-    elif made.name in ('+', '+MG'):
-        value = Number(codes_value(acc.magnitude), acc.minus)
-        total, minus = added(value, signed(codes_value(v), field.minus), made.name == '+MG')
-        lost |= bits_of(LC) if total >= 10 ** 32 else 0
-        leave(out, Number(to_codes(total, 32), minus, acc.flags, acc.zone), lost)
+        out.accumulate(Number(v, field.minus, *((field.flags, field.zone) if made.name == 'LWF' else (0, 0))))
+        return
+    value, operand = Number(codes_value(acc.magnitude), acc.minus), signed(codes_value(v), field.minus)
+    if made.name in ('+', '+MG'):
+        total, minus = added(value, operand, made.name == '+MG')
+        out.on |= bits_of(LC) if total >= 10 ** 32 else 0
+        out.accumulate(Number(to_codes(total, 32), minus, acc.flags, acc.zone))
     else:
-        out.on |= lost
-        left, right = signed(codes_value(acc.magnitude), acc.minus), signed(codes_value(v), field.minus)
-        out.turn(*compare(made, left, right, is_on))
+        out.turn(*compare(made, signed(value.magnitude, value.minus), operand, is_on))
 
 
 def add_to_field(made, field, addend, zones, out):
     total, minus = added(Number(codes_value(field.magnitude), field.minus), addend, made.name == 'M+MG')
     out.on |= bits_of(LC) if total >= 10 ** digits(made) else 0
-    write(made, out, Number(to_codes(total, digits(made)), minus, field.flags, field.zone), zones)
-
-
-def leave(out, number, indicators):
-    out.accumulator = number
-    out.turn(indicators)
-    out.turn(*result_number(number.magnitude, number.minus))
-
-
-def write(made, out, number, zones):
-    out.field = write_decimal(made, number, zones)
-    out.turn(bits_of(MOP))
-    out.turn(*result_number(number.magnitude, number.minus))
+    number = Number(to_codes(total, digits(made)), minus, field.flags, field.zone)
+    out.write(write_decimal(made, number, zones), number)

@@ -4,7 +4,7 @@ Follows docs/variable-fields.md, "What a field holds", "Decimal digits" and "Dec
 """
 from dataclasses import dataclass
 
-from words import TF, UF, VF, bits_of, ones, signed
+from words import MOP, RGZ, RLZ, RN, RZ, TF, UF, VF, bits_of, ones, signed
 
 
 @dataclass
@@ -31,6 +31,21 @@ class Outcome:
     def turn(self, on, off=0):
         self.on |= on
         self.off |= off
+
+    def result(self, magnitude, minus):
+        """The result number: exactly one of RLZ, RZ and RGZ, and RN by the sign."""
+        self.turn(bits_of(RZ if magnitude == 0 else RLZ if minus else RGZ), bits_of(RLZ, RZ, RGZ, RN))
+        self.turn(bits_of(RN) if minus else 0)
+
+    def accumulate(self, number):
+        self.accumulator = number
+        self.result(number.magnitude, number.minus)
+
+    def write(self, bits, number):
+        """The field becomes these bits, and holds this number then."""
+        self.field = bits
+        self.turn(bits_of(MOP))
+        self.result(number.magnitude, number.minus)
 
 
 def room(made):

@@ -7,11 +7,12 @@ from functools import lru_cache
 
 import formats
 import indexing as index
-from words import AD, ALL, EXE, IA, INDEX, INDICATORS, OP, bits_of, ones, part, with_part
+from words import AD, EXE, IA, INDEX, INDICATORS, OP, bits_of, ones, part, with_part
 
 COUNTER = ones(19)
 ALONE = {'BE', 'BD', 'BEW', 'BB', 'T', 'SWAP', 'SIC', 'RD', 'WR'}
 FIELD_STORES = {'ST', 'M+', 'M+MG', 'M+1', 'CM'}
+NOT_FETCHED = [formats.Instruction(halves=halves, why='not fetched') for halves in (1, 2)]
 decode = lru_cache(1 << 16)(formats.decode)
 
 
@@ -39,10 +40,6 @@ class Entry:
     cost: int = 1
     alone: bool = False
 
-    def registers(self):
-        words = self.reads + self.writes + ([] if self.side is None else [self.side])
-        return [w for w in words if w < 32]
-
 
 def prepare(state, table=None):
     """The entry at the counter, or the table instruction of an interrupt."""
@@ -55,7 +52,8 @@ def prepare(state, table=None):
     if entry.fault:
         suppress(entry, state)
     else:
-        entry.alone |= entry.made.name in ALONE or bool(entry.registers())
+        words = entry.reads + entry.writes + ([] if entry.side is None else [entry.side])
+        entry.alone |= entry.made.name in ALONE or any(word < 32 for word in words)
     return entry
 
 
@@ -75,13 +73,13 @@ def fetch(state, place):
     first, second = place >> 1, (place + 1 & COUNTER) >> 1
     fault = state.no_fetch(first)
     if fault:
-        return formats.Instruction(why='not fetched'), [], fault
+        return NOT_FETCHED[0], [], fault
     half0 = half(state, place)
     if not formats.is_full(half0):
         return decode(half0, 0), [first], None
     fault = second != first and state.no_fetch(second)
     if fault:
-        return formats.Instruction(halves=2, why='not fetched'), [first], fault
+        return NOT_FETCHED[1], [first], fault
     return decode(half0, half(state, place + 1 & COUNTER)), [first] if first == second else [first, second], None
 
 
@@ -243,10 +241,6 @@ def plan_two(state, entry, made):
         entry.counter = made.second
 
 
-def area(entry):
-    return range(entry.address >> 6, (entry.address >> 6) + 8)
-
-
 PLANS = {'index': plan_index, 'branch': plan_branch, 'field': plan_field, 'connective': plan_field, 'two': plan_two,
          'order': lambda state, entry, made: None}
 
@@ -260,5 +254,6 @@ def failing(state, entry):
     checks += map(state.no_write, entry.writes)
     if entry.made.group == 'order':
         check = state.no_write if entry.made.name == 'RD' else state.no_read
-        checks += [AD if w < 32 else check(w) for w in area(entry)]
+        first = entry.address >> 6
+        checks += [AD if w < 32 else check(w) for w in range(first, first + 8)]
     return next(filter(None, checks), None)

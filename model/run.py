@@ -114,12 +114,12 @@ class Run:
 
     # ---- what is ahead
 
-    def ahead(self, tick, now=True):
-        """The entries ahead that are prepared before a tick, as (entry, row), and the front up to the first that is not.
+    def ahead(self, tick, table=None):
+        """The entries ahead that are prepared before a tick, with their rows, and the front behind the first that is not.
 
         They are found by guessed steps, which are undone again.
         """
-        state, front, trails, found, table = self.state, self.front, [], [], self.table
+        state, outer, front, trails, found = self.state, self.state.trail, self.front, [], []
         while True:
             entry = prepare(state, table)
             row, behind = next_row(front, entry, self.levels)
@@ -133,17 +133,16 @@ class Run:
             front, table = behind, None
         for trail in reversed(trails):
             state.undo(trail)
+        state.trail = outer
         return found, behind
 
     def end_segment(self, moment):
         """Drops what is ahead, and opens the next segment; the guess, not what came of it, tells what is ahead."""
-        state, tick = self.state, moment.tick
-        outer, counter, table = state.trail, state.counter, self.table
+        counter, tick = self.state.counter, moment.tick
         if self.missed:
-            state.counter = self.guess
-        self.table = None
+            self.state.counter = self.guess
         found, behind = self.ahead(tick)
-        state.trail, state.counter, self.table = outer, counter, table
+        self.state.counter = counter
         moment.dropped += found
         start = max(self.front.p, tick + 1 + len(found))    # a card may have ended one at this tick, with levels
         self.front = opening(self.controls.delays, behind.bus.answers_before(tick), start)
@@ -151,9 +150,7 @@ class Run:
 
     def view(self, tick, over=False):
         """The machine at a tick up to which everything is done; where the run is over, nothing is ahead."""
-        outer = self.state.trail
-        found = [] if over else self.ahead(tick + 1)[0]
-        self.state.trail = outer
+        found = [] if over else self.ahead(tick + 1, self.table)[0]
         index, levels = [self.state.word(16 + k) for k in range(16)], []
         for entry, row in found:
             old = None

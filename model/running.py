@@ -2,8 +2,6 @@
 
 Each kind looks at something else; all have random data, index words, delays, and wishes for the report.
 """
-import random
-
 import decks
 import formats
 

@@ -1,4 +1,4 @@
-"""Words, their parts, and the indicators. Follows docs/machine.md, "Words and addresses" to "Indicators and interrupts".
+"""Words, their parts, and the indicators. Follows docs/machine.md, up to "Indicators and interrupts".
 
 Bits of a word are numbered from the left, 0 to 63.
 """
@@ -57,9 +57,3 @@ def kept(address, word):
 
 def signed(magnitude, minus):
     return -magnitude if minus else magnitude
-
-
-def result_number(magnitude, minus):
-    """The indicators of a result number: exactly one of RLZ, RZ and RGZ, and RN by the sign; first those that go on."""
-    on = bits_of(RZ if magnitude == 0 else RLZ if minus else RGZ)
-    return on | (bits_of(RN) if minus else 0), bits_of(RLZ, RZ, RGZ, RN)
