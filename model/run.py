@@ -115,7 +115,7 @@ class Run:
     # ---- what is ahead
 
     def ahead(self, tick, table=None):
-        """The entries ahead that are prepared before a tick, with their rows, and the front behind the first that is not.
+        """The entries ahead that are prepared before a tick, with their rows, and the front behind one more.
 
         They are found by guessed steps, which are undone again.
         """
