@@ -17,7 +17,8 @@ INDICATORS = ['$XCZ', '$XVLZ', '$XVZ', '$XVGZ', '$XL', '$XE', '$XH', '$MOP', '$R
 class Draw(decks.Draw):
     """What is drawn for one deck. `words` are the words that its statements speak of, few so that they meet."""
     near = True
-    code = 12
+    code = 12               # how many words the instructions take, and at which of them the deck is
+    at = 0
     registers = 3           # how much weight registers have among addresses,
     faults = 2              # and words that do not exist
     burst = 0
@@ -36,8 +37,9 @@ class Draw(decks.Draw):
         return self.some(5, 0, 2, 32, 3, self.randrange(64))
 
     def place(self):
-        """A half-word of the program, mostly one that comes soon."""
-        return f'{CODE + self.randrange(self.code + 1)}.{self.choice([0, 0, 32])}'
+        """A half-word of the program, often one that comes soon."""
+        word = self.some(1, self.randrange(self.code + 1), 1, self.at * 3 // 4 + self.randrange(4))
+        return f'{CODE + word}.{self.choice([0, 0, 32])}'
 
     def part(self):
         return self.some(4, '', 1, f'($X{self.randrange(1, 8)})')
@@ -99,7 +101,9 @@ def ahead(d):
     if d.odds(.2):
         d.burst = d.randint(2, 6)
         return f'{d.choice(["*", "/", "LCV", "*+"])}(BU,{d.randint(1, 64)}),{DATA + d.randrange(8)}.0'
-    return d.some(6, on_index(d), 5, on_field(d), 1, branch(d))
+    late_store = d.choice([f'ST(BU,{d.choice([32, 64])}),', f'{d.choice(INDEX_STORES)},$X{d.randrange(8)},',
+                           'M+1(BU,24),'])
+    return d.some(12, on_index(d), 10, on_field(d), 2, branch(d), 1, late_store + d.place())
 
 
 def mixed(d):
@@ -141,7 +145,9 @@ def deck_of(d, statement, table_statement, enabled, count):
     d.code, d.registers, d.faults = max(count * 3 // 4, 1), d.some(4, 3, 1, 40, 5, 0), d.some(1, 2, 2, 0)
     deck = [card('T,120.0,$IA,2'), card('T,122.0,$L,4'), card(f'T,96.0,$X{d.randrange(3)},{d.randint(1, 12)}')]
     deck += [card(f'{"BE" if enabled else "BD"},{CODE}.0'), card(f'SLC,{CODE}.0')]
-    deck += [card(statement(d)) for _ in range(count)] + [card('BEW')]
+    for d.at in range(count):
+        deck.append(card(statement(d)))
+    deck.append(card('BEW'))
     deck += [card(f'SLC,{DATA}.0')] + [card(laid(d)) for _ in range(16)]
     deck += [card('SLC,96.0')] + [card(laid(d, .4 if d.faults else .97)) for _ in range(12)]
     deck += [card('SLC,120.0'), card(f'XW,{d.some(20, TABLE, 1, 98290, 1, 262132)}.0,0,0')]
