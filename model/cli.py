@@ -1,0 +1,49 @@
+"""The commands, with their exit statuses. Follows README.md, "Exit statuses", and the usage in docs/stretch.1."""
+import assembler
+import deckmaker
+import disassemble
+import objects
+from program import Refused
+from report import report
+from sweep import sweep
+
+JOB = 2_000_000                 # bytes that a job may have
+NO_COMMAND, TOO_LONG = 2, 3
+
+
+def text(lines):
+    return ''.join(line + '\n' for line in lines).encode('latin-1')
+
+
+COMMANDS = {
+    'run': lambda job: text(report(assembler.assemble(job))),
+    'assemble': lambda job: objects.write_object(assembler.assemble(job)),
+    'load': lambda job: text(report(objects.read_object(job))),
+    'disassemble': lambda job: disassemble.disassemble(objects.read_object(job)),
+    'sweep': lambda job: text(sweep(assembler.assemble(job)))}
+
+
+def soak(words):
+    """The made deck of two numbers, run; None where they are none."""
+    if len(words) != 2 or not all(word.isascii() and word.isdigit() and len(word) <= 20 for word in words):
+        return None
+    number, cards = map(int, words)
+    if number >= 1 << 64 or not 1 <= cards <= 4000:
+        return None
+    return text(report(assembler.assemble(deckmaker.made_deck(number, cards)), [f'SOAK {number} {cards}']))
+
+
+def answer(words, read):
+    """What is written and the exit status. `read` gives the job's bytes; it is called where a command wants them."""
+    if words[:1] == ['soak']:
+        written = soak(words[1:])
+        return (b'', NO_COMMAND) if written is None else (written, 0)
+    if len(words) != 1 or words[0] not in COMMANDS:
+        return b'', NO_COMMAND
+    job = read()
+    if len(job) > JOB:
+        return b'', TOO_LONG
+    try:
+        return COMMANDS[words[0]](job), 0
+    except Refused as refused:
+        return refused.line(), 1

@@ -1,0 +1,48 @@
+"""What the assembler gives and the machine runs: a program with its controls, or a refusal.
+
+Follows docs/strap.md ("Control cards") and docs/object-text.md.
+"""
+from dataclasses import dataclass, field
+
+
+class Refused(Exception):
+    """A job or an object text that is refused: the number of its card or line, and the name of the fault."""
+
+    def __init__(self, card, fault):
+        super().__init__(card, fault)
+        self.card, self.fault = card, fault
+
+    def line(self):
+        return f'CARD {self.card} {self.fault}\n'.encode()
+
+
+class Fault(Exception):
+    """A fault of a card whose number is known above."""
+
+
+@dataclass
+class Controls:
+    """What control cards ask for. Numbers are 0, lists empty and marks off where no card asked."""
+    budget: int = 0
+    delays: list = field(default_factory=list)
+    signals: list = field(default_factory=list)     # (count, indicator)
+    dumps: list = field(default_factory=list)       # (from, to)
+    snaps: list = field(default_factory=list)       # ticks
+    back: int = 0
+    list: bool = False
+    trace: bool = False
+    time: bool = False
+    chart: bool = False
+
+    def set_defaults(self):
+        self.budget = self.budget or 1000
+        self.delays = self.delays or [1]
+
+
+@dataclass
+class Program:
+    words: dict                                     # word address -> 64 bits, where a card laid any
+    start: int                                      # bit address
+    controls: Controls
+    reader: list = field(default_factory=list)      # cards of the reader, 64 bytes each
+    listing: list = field(default_factory=list)     # its lines, without line ends, whether asked for or not
