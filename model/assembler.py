@@ -111,9 +111,9 @@ def place_of(said, location, value):
     if name == 'END':
         return None, location
     if name == 'SYN':
-        return value, location
+        return value % ADDRESSES, location
     if name == 'SLC':
-        return value, value
+        return value % ADDRESSES, value
     if name == 'DD':
         return location, location + said.parts['length']
     unit = 64 if name in ('XW', 'DR') else 32
