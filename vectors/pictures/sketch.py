@@ -9,8 +9,8 @@ from collections import namedtuple
 
 MOST = 2**64 - 1
 NAMES = (
-    "MK IK IJ EK TS CPUS EKJ UNRJ CBJ EPGK UK EE EOP CS - OP AD USA EXE DS DF IF LC PF ZD - - - - - - - "
-    "TF UF VF XF BTR DTR PG0 PG1 PG2 PG3 PG4 PG5 PG6 XCZ XVLZ XVZ XVGZ XL XE XH MOP RLZ RZ RGZ RN AL AE AH - -"
+    "MK IK IJ EK TS CPUS EKJ UNRJ CBJ EPGK UK EE EOP CS - OP AD USA EXE DS DF IF LC PF ZD - - - - - - - - - - "
+    "TF UF VF XF BTR DTR PG0 PG1 PG2 PG3 PG4 PG5 PG6 XCZ XVLZ XVZ XVGZ XL XE XH MOP RLZ RZ RGZ RN AL AE AH -"
 ).split()
 
 # kind is row, drop, int or snap; ticks are p r turn c of a row, p end of what was dropped, or the one tick.
@@ -219,7 +219,7 @@ def lines(entries, cards, rows, later):
         for _, byte, least, start, end in bars(entry):
             out += byte * max(least, axis.at(end) - axis.at(start))
         out += {"int": b"!", "snap": b"|"}.get(entry.kind, b"") + b"\n"
-    out += b". waiting for operands  - waiting for its turn  # executing  x dropped  ! interrupt  | snapshot\n"
+    out += b". waiting for operands  - waiting for its turn  # executing  x dropped\n! interrupt  | snapshot\n"
     return out + b"%d rows, %d follow\n" % (rows, later)
 
 

@@ -93,7 +93,8 @@ head page (e ∷ es) = scale page (right_in (18 + page.places) (codes "ticks")) 
 -- what the marks mean
 unfoldable pub key : List ℕ
 key =
-    codes ". waiting for operands  - waiting for its turn  # executing  x dropped  ! interrupt  | snapshot\n"
+    codes ". waiting for operands  - waiting for its turn  # executing  x dropped\n"
+    ++ codes "! interrupt  | snapshot\n"
 
 -- the page of entries: its axis, and the places of their third texts
 abbrev pub page_of : List ℕ → List Entry → Page

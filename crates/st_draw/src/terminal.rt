@@ -234,7 +234,8 @@ fn push_key(out: &mut Vec<u8>) -> Result<(), AllocError>
     ensures { IfOk result (λ _. out.new.items ≡ out.old.items ++ spec.key) }
 {
     out.extend_from_slice(
-        b". waiting for operands  - waiting for its turn  # executing  x dropped  ! interrupt  | snapshot\n",
+        b". waiting for operands  - waiting for its turn  # executing  x dropped\n\
+        ! interrupt  | snapshot\n",
     )
 }
 
