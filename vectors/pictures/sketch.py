@@ -210,7 +210,9 @@ def lines(entries, cards, rows, later):
     if entries:
         out = b"ticks".rjust(18 + wide)
         for tick in axis.marks():
-            out = out.ljust(19 + wide + axis.at(tick)) + b"%d" % tick
+            place = 19 + wide + axis.at(tick)
+            if len(out) < place:
+                out = out.ljust(place) + b"%d" % tick
         out += b"\n"
     for entry in entries:
         first, second, third = texts(entry, cards)

@@ -1,5 +1,5 @@
 -- The picture of a timetable as lines of text.
-use Rattle.std.specs.Prelude.{ℕ, ◌+◌, ◌-◌, ◌&&◌, nat_le, max, if◌then◌else◌, List, [], ◌∷◌, ◌++◌, length, map, replicate, codes, decimal}
+use Rattle.std.specs.Prelude.{ℕ, ◌+◌, ◌-◌, ◌&&◌, nat_le, nat_lt, max, if◌then◌else◌, List, [], ◌∷◌, ◌++◌, length, map, replicate, codes, decimal}
 use Rattle.st_draw.specs.Axis.{axis, at, first_tick, marks}
 use Rattle.st_draw.specs.Caption.{first_text, second_text, third_text, widest, with_dots}
 use Rattle.st_draw.specs.Drawing.{remark}
@@ -76,11 +76,15 @@ unfoldable pub entry_lines : Page → List ℕ → List Entry → List ℕ
 entry_lines page report [] = []
 entry_lines page report (e ∷ es) = entry_line page report e ++ entry_lines page report es
 
+-- a text behind a line, from a place on; nothing where it would touch the line
+abbrev pub put_at : ℕ → List ℕ → List ℕ → List ℕ
+put_at place line text = if nat_lt (length line) place then line ++ many (place - length line) 32 ++ text else line
+
 -- a round tick behind a line, in its column
 abbrev pub marked : Page → List ℕ → ℕ → List ℕ
-marked page line tick = line ++ many (19 + page.places + column page.axis tick - length line) 32 ++ decimal tick
+marked page line tick = put_at (19 + page.places + column page.axis tick) line (decimal tick)
 
--- round ticks behind a line, each in its column
+-- round ticks behind a line, each in its column, but those that would touch the one before
 unfoldable pub scale : Page → List ℕ → List ℕ → List ℕ
 scale page line [] = line
 scale page line (tick ∷ ticks) = scale page (marked page line tick) ticks

@@ -185,18 +185,21 @@ fn push_entries(
     Ok(())
 }
 
-// Appends a round tick to a line, in its column.
+// Appends a round tick to a line, in its column; nothing where it would touch the line.
 fn push_mark(line: &mut Vec<u8>, page: &Page, tick: u64) -> Result<(), AllocError>
     requires axis { 1 ≤ page.now.axis.span }
     requires places { page.now.places ≤ 40 }
     ensures { IfOk result (λ _. line.new.items ≡ spec.marked page.now line.old.items tick) }
 {
-    let blanks = (19 + page.places + column(&page.axis, tick)).saturating_sub(line.len());
-    push_many(line, blanks, b' ')?;
+    let place = 19 + page.places + column(&page.axis, tick);
+    if place <= line.len() {
+        return Ok(());
+    }
+    push_many(line, place - line.len(), b' ')?;
     push_decimal(line, u128::from(tick))
 }
 
-// Appends round ticks to a line, each in its column.
+// Appends round ticks to a line, each in its column, but those that would touch the one before.
 fn push_scale(line: &mut Vec<u8>, page: &Page, ticks: &[u64]) -> Result<(), AllocError>
     requires axis { 1 ≤ page.now.axis.span }
     requires places { page.now.places ≤ 40 }
