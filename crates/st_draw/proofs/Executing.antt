@@ -16,7 +16,7 @@ use Rattle.st_draw.specs.declared.timetable.Part.{Part}
 
 -- entries behind entries
 executing_append : (tick : ℕ) (a b : List Entry) → executing_at tick (a ++ b) ≡ executing_at tick a + executing_at tick b
-executing_append tick [] b = refl
+executing_append tick [] b = omega arith
 executing_append tick (e ∷ es) b = let rest = executing_append tick es b in omega (arith, rest)
 
 -- the last entry first

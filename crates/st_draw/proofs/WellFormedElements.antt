@@ -1,7 +1,7 @@
 -- Texts that stay in their elements, and elements that are closed.
 use Rattle.std.proofs.Common.{◌≡◌, inl, inr, ℕ, ◌==◌, ◌&&◌, nat_le, if◌then◌else◌, Bool, true, false, List, [], ◌∷◌, ◌++◌, length, take, codes, refl, arith, append_assoc}
 use Rattle.std.proofs.lemmas.List.Folds.{list_all-append}
-use Rattle.st_draw.specs.Element.{Element, Box, Bar, Line, Text, Card, element_text, front, corner, size, ends, content, titled, shown_card, card_content, ellipsis}
+use Rattle.st_draw.specs.Element.{Element, Box, Bar, Line, Text, Card, element_text, front, corner, size, ends, content, title_end, titled, shown_card, card_content, ellipsis}
 use Rattle.st_draw.specs.Caption.{card_limit}
 use Rattle.st_draw.specs.Escape.{escaped, escaped_byte}
 use Rattle.st_draw.specs.WellFormed.{is_inner, are_inner, IsClosed, IsFull}
@@ -45,6 +45,12 @@ card_closed false x y text test = record {
   known = inr refl;
 }
 
+-- the pieces of a bar, grouped as attributes and the rest
+bar_parts : (front class quote place reach begin title end : List ℕ)
+    → (front ++ class ++ quote) ++ place ++ reach ++ (begin ++ title ++ end)
+    ≡ front ++ (class ++ quote ++ place ++ reach) ++ begin ++ title ++ end
+bar_parts front class quote place reach begin title end = simp append_assoc refl
+
 -- each element is closed
 pub element_closed : (e : Element) → IsClosed (element_text e)
 unfolding element_text front content titled
@@ -55,7 +61,7 @@ element_closed (Box class x y width height) = inl (record {
 element_closed (Bar class x y width height title) = inr (inr (inl (record {
   attributes = class ++ codes "\"" ++ corner x y ++ size width height;
   inner = escaped title;
-  parts = grind (arith, append_assoc);
+  parts = bar_parts (codes "<rect class=\"") class (codes "\"") (corner x y) (size width height) (codes "><title>") (escaped title) title_end;
   harmless = escaped_inner title;
 })))
 element_closed (Line class x y x' y') = inr (inl (record {

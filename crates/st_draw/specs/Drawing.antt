@@ -94,11 +94,14 @@ box_key class x y meaning = Box class x y 20 10 ∷ Text (codes "c") (x + 26) (y
 unfoldable pub line_key : List ℕ → ℕ → ℕ → List ℕ → List Element
 line_key class x y meaning = Line class x (y + 5) (x + 20) (y + 5) ∷ Text (codes "c") (x + 26) (y + 9) meaning ∷ []
 
--- what the boxes mean
-unfoldable pub box_keys : ℕ → List Element
-box_keys y =
+-- what the boxes of those that wait mean
+unfoldable pub waiting_keys : ℕ → List Element
+waiting_keys y =
     box_key (codes "w") 12 y (codes "waiting for operands") ++ box_key (codes "t") 186 y (codes "waiting for its turn")
-    ++ box_key (codes "e") 360 y (codes "executing") ++ box_key (codes "d") 466 y (codes "dropped")
+
+-- what the boxes of those that wait no longer mean
+unfoldable pub ending_keys : ℕ → List Element
+ending_keys y = box_key (codes "e") 360 y (codes "executing") ++ box_key (codes "d") 466 y (codes "dropped")
 
 -- what the lines mean
 unfoldable pub line_keys : ℕ → List Element
@@ -106,7 +109,7 @@ line_keys y = line_key (codes "i") 12 y (codes "interrupt") ++ line_key (codes "
 
 -- the legend
 unfoldable pub legend : ℕ → List Element
-legend y = box_keys y ++ line_keys (y + 16)
+legend y = waiting_keys y ++ ending_keys y ++ line_keys (y + 16)
 
 -- how many rows are shown, and how many follow
 unfoldable pub remark : ℕ → ℕ → List ℕ

@@ -28,9 +28,13 @@ ends x y x' y' =
 unfoldable pub content : List ℕ → List ℕ
 content text = codes ">" ++ escaped text ++ codes "</text>\n"
 
+-- the end of a title and of its box
+unfoldable pub title_end : List ℕ
+title_end = codes "</title></rect>\n"
+
 -- what a box says when it is pointed at, and its end
 unfoldable pub titled : List ℕ → List ℕ
-titled text = codes "><title>" ++ escaped text ++ codes "</title></rect>\n"
+titled text = codes "><title>" ++ escaped text ++ title_end
 
 -- the mark at the end of a card that is too long: an ellipsis in UTF-8
 abbrev pub ellipsis : List ℕ

@@ -3,7 +3,7 @@
 use Rattle.std.specs.Prelude.{◌≡◌, ◌⊎◌, ℕ, ◌==◌, ◌≤◌, ◌&&◌, not, Bool, true, List, [], ◌∷◌, ◌++◌, ⊤, codes, Option, None, Some}
 use Rattle.std.specs.List.{list_all}
 use Rattle.st_text.specs.Bytes.{is_printable_byte}
-use Rattle.st_draw.specs.Element.{ellipsis}
+use Rattle.st_draw.specs.Element.{ellipsis, title_end}
 use Rattle.st_draw.specs.Report.{item}
 use Rattle.st_draw.specs.declared.moments.Moment.{Moment}
 use Rattle.st_draw.specs.declared.report.Item.{Item}
@@ -26,7 +26,7 @@ pub record IsEmpty (name bytes : List ℕ) : Type 0 where
 pub record IsTitled (bytes : List ℕ) : Type 0 where
   pub attributes : List ℕ
   pub inner : List ℕ
-  pub parts : bytes ≡ codes "<rect class=\"" ++ attributes ++ codes "><title>" ++ inner ++ codes "</title></rect>\n"
+  pub parts : bytes ≡ codes "<rect class=\"" ++ attributes ++ codes "><title>" ++ inner ++ title_end
   pub harmless : are_inner inner ≡ true
 
 -- an element that has a text, and behind it an ellipsis or nothing, and is closed by its name

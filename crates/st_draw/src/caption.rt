@@ -132,12 +132,11 @@ fn push_numbered(out: &mut Vec<u8>, words: &[u8], n: u64) -> Result<(), AllocErr
     push_decimal(out, u128::from(n))
 }
 
-/// What the bars of an entry tell: the ticks of its phases.
+// Appends what the bars of an entry tell.
 #[tactic(auto, unfolding(crate::specs::Caption::title))]
-pub fn title(alloc: Global, entry: Entry) -> Result<Vec<u8>, AllocError>
-    ensures { IfOk result (λ text. text.items ≡ spec.title entry) }
+fn push_title(out: &mut Vec<u8>, entry: Entry) -> Result<(), AllocError>
+    ensures { IfOk result (λ _. out.new.items ≡ out.old.items ++ spec.title entry) }
 {
-    let mut out = Vec::new(alloc);
     match entry {
         Entry::Done {
             number,
@@ -147,18 +146,26 @@ pub fn title(alloc: Global, entry: Entry) -> Result<Vec<u8>, AllocError>
             complete,
             ..
         } => {
-            push_numbered(&mut out, b"row ", number)?;
-            push_numbered(&mut out, b": waits for operands from P ", prepared)?;
-            push_numbered(&mut out, b" to R ", ready)?;
-            push_numbered(&mut out, b", for its turn to ", turn)?;
-            push_numbered(&mut out, b", executes to C ", complete)?;
+            push_numbered(out, b"row ", number)?;
+            push_numbered(out, b": waits for operands from P ", prepared)?;
+            push_numbered(out, b" to R ", ready)?;
+            push_numbered(out, b", for its turn to ", turn)?;
+            push_numbered(out, b", executes to C ", complete)
         }
         Entry::Dropped { prepared, end, .. } => {
-            push_numbered(&mut out, b"prepared at P ", prepared)?;
-            push_numbered(&mut out, b", dropped at ", end)?;
+            push_numbered(out, b"prepared at P ", prepared)?;
+            push_numbered(out, b", dropped at ", end)
         }
-        Entry::Taken { .. } => {}
-        Entry::Shown { .. } => {}
+        Entry::Taken { .. } => Ok(()),
+        Entry::Shown { .. } => Ok(()),
     }
+}
+
+/// What the bars of an entry tell: the ticks of its phases.
+pub fn title(alloc: Global, entry: Entry) -> Result<Vec<u8>, AllocError>
+    ensures { IfOk result (λ text. text.items ≡ spec.title entry) }
+{
+    let mut out = Vec::new(alloc);
+    push_title(&mut out, entry)?;
     Ok(out)
 }

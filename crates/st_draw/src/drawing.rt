@@ -346,14 +346,24 @@ fn push_line_key(
     push_meaning(out, x, y, meaning)
 }
 
-// Appends what the boxes mean.
-#[tactic(auto, unfolding(crate::specs::Drawing::box_keys), using(crate::proofs::Elements::elements_joined))]
-fn push_box_keys(out: &mut Vec<u8>, y: u128) -> Result<(), AllocError>
+// Appends what the boxes of those that wait mean.
+#[tactic(auto, unfolding(crate::specs::Drawing::waiting_keys), using(crate::proofs::Elements::elements_joined))]
+fn push_waiting_keys(out: &mut Vec<u8>, y: u128) -> Result<(), AllocError>
     requires { y < 2 ^ 71 }
-    ensures { IfOk result (λ _. out.new.items ≡ out.old.items ++ elements_text (spec.box_keys y)) }
+    ensures { IfOk result (λ _. out.new.items ≡ out.old.items
+        ++ elements_text (spec.waiting_keys y)) }
 {
     push_box_key(out, b"w", 12, y, b"waiting for operands")?;
-    push_box_key(out, b"t", 186, y, b"waiting for its turn")?;
+    push_box_key(out, b"t", 186, y, b"waiting for its turn")
+}
+
+// Appends what the boxes of those that wait no longer mean.
+#[tactic(auto, unfolding(crate::specs::Drawing::ending_keys), using(crate::proofs::Elements::elements_joined))]
+fn push_ending_keys(out: &mut Vec<u8>, y: u128) -> Result<(), AllocError>
+    requires { y < 2 ^ 71 }
+    ensures { IfOk result (λ _. out.new.items ≡ out.old.items
+        ++ elements_text (spec.ending_keys y)) }
+{
     push_box_key(out, b"e", 360, y, b"executing")?;
     push_box_key(out, b"d", 466, y, b"dropped")
 }
@@ -372,10 +382,11 @@ fn push_line_keys(out: &mut Vec<u8>, y: u128) -> Result<(), AllocError>
 // Appends the legend.
 #[tactic(auto, unfolding(crate::specs::Drawing::legend), using(crate::proofs::Elements::elements_joined))]
 fn push_legend(out: &mut Vec<u8>, y: u128) -> Result<(), AllocError>
-    requires { y < 2 ^ 71 }
+    requires { y < 2 ^ 70 + 8 }
     ensures { IfOk result (λ _. out.new.items ≡ out.old.items ++ elements_text (spec.legend y)) }
 {
-    push_box_keys(out, y)?;
+    push_waiting_keys(out, y)?;
+    push_ending_keys(out, y)?;
     push_line_keys(out, y + 16)
 }
 

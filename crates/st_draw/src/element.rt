@@ -1,6 +1,6 @@
 //! The elements of a picture.
 ghost use Rattle.std.specs.Prelude.{◌≡◌, ◌++◌, IfOk, decimal};
-ghost use Rattle.st_draw.specs.Element.{attribute, front, corner, size, ends, content, titled, shown_card, card_content, element_text, Box, Bar, Line, Text, Card};
+ghost use Rattle.st_draw.specs.Element.{attribute, front, corner, size, ends, content, title_end, titled, shown_card, card_content, element_text, Box, Bar, Line, Text, Card};
 
 use crate::caption::CARD_LIMIT;
 use crate::escape::push_escaped;
@@ -86,6 +86,14 @@ fn push_ends(out: &mut Vec<u8>, area: Area) -> Result<(), AllocError>
     push_attribute(out, b" y2", area.down)
 }
 
+// The end of a title and of its box.
+#[tactic(auto, unfolding(crate::specs::Element::title_end))]
+fn end_of_title() -> &'static [u8]
+    ensures { result.now ≡ title_end }
+{
+    b"</title></rect>\n"
+}
+
 // Appends what a box says when it is pointed at, and its end.
 #[tactic(auto, unfolding(crate::specs::Element::titled))]
 fn push_title(out: &mut Vec<u8>, text: &[u8]) -> Result<(), AllocError>
@@ -93,7 +101,7 @@ fn push_title(out: &mut Vec<u8>, text: &[u8]) -> Result<(), AllocError>
 {
     out.extend_from_slice(b"><title>")?;
     push_escaped(out, text)?;
-    out.extend_from_slice(b"</title></rect>\n")
+    out.extend_from_slice(end_of_title())
 }
 
 // Appends what is shown of a card: one that is too long ends in an ellipsis.
