@@ -1,11 +1,11 @@
 -- That at most one row executes at a tick, line by line.
-use Rattle.std.proofs.Common.{◌≡◌, ◌≤◌, ◌<◌, ◌+◌, refl, ℕ, nat_le, nat_lt, if◌then◌else◌, Bool, true, false, List, [], ◌∷◌, ◌++◌, reverse, Option, None, Some, arith, append_assoc}
-use Rattle.std.proofs.lemmas.Bool.{leb-true, leb-false}
+use Rattle.std.proofs.Common.{◌≡◌, ◌≤◌, ◌+◌, refl, ℕ, nat_le, if◌then◌else◌, Bool, true, false, List, [], ◌∷◌, ◌++◌, reverse, Option, None, Some, arith}
+use Rattle.std.proofs.lemmas.Bool.{leb-true}
 use Rattle.std.proofs.lemmas.List.{reverse-append}
 use Rattle.st_text.specs.Pieces.{parted}
 use Rattle.st_draw.specs.Phases.{executing_at, turn_of}
 use Rattle.st_draw.specs.Report.{item}
-use Rattle.st_draw.specs.Timetable.{Timetable, untold, is_in, kept, joined, after_said, after_line, after_lines, timetable}
+use Rattle.st_draw.specs.Timetable.{Timetable, untold, is_in, joined, after_said, after_line, after_lines, timetable}
 use Rattle.st_draw.specs.WellFormed.{completion_after, CompletionsRise}
 use Rattle.st_draw.specs.declared.report.Item.{Item}
 use Rattle.st_draw.specs.declared.report.Item.TheVariants.{Row, Drop, Interrupt, Snapshot}

@@ -1,5 +1,4 @@
 -- The laws, each with the lemma that carries it.
-use Rattle.std.proofs.Common.{◌≡◌, ℕ, List}
 use Rattle.st_draw.specs.Laws.{TextsStayInTheirElements, ElementsAreClosed, LogsGoForward, LabelsStayInTheirLines, OneExecutesAtATick}
 use Rattle.st_draw.specs.Moments.{happenings, moments, begins, in_order}
 use Rattle.st_draw.proofs.Executing.{executing_once}

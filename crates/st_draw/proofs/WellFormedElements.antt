@@ -1,5 +1,5 @@
 -- Texts that stay in their elements, and elements that are closed.
-use Rattle.std.proofs.Common.{◌≡◌, inl, inr, ℕ, ◌==◌, ◌&&◌, nat_le, if◌then◌else◌, Bool, true, false, List, [], ◌∷◌, ◌++◌, length, take, codes, refl, arith, append_assoc}
+use Rattle.std.proofs.Common.{◌≡◌, inl, inr, ℕ, ◌==◌, ◌&&◌, nat_le, Bool, true, false, List, [], ◌∷◌, ◌++◌, length, take, codes, refl, arith, append_assoc}
 use Rattle.std.proofs.lemmas.List.Folds.{list_all-append}
 use Rattle.st_draw.specs.Element.{Element, Box, Bar, Line, Text, Card, element_text, front, corner, size, ends, content, title_end, titled, shown_card, card_content, ellipsis}
 use Rattle.st_draw.specs.Caption.{card_limit}

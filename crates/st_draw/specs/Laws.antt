@@ -1,12 +1,11 @@
 -- Laws: what holds of every picture and every log, whatever a report says.
-use Rattle.std.specs.Prelude.{◌≡◌, ◌≤◌, ℕ, List, [], ◌∷◌, true, ⊤}
+use Rattle.std.specs.Prelude.{◌≡◌, ◌≤◌, ℕ, List, true}
 use Rattle.st_text.specs.Bytes.{is_printable}
 use Rattle.st_text.specs.Pieces.{parted}
 use Rattle.st_draw.specs.Element.{Element, element_text}
 use Rattle.st_draw.specs.Escape.{escaped}
 use Rattle.st_draw.specs.Moments.{happenings}
 use Rattle.st_draw.specs.Phases.{executing_at}
-use Rattle.st_draw.specs.Report.{item}
 use Rattle.st_draw.specs.Terminal.{plain}
 use Rattle.st_draw.specs.Timetable.{timetable}
 use Rattle.st_draw.specs.WellFormed.{are_inner, GoForward, IsClosed, CompletionsRise}
