@@ -59,7 +59,7 @@ install: proved
 	@set -e; for name in $(PROGRAMS); do \
 	    [ -d crates/$$name ] || continue; \
 	    cp $(OUT)/$$name/out/$$name $(home)/programs/$$name; \
-	    sed 's|^exec sh "$$here/[.]ci/start" '$$name'|exec "$$here/programs/'$$name'"|' $$name >$(home)/$$name; \
+	    sed 's|exec sh "$$here/[.]ci/start" '$$name'|exec "$$here/programs/'$$name'"|' $$name >$(home)/$$name; \
 	    if grep -q '[.]ci/start"' $(home)/$$name; then echo "$$name starts its program in a way that is not known here" >&2; exit 1; fi; \
 	    chmod 755 $(home)/$$name $(home)/programs/$$name; \
 	    link=stretch-$$name; [ $$name != stretch ] || link=stretch; \
@@ -73,6 +73,7 @@ install: proved
 	    echo ".so man1/stretch-tools.1" >$(man)/stretch-$$name.1; \
 	    ln -sf stretch $(bash)/stretch-$$name; \
 	done
+	cp VERSION $(home)
 	cp -R docs/*.md docs/lessons docs/pictures README.md CHANGELOG.md examples $(doc)
 	ln -sfn ../../share/doc/stretch $(home)/docs
 	cp docs/stretch.1 docs/stretch-tools.1 $(man)
