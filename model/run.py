@@ -1,6 +1,7 @@
 """The run: signals, orders, rests and steps, with the ticks of a machine that works ahead.
 
-Follows docs/machine.md, "A run" and "Running ahead", and docs/timetable.md, "The machine".
+Follows docs/machine.md, "A run" and "Running ahead", and docs/timetable.md, "Levels, and what an
+interrupt undoes".
 """
 from dataclasses import dataclass
 

@@ -1,4 +1,4 @@
-"""The command `sweep`. Follows docs/timetable.md, "One to eight levels" and "One to eight levels side by side"."""
+"""The command `sweep`. Follows docs/timetable.md, "One to eight levels"."""
 from run import Run
 
 
