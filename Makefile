@@ -59,7 +59,7 @@ install: proved
 	@set -e; for name in $(PROGRAMS); do \
 	    [ -d crates/$$name ] || continue; \
 	    cp $(OUT)/$$name/out/$$name $(home)/programs/$$name; \
-	    sed 's|exec sh "$$here/[.]ci/start" '$$name'|exec "$$here/programs/'$$name'"|' $$name >$(home)/$$name; \
+	    sed 's|sh "$$here/[.]ci/start" '$$name'|"$$here/programs/'$$name'"|' $$name >$(home)/$$name; \
 	    if grep -q '[.]ci/start"' $(home)/$$name; then echo "$$name starts its program in a way that is not known here" >&2; exit 1; fi; \
 	    chmod 755 $(home)/$$name $(home)/programs/$$name; \
 	    link=stretch-$$name; [ $$name != stretch ] || link=stretch; \
