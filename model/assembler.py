@@ -97,7 +97,7 @@ def place_card(row, seen):
         raise Fault('SYMBOL NOT EARLIER')
     if said.name and len(seen.symbols) == MOST_NAMES:
         raise Fault('TOO MANY NAMES')
-    value = expressions.value_of(said.fields[0].terms, seen.symbols) if early else 0
+    value = expressions.value_of(said.fields[0].terms, seen.symbols) % ADDRESSES if early else 0
     row.place, location = place_of(said, seen.location, value)
     row.passed = value if said.operation.name == 'DR' else 0
     seen.location = location % ADDRESSES

@@ -108,6 +108,3 @@ fn budget_or_usual(budget: u64) -> u64
 {
     if budget == 0 { USUAL_BUDGET } else { budget }
 }
-
-#[cfg(test)]
-mod tests;

@@ -14,6 +14,3 @@ pub use laws::{
     delays_are_bounded, reads_are_accepted_at_their_tick, reads_keep_their_bank_busy,
     words_lie_in_banks,
 };
-
-#[cfg(test)]
-mod tests;

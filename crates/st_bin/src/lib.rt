@@ -8,6 +8,3 @@ mod operations;
 
 pub use operations::binary;
 pub use st_field::{Acc, Done, Field, Shape, digits_value, read_field, to_digits, write_field};
-
-#[cfg(test)]
-mod tests;

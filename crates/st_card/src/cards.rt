@@ -190,6 +190,3 @@ fn is_printable(text: &[u8]) -> bool
 {
     text.iter().all(|byte| (32..=126).contains(byte))
 }
-
-#[cfg(test)]
-mod tests;

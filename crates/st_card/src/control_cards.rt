@@ -294,6 +294,3 @@ fn push_signal(signals: &mut Vec<Signal>, signal: Signal) -> Addition
         Err(_) => Addition::NoMemory,
     }
 }
-
-#[cfg(test)]
-mod tests;

@@ -8,6 +8,3 @@ mod placement;
 pub use connections::connective;
 pub use logic::{Conn, connect};
 pub use placement::put_acc;
-
-#[cfg(test)]
-mod tests;

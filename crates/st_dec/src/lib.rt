@@ -11,6 +11,3 @@ mod operations;
 mod stores;
 
 pub use operations::decimal;
-
-#[cfg(test)]
-mod tests;

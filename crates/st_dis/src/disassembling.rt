@@ -61,6 +61,3 @@ pub fn disassemble(
 fn know_words(words: &[u64])
     ensures { AreWords words.now }
 {}
-
-#[cfg(test)]
-mod tests;

@@ -16,6 +16,11 @@ pub elements_joined : (s : List ℕ) (a b : List Element)
     → s ++ elements_text (a ++ b) ≡ (s ++ elements_text a) ++ elements_text b
 elements_joined s a b = let both = elements_append a b in rw both (simp append_assoc refl)
 
+-- elements behind bytes that end in elements
+pub elements_behind : (s mid : List ℕ) (a b : List Element) → mid ≡ s ++ elements_text a
+    → mid ++ elements_text b ≡ s ++ elements_text (a ++ b)
+elements_behind s mid a b so_far = rw so_far (sym (elements_joined s a b))
+
 -- one element behind bytes
 pub elements_one : (s : List ℕ) (e : Element) → s ++ elements_text (e ∷ []) ≡ s ++ element_text e
 unfolding elements_text

@@ -6,7 +6,6 @@ use Rattle.st_draw.specs.Terminal.{plain, plain_byte}
 use Rattle.st_text.specs.Bytes.{is_printable, is_printable_byte}
 use Rattle.st_draw.specs.WellFormed.{GoForward}
 use Rattle.st_draw.specs.declared.moments.Moment.{Moment}
-use Rattle.std.specs.List.{list_all}
 
 -- a moment that is put in front of others or between them, by the test on the first one
 inserted_by : (first : Bool) (t : ℕ) (m n : Moment) (ns : List Moment) → nat_le m.tick n.tick ≡ first → t ≤ m.tick

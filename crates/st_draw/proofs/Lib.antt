@@ -1,6 +1,8 @@
 pub mod Axes
 pub mod Elements
+pub mod Executing
 pub mod Forward
+pub mod Laws
 pub mod Lines
 pub mod Merging
 pub mod Statuses

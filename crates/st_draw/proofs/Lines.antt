@@ -1,38 +1,47 @@
 -- Lines of text that stand one after another.
-use Rattle.std.proofs.Common.{◌≡◌, ◌<◌, ◌∙◌, sym, ap, arith, length, [], ◌∷◌, ◌++◌, List, append_assoc, ℕ}
+use Rattle.std.proofs.Common.{◌≡◌, ◌<◌, ◌∙◌, refl, sym, ap, arith, length, [], ◌∷◌, ◌++◌, List, append_assoc, ℕ}
 use Rattle.std.proofs.lemmas.List.{append-nil}
 use Rattle.st_draw.specs.Terminal.{entry_line, entry_lines, marked, scale}
-use Rattle.st_draw.specs.declared.axis.Axis.{Axis}
+use Rattle.st_draw.specs.declared.terminal.Page.{Page}
 use Rattle.st_draw.specs.declared.timetable.Entry.{Entry}
 
+-- bytes behind bytes
+pub bytes_joined : (s mid a b : List ℕ) → mid ≡ s ++ a → mid ++ b ≡ s ++ (a ++ b)
+bytes_joined s mid a b so_far = rw so_far (simp append_assoc refl)
+
+-- five pieces, one behind the other
+pub five_joined : (s t u v w a b c d e : List ℕ) → t ≡ s ++ a → u ≡ t ++ b → v ≡ u ++ c → w ≡ v ++ d
+    → w ++ e ≡ s ++ (a ++ b ++ c ++ d ++ e)
+five_joined s t u v w a b c d e first second third fourth = rw (fourth, third, second, first) (simp append_assoc refl)
+
 -- one more line is written
-pub lines_step : (mid new total : List ℕ) (rest es : List Entry) (axis : Axis) (report : List ℕ) (e : Entry)
-    → rest ≡ e ∷ es → new ≡ mid ++ entry_line axis report e → mid ++ entry_lines axis report rest ≡ total
-    → new ++ entry_lines axis report es ≡ total
+pub lines_step : (mid new total : List ℕ) (rest es : List Entry) (page : Page) (report : List ℕ) (e : Entry)
+    → rest ≡ e ∷ es → new ≡ mid ++ entry_line page report e → mid ++ entry_lines page report rest ≡ total
+    → new ++ entry_lines page report es ≡ total
 unfolding entry_lines
-lines_step mid new total rest es axis report e parts drawn so_far =
-    let whole : mid ++ (entry_line axis report e ++ entry_lines axis report es) ≡ total =
-    ap (λ (s : List Entry). mid ++ entry_lines axis report s) (sym parts) ∙ so_far in
+lines_step mid new total rest es page report e parts drawn so_far =
+    let whole : mid ++ (entry_line page report e ++ entry_lines page report es) ≡ total =
+    ap (λ (s : List Entry). mid ++ entry_lines page report s) (sym parts) ∙ so_far in
     rw (drawn, append_assoc) whole
 
 -- all lines are written
-pub lines_done : (mid total : List ℕ) (rest : List Entry) (axis : Axis) (report : List ℕ) → length rest < 1
-    → mid ++ entry_lines axis report rest ≡ total → mid ≡ total
+pub lines_done : (mid total : List ℕ) (rest : List Entry) (page : Page) (report : List ℕ) → length rest < 1
+    → mid ++ entry_lines page report rest ≡ total → mid ≡ total
 unfolding entry_lines
-lines_done mid total [] axis report none so_far = sym (append-nil mid) ∙ so_far
-lines_done mid total (e ∷ es) axis report none so_far = let no : ⊥ = omega arith in absurd no
+lines_done mid total [] page report none so_far = sym (append-nil mid) ∙ so_far
+lines_done mid total (e ∷ es) page report none so_far = let no : ⊥ = omega arith in absurd no
 
 -- one more round tick is written
-pub scale_step : (mid new total rest ts : List ℕ) (axis : Axis) (t : ℕ) → rest ≡ t ∷ ts
-    → new ≡ marked axis mid t → scale axis mid rest ≡ total → scale axis new ts ≡ total
+pub scale_step : (mid new total rest ts : List ℕ) (page : Page) (t : ℕ) → rest ≡ t ∷ ts
+    → new ≡ marked page mid t → scale page mid rest ≡ total → scale page new ts ≡ total
 unfolding scale
-scale_step mid new total rest ts axis t parts drawn so_far =
-    let whole : scale axis (marked axis mid t) ts ≡ total =
-    ap (λ (s : List ℕ). scale axis mid s) (sym parts) ∙ so_far in
-    ap (λ (s : List ℕ). scale axis s ts) drawn ∙ whole
+scale_step mid new total rest ts page t parts drawn so_far =
+    let whole : scale page (marked page mid t) ts ≡ total =
+    ap (λ (s : List ℕ). scale page mid s) (sym parts) ∙ so_far in
+    ap (λ (s : List ℕ). scale page s ts) drawn ∙ whole
 
 -- all round ticks are written
-pub scale_done : (mid total rest : List ℕ) (axis : Axis) → length rest < 1 → scale axis mid rest ≡ total → mid ≡ total
+pub scale_done : (mid total rest : List ℕ) (page : Page) → length rest < 1 → scale page mid rest ≡ total → mid ≡ total
 unfolding scale
-scale_done mid total [] axis none so_far = so_far
-scale_done mid total (t ∷ ts) axis none so_far = let no : ⊥ = omega arith in absurd no
+scale_done mid total [] page none so_far = so_far
+scale_done mid total (t ∷ ts) page none so_far = let no : ⊥ = omega arith in absurd no

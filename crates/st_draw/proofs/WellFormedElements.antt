@@ -1,9 +1,10 @@
 -- Texts that stay in their elements, and elements that are closed.
-use Rattle.std.proofs.Common.{◌≡◌, inl, inr, ℕ, ◌==◌, ◌&&◌, nat_le, Bool, true, false, List, [], ◌∷◌, ◌++◌, codes, refl, arith, append_assoc}
+use Rattle.std.proofs.Common.{◌≡◌, inl, inr, ℕ, ◌==◌, ◌&&◌, nat_le, Bool, true, false, List, [], ◌∷◌, ◌++◌, length, take, codes, refl, arith, append_assoc}
 use Rattle.std.proofs.lemmas.List.Folds.{list_all-append}
-use Rattle.st_draw.specs.Element.{Element, Box, Line, Text, element_text, front, corner, size, ends, content}
+use Rattle.st_draw.specs.Element.{Element, Box, Bar, Line, Text, Card, element_text, front, corner, size, ends, content, title_end, titled, shown_card, card_content, ellipsis}
+use Rattle.st_draw.specs.Caption.{card_limit}
 use Rattle.st_draw.specs.Escape.{escaped, escaped_byte}
-use Rattle.st_draw.specs.WellFormed.{is_inner, are_inner, IsClosed}
+use Rattle.st_draw.specs.WellFormed.{is_inner, are_inner, IsClosed, IsFull}
 
 -- a byte as it stands in a picture, by the tests on it
 byte_inner : (c : ℕ) (less more also printable : Bool) → (c == 60) ≡ less → (c == 62) ≡ more → (c == 38) ≡ also
@@ -23,20 +24,56 @@ escaped_inner (c ∷ cs) =
     let both = list_all-append is_inner (escaped_byte c) (escaped cs) in
     rw (both, here, there) refl
 
+-- a card is closed, by whether it is short enough to be shown whole
+card_closed : (whole : Bool) (x y : ℕ) (text : List ℕ) → nat_le (length text) card_limit ≡ whole
+    → IsFull (codes "text") (element_text (Card x y text))
+unfolding element_text front card_content shown_card
+card_closed true x y text test = record {
+  attributes = codes "c\"" ++ corner x y;
+  inner = escaped text;
+  mark = [];
+  parts = rw test (grind (arith, append_assoc));
+  harmless = escaped_inner text;
+  known = inl refl;
+}
+card_closed false x y text test = record {
+  attributes = codes "c\"" ++ corner x y;
+  inner = escaped (take 39 text);
+  mark = ellipsis;
+  parts = rw test (grind (arith, append_assoc));
+  harmless = escaped_inner (take 39 text);
+  known = inr refl;
+}
+
+-- the pieces of a bar, grouped as attributes and the rest
+bar_parts : (front class quote place reach begin title end : List ℕ)
+    → (front ++ class ++ quote) ++ place ++ reach ++ (begin ++ title ++ end)
+    ≡ front ++ (class ++ quote ++ place ++ reach) ++ begin ++ title ++ end
+bar_parts front class quote place reach begin title end = simp append_assoc refl
+
 -- each element is closed
 pub element_closed : (e : Element) → IsClosed (element_text e)
-unfolding element_text front content
+unfolding element_text front content titled
 element_closed (Box class x y width height) = inl (record {
   attributes = class ++ codes "\"" ++ corner x y ++ size width height;
   parts = simp append_assoc refl;
 })
+element_closed (Bar class x y width height title) = inr (inr (inl (record {
+  attributes = class ++ codes "\"" ++ corner x y ++ size width height;
+  inner = escaped title;
+  parts = bar_parts (codes "<rect class=\"") class (codes "\"") (corner x y) (size width height) (codes "><title>") (escaped title) title_end;
+  harmless = escaped_inner title;
+})))
 element_closed (Line class x y x' y') = inr (inl (record {
   attributes = class ++ codes "\"" ++ ends x y x' y';
   parts = simp append_assoc refl;
 }))
-element_closed (Text class x y text) = inr (inr (record {
+element_closed (Text class x y text) = inr (inr (inr (record {
   attributes = class ++ codes "\"" ++ corner x y;
   inner = escaped text;
+  mark = [];
   parts = grind (arith, append_assoc);
   harmless = escaped_inner text;
-}))
+  known = inl refl;
+})))
+element_closed (Card x y text) = inr (inr (inr (card_closed (nat_le (length text) card_limit) x y text refl)))

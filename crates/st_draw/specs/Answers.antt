@@ -22,7 +22,7 @@ report_limit = 16000000
 -- how many of the entries are rows
 abbrev pub rows_in : List Entry → ℕ
 rows_in [] = 0
-rows_in (DoneEntry n a p r c ∷ es) = 1 + rows_in es
+rows_in (DoneEntry n a p r t c ∷ es) = 1 + rows_in es
 rows_in (Dropped a p end ∷ es) = rows_in es
 rows_in (Taken i t ∷ es) = rows_in es
 rows_in (Shown t ∷ es) = rows_in es

@@ -7,14 +7,14 @@ use Rattle.st_draw.specs.declared.timetable.Entry.TheVariants.{Done, Dropped, Ta
 
 -- the first tick of an entry
 abbrev pub first_tick : Entry → ℕ
-first_tick (Done n a p r c) = p
+first_tick (Done n a p r t c) = p
 first_tick (Dropped a p end) = p
 first_tick (Taken i t) = t
 first_tick (Shown t) = t
 
 -- the last tick of an entry
 abbrev pub last_tick : Entry → ℕ
-last_tick (Done n a p r c) = c
+last_tick (Done n a p r t c) = c
 last_tick (Dropped a p end) = end
 last_tick (Taken i t) = t
 last_tick (Shown t) = t

@@ -1,5 +1,5 @@
--- What stands in front of an entry's bar: three short texts.
-use Rattle.std.specs.Prelude.{ℕ, ◌*◌, nat_lt, if◌then◌else◌, List, [], ◌++◌, take, drop, codes, decimal}
+-- The texts of an entry: the three in front of its bars, and what the bars tell when they are pointed at.
+use Rattle.std.specs.Prelude.{ℕ, ◌*◌, nat_le, nat_lt, min, max, if◌then◌else◌, List, [], ◌∷◌, ◌++◌, length, take, drop, codes, decimal}
 use Rattle.st_draw.specs.Label.{label}
 use Rattle.st_draw.specs.declared.report.Place.{Place}
 use Rattle.st_draw.specs.declared.timetable.Entry.{Entry}
@@ -23,21 +23,47 @@ place_text place = decimal place.word ++ codes "." ++ decimal place.bit
 
 -- the number of an entry that is done, or what else it is
 unfoldable pub first_text : Entry → List ℕ
-first_text (Done n a p r c) = decimal n
+first_text (Done n a p r t c) = decimal n
 first_text (Dropped a p end) = codes "drop"
 first_text (Taken i t) = codes "INT"
 first_text (Shown t) = codes "SNAP"
 
 -- where an entry stands in storage; the number of an indicator; the tick of a snapshot
 unfoldable pub second_text : Entry → List ℕ
-second_text (Done n a p r c) = place_text a
+second_text (Done n a p r t c) = place_text a
 second_text (Dropped a p end) = place_text a
 second_text (Taken i t) = decimal i
 second_text (Shown t) = decimal t
 
 -- the text of an entry's card; the name of an indicator
 unfoldable pub third_text : List ℕ → Entry → List ℕ
-third_text report (Done n a p r c) = label report a
+third_text report (Done n a p r t c) = label report a
 third_text report (Dropped a p end) = label report a
 third_text report (Taken i t) = indicator i
 third_text report (Shown t) = []
+
+-- how many characters of a card are shown at most
+abbrev pub card_limit : ℕ
+card_limit = 40
+
+-- the third text of an entry where ASCII alone may stand: one that is too long ends in three dots
+unfoldable pub with_dots : List ℕ → List ℕ
+with_dots text = if nat_le (length text) card_limit then text else take 37 text ++ codes "..."
+
+-- how many characters are shown of the longest third text
+abbrev pub widest : List ℕ → List Entry → ℕ
+widest report [] = 0
+widest report (e ∷ es) = max (min card_limit (length (third_text report e))) (widest report es)
+
+-- words and a number
+unfoldable pub numbered : List ℕ → ℕ → List ℕ
+numbered words n = words ++ decimal n
+
+-- what the bars of an entry tell: the ticks of its phases
+unfoldable pub title : Entry → List ℕ
+title (Done n a p r t c) =
+    numbered (codes "row ") n ++ numbered (codes ": waits for operands from P ") p ++ numbered (codes " to R ") r
+    ++ numbered (codes ", for its turn to ") t ++ numbered (codes ", executes to C ") c
+title (Dropped a p end) = numbered (codes "prepared at P ") p ++ numbered (codes ", dropped at ") end
+title (Taken i t) = []
+title (Shown t) = []

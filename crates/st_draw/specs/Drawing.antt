@@ -1,23 +1,22 @@
 -- The picture of a timetable: its elements in order, and its bytes.
-use Rattle.std.specs.Prelude.{ℕ, ◌+◌, ◌-◌, ◌*◌, ◌^◌, ◌≤◌, ◌<◌, max, if◌then◌else◌, List, [], ◌∷◌, ◌++◌, length, codes, decimal}
+use Rattle.std.specs.Prelude.{ℕ, ◌+◌, ◌-◌, ◌*◌, ◌^◌, ◌≤◌, ◌<◌, max, List, [], ◌∷◌, ◌++◌, length, map, codes, decimal}
 use Rattle.st_draw.specs.Axis.{axis, at, marks}
-use Rattle.st_draw.specs.Caption.{first_text, second_text, third_text}
-use Rattle.st_draw.specs.Element.{Element, Box, Line, Text, elements_text}
-use Rattle.st_draw.specs.Label.{has_listing}
+use Rattle.st_draw.specs.Caption.{first_text, second_text, third_text, title, widest}
+use Rattle.st_draw.specs.Element.{Element, Box, Bar, Line, Text, Card, elements_text}
+use Rattle.st_draw.specs.Phases.{Phase, WaitsForOperands, WaitsForTurn, Executes, IsDropped, Span, spans, least_width}
 use Rattle.st_draw.specs.declared.axis.Room.{Room}
 use Rattle.st_draw.specs.declared.drawing.Sheet.{Sheet}
 use Rattle.st_draw.specs.declared.timetable.Entry.{Entry}
 use Rattle.st_draw.specs.declared.timetable.Entry.TheVariants.{Done, Dropped, Taken, Shown}
 
--- the room of the axis: cards stand before it where the report lists them
-abbrev pub room_of : List ℕ → Room
-room_of report =
-    if has_listing report then record { left = 284; width = 344 } else record { left = 124; width = 504 }
+-- the room of the axis, behind cards of so many characters
+abbrev pub room_behind : ℕ → Room
+room_behind characters = record { left = 124 + 7 * characters; width = 504 - 7 * characters }
 
 -- the sheet of entries: its axis, where that stands, and the lower end of the rows
 unfoldable pub sheet : List ℕ → List Entry → Sheet
 sheet report entries = record {
-  room = room_of report;
+  room = room_behind (widest report entries);
   axis = axis entries 1;
   bottom = 36 + 16 * length entries;
 }
@@ -48,23 +47,35 @@ upright class sheet y tick =
     Line class sheet.room.left (y + 8) (sheet.room.left + sheet.room.width) (y + 8)
     ∷ Line class (across sheet tick) 28 (across sheet tick) sheet.bottom ∷ []
 
--- a bar from one tick to another, at least so wide
-abbrev pub bar : List ℕ → Sheet → ℕ → ℕ → ℕ → ℕ → Element
-bar class sheet y least from to =
-    Box class (across sheet from) (y + 3) (max least (across sheet to - across sheet from)) 10
+-- the class of the bars of a phase
+abbrev pub class_of : Phase → List ℕ
+class_of WaitsForOperands = codes "w"
+class_of WaitsForTurn = codes "t"
+class_of Executes = codes "e"
+class_of IsDropped = codes "d"
 
--- the bars of an entry in the row at y: waiting for its operands and executing, or dropped; or a tick of its own
+-- the bar of a phase in the row at y
+abbrev pub bar : Sheet → ℕ → List ℕ → Span → Element
+bar sheet y text s =
+    Bar (class_of s.phase) (across sheet s.from) (y + 3)
+    (max (least_width s.phase) (across sheet s.to - across sheet s.from)) 10 text
+
+-- the lines of an entry that is a tick of its own
+abbrev pub uprights : Sheet → ℕ → Entry → List Element
+uprights sheet y (Done n a p r t c) = []
+uprights sheet y (Dropped a p end) = []
+uprights sheet y (Taken i t) = upright (codes "i") sheet y t
+uprights sheet y (Shown t) = upright (codes "s") sheet y t
+
+-- what stands in the row of an entry at y: a bar for each of its phases, or its lines
 unfoldable pub bars : Sheet → ℕ → Entry → List Element
-bars sheet y (Done n a p r c) = bar (codes "w") sheet y 0 p r ∷ bar (codes "e") sheet y 1 r c ∷ []
-bars sheet y (Dropped a p end) = bar (codes "d") sheet y 1 p end ∷ []
-bars sheet y (Taken i t) = upright (codes "i") sheet y t
-bars sheet y (Shown t) = upright (codes "s") sheet y t
+bars sheet y entry = map (λ s. bar sheet y (title entry) s) (spans entry) ++ uprights sheet y entry
 
 -- what stands in front of an entry's bars
 unfoldable pub caption : List ℕ → ℕ → Entry → List Element
 caption report y entry =
     Text (codes "n") 48 (y + 12) (first_text entry) ∷ Text (codes "n") 110 (y + 12) (second_text entry)
-    ∷ Text (codes "c") 120 (y + 12) (third_text report entry) ∷ []
+    ∷ Card 120 (y + 12) (third_text report entry) ∷ []
 
 -- the row of an entry at y
 unfoldable pub row : Sheet → List ℕ → ℕ → Entry → List Element
@@ -83,36 +94,39 @@ box_key class x y meaning = Box class x y 20 10 ∷ Text (codes "c") (x + 26) (y
 unfoldable pub line_key : List ℕ → ℕ → ℕ → List ℕ → List Element
 line_key class x y meaning = Line class x (y + 5) (x + 20) (y + 5) ∷ Text (codes "c") (x + 26) (y + 9) meaning ∷ []
 
--- what the boxes mean
-unfoldable pub box_keys : ℕ → List Element
-box_keys y =
-    box_key (codes "w") 12 y (codes "waiting") ++ box_key (codes "e") 112 y (codes "executing")
-    ++ box_key (codes "d") 226 y (codes "dropped")
+-- what the boxes of those that wait mean
+unfoldable pub waiting_keys : ℕ → List Element
+waiting_keys y =
+    box_key (codes "w") 12 y (codes "waiting for operands") ++ box_key (codes "t") 186 y (codes "waiting for its turn")
+
+-- what the boxes of those that wait no longer mean
+unfoldable pub ending_keys : ℕ → List Element
+ending_keys y = box_key (codes "e") 360 y (codes "executing") ++ box_key (codes "d") 466 y (codes "dropped")
 
 -- what the lines mean
 unfoldable pub line_keys : ℕ → List Element
-line_keys y = line_key (codes "i") 326 y (codes "interrupt") ++ line_key (codes "s") 440 y (codes "snapshot")
+line_keys y = line_key (codes "i") 12 y (codes "interrupt") ++ line_key (codes "s") 186 y (codes "snapshot")
 
 -- the legend
 unfoldable pub legend : ℕ → List Element
-legend y = box_keys y ++ line_keys y
+legend y = waiting_keys y ++ ending_keys y ++ line_keys (y + 16)
 
 -- how many rows are shown, and how many follow
 unfoldable pub remark : ℕ → ℕ → List ℕ
 remark shown later = decimal shown ++ codes " rows, " ++ decimal later ++ codes " follow"
 
--- what is said where there is no entry
-unfoldable pub notice : List Entry → List Element
-notice [] = Text (codes "c") 12 20 (codes "no rows") ∷ []
-notice (e ∷ es) = []
+-- what is said above the rows, beside the axis that begins at so many units: what its numbers are, or that there is no entry
+unfoldable pub notice : ℕ → List Entry → List Element
+notice left [] = Text (codes "c") 12 20 (codes "no rows") ∷ []
+notice left (e ∷ es) = Text (codes "m") (left - 48) 22 (codes "ticks") ∷ []
 
 -- what stands under the rows
 unfoldable pub foot : ℕ → List ℕ → List Element
-foot bottom text = legend (bottom + 8) ++ Text (codes "c") 12 (bottom + 38) text ∷ []
+foot bottom text = legend (bottom + 8) ++ Text (codes "c") 12 (bottom + 54) text ∷ []
 
--- what stands above the rows: the ground of the picture, and what is said where there is no entry
-unfoldable pub ground : ℕ → List Entry → List Element
-ground height entries = Box (codes "p") 0 0 640 height ∷ notice entries
+-- what stands under and above the rows: the ground of the picture, and what is said beside the axis
+unfoldable pub ground : Sheet → List Entry → List Element
+ground sheet entries = Box (codes "p") 0 0 640 (sheet.bottom + 60) ∷ notice sheet.room.left entries
 
 -- the axis and the rows
 unfoldable pub chart : Sheet → List ℕ → List Entry → List Element
@@ -121,7 +135,7 @@ chart sheet report entries = grid sheet (marks sheet.axis) ++ rows sheet report 
 -- the elements on a sheet
 abbrev pub drawing_on : Sheet → List ℕ → List Entry → ℕ → ℕ → List Element
 drawing_on sheet report entries shown later =
-    ground (sheet.bottom + 44) entries ++ chart sheet report entries ++ foot sheet.bottom (remark shown later)
+    ground sheet entries ++ chart sheet report entries ++ foot sheet.bottom (remark shown later)
 
 -- the elements of a picture, in order
 unfoldable pub drawing : List ℕ → List Entry → ℕ → ℕ → List Element
@@ -132,14 +146,14 @@ unfoldable pub styles : List ℕ
 styles =
     codes "\">\n<defs><pattern id=\"h\" width=\"5\" height=\"5\" patternUnits=\"userSpaceOnUse\" patternTransform=\"rotate(45)\">"
     ++ codes "<rect width=\"5\" height=\"5\" fill=\"#fff\"/><rect width=\"2\" height=\"5\" fill=\"#8a3b12\"/></pattern></defs>\n"
-    ++ codes "<style>text{font:11px monospace;fill:#111}.n{text-anchor:end}.m{text-anchor:middle;fill:#555}"
-    ++ codes ".p{fill:#fff}.g{stroke:#ddd}.w{fill:#bcd7f0;stroke:#335c85}.e{fill:#1d3f66;stroke:#1d3f66}"
+    ++ codes "<style>text{font:11px monospace;fill:#111;white-space:pre}.n{text-anchor:end}.m{text-anchor:middle;fill:#555}"
+    ++ codes ".p{fill:#fff}.g{stroke:#ddd}.w{fill:#b5d0eb}.t{fill:#6f9ccb}.e{fill:#17365a}"
     ++ codes ".d{fill:url(#h);stroke:#8a3b12}"
-    ++ codes ".i{stroke:#b3261e;stroke-width:2}.s{stroke:#2e7d32;stroke-dasharray:2 3}</style>\n"
+    ++ codes ".i{stroke:#b3261e}.s{stroke:#2e7d32;stroke-dasharray:2 3}</style>\n"
 
 -- the words before the height of a picture
 unfoldable pub preamble : List ℕ
-preamble = codes "<svg xmlns=\"http://www.w3.org/2000/svg\" viewBox=\"0 0 640 "
+preamble = codes "<svg xmlns=\"http://www.w3.org/2000/svg\" xml:space=\"preserve\" viewBox=\"0 0 640 "
 
 -- the front of a picture of a height
 unfoldable pub opening : ℕ → List ℕ
@@ -152,4 +166,4 @@ closing = codes "</svg>\n"
 -- the bytes of a picture
 unfoldable pub svg : List ℕ → List Entry → ℕ → ℕ → List ℕ
 svg report entries shown later =
-    opening ((sheet report entries).bottom + 44) ++ elements_text (drawing report entries shown later) ++ closing
+    opening ((sheet report entries).bottom + 60) ++ elements_text (drawing report entries shown later) ++ closing

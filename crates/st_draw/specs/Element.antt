@@ -1,5 +1,6 @@
 -- The elements of a picture, and the bytes of each.
-use Rattle.std.specs.Prelude.{ℕ, List, [], ◌∷◌, ◌++◌, codes, decimal}
+use Rattle.std.specs.Prelude.{ℕ, nat_le, if◌then◌else◌, List, [], ◌∷◌, ◌++◌, length, take, codes, decimal}
+use Rattle.st_draw.specs.Caption.{card_limit}
 use Rattle.st_draw.specs.Escape.{escaped}
 
 -- a number as the value of an attribute
@@ -27,17 +28,42 @@ ends x y x' y' =
 unfoldable pub content : List ℕ → List ℕ
 content text = codes ">" ++ escaped text ++ codes "</text>\n"
 
--- an element of a picture: its class, where it stands, and how far it reaches or what it says
+-- the end of a title and of its box
+unfoldable pub title_end : List ℕ
+title_end = codes "</title></rect>\n"
+
+-- what a box says when it is pointed at, and its end
+unfoldable pub titled : List ℕ → List ℕ
+titled text = codes "><title>" ++ escaped text ++ title_end
+
+-- the mark at the end of a card that is too long: an ellipsis in UTF-8
+abbrev pub ellipsis : List ℕ
+ellipsis = 226 ∷ 128 ∷ 166 ∷ []
+
+-- what is shown of a card: one that is too long ends in the ellipsis
+unfoldable pub shown_card : List ℕ → List ℕ
+shown_card text = if nat_le (length text) card_limit then escaped text else escaped (take 39 text) ++ ellipsis
+
+-- a card, and its end
+unfoldable pub card_content : List ℕ → List ℕ
+card_content text = codes ">" ++ shown_card text ++ codes "</text>\n"
+
+-- an element of a picture: its class, where it stands, and how far it reaches or what it says. A bar is a box with a title
 pub data Element : Type 0 where
   Box : List ℕ → ℕ → ℕ → ℕ → ℕ → Element
+  Bar : List ℕ → ℕ → ℕ → ℕ → ℕ → List ℕ → Element
   Line : List ℕ → ℕ → ℕ → ℕ → ℕ → Element
   Text : List ℕ → ℕ → ℕ → List ℕ → Element
+  Card : ℕ → ℕ → List ℕ → Element
 
 -- the bytes of an element
 unfoldable pub element_text : Element → List ℕ
 element_text (Box class x y width height) = front (codes "<rect") class ++ corner x y ++ size width height ++ codes "/>\n"
+element_text (Bar class x y width height title) =
+    front (codes "<rect") class ++ corner x y ++ size width height ++ titled title
 element_text (Line class x y x' y') = front (codes "<line") class ++ ends x y x' y' ++ codes "/>\n"
 element_text (Text class x y text) = front (codes "<text") class ++ corner x y ++ content text
+element_text (Card x y text) = front (codes "<text") (codes "c") ++ corner x y ++ card_content text
 
 -- the bytes of elements, one after another
 unfoldable pub elements_text : List Element → List ℕ

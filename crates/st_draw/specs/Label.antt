@@ -1,7 +1,7 @@
 -- The text of a card, from the listing at the front of a report.
 use Rattle.std.specs.Prelude.{ℕ, ◌==◌, ◌&&◌, not, Bool, false, if◌then◌else◌, List, [], ◌∷◌, take, drop, Option, None, Some}
 use Rattle.std.specs.Option.{is_some}
-use Rattle.st_text.specs.Blanks.{without_front_blanks}
+use Rattle.st_text.specs.Blanks.{without_front_blanks, without_end_blanks}
 use Rattle.st_text.specs.Pieces.{parted}
 use Rattle.st_draw.specs.Report.{number, place}
 use Rattle.st_draw.specs.declared.report.Place.{Place}
@@ -24,9 +24,9 @@ is_filled (c ∷ cs) = not (c == 32)
 unfoldable pub lays : List ℕ → Place → Bool
 lays line here = is_place (place (without_front_blanks (take 9 (drop 6 line)))) here && is_filled (drop 16 line)
 
--- the front of the card's text
+-- the card's text, without the blanks around it
 unfoldable pub card_text : List ℕ → List ℕ
-card_text line = take 24 (without_front_blanks (drop 33 line))
+card_text line = without_end_blanks (without_front_blanks (drop 33 line))
 
 -- the text of the first card of a listing that lays bits at a place
 abbrev pub card_at : Place → List (List ℕ) → List ℕ
@@ -37,7 +37,3 @@ card_at here (line ∷ lines) =
 -- the text of the card that lays what stands at a place; nothing, where the report has no listing of it
 unfoldable pub label : List ℕ → Place → List ℕ
 label report here = card_at here (parted 10 report)
-
--- whether a report has a listing
-unfoldable pub has_listing : List ℕ → Bool
-has_listing report = is_listed (take 5 report)

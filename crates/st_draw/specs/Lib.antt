@@ -5,8 +5,10 @@ pub mod Drawing
 pub mod Element
 pub mod Escape
 pub mod Label
+pub mod Laws
 pub mod Log
 pub mod Moments
+pub mod Phases
 pub mod Report
 pub mod Terminal
 pub mod Timetable

@@ -1,11 +1,11 @@
 -- A log of what happens to the entries of a timetable, for a pipeline viewer.
 use Rattle.std.specs.Prelude.{ℕ, ◌-◌, nat_eq, if◌then◌else◌, List, [], ◌∷◌, ◌++◌, codes, decimal}
-use Rattle.st_draw.specs.Caption.{first_text, second_text, third_text}
+use Rattle.st_draw.specs.Caption.{first_text, second_text, third_text, with_dots}
 use Rattle.st_draw.specs.Moments.{happenings}
 use Rattle.st_draw.specs.Terminal.{plain}
 use Rattle.st_draw.specs.declared.moments.Moment.{Moment}
 use Rattle.st_draw.specs.declared.moments.Step.{Step}
-use Rattle.st_draw.specs.declared.moments.Step.TheVariants.{Begin, Ready, End}
+use Rattle.st_draw.specs.declared.moments.Step.TheVariants.{Begin, Ready, Turn, End}
 use Rattle.st_draw.specs.declared.timetable.Entry.{Entry}
 use Rattle.st_draw.specs.declared.timetable.Entry.TheVariants.{Done, Dropped, Taken, Shown}
 
@@ -37,34 +37,34 @@ stage_line sign k stage = sign ++ codes "\t" ++ decimal k ++ codes "\t0\t" ++ st
 unfoldable pub end_line : ℕ → ℕ → List ℕ → List ℕ
 end_line k n how = codes "R\t" ++ decimal k ++ codes "\t" ++ decimal n ++ codes "\t" ++ how ++ codes "\n"
 
--- the label of an entry: its three texts
+-- the label of an entry: its three texts, the last one with dots where it is too long
 unfoldable pub label : List ℕ → Entry → List ℕ
-label report e = first_text e ++ codes " " ++ second_text e ++ codes " " ++ third_text report e
+label report e = first_text e ++ codes " " ++ second_text e ++ codes " " ++ with_dots (third_text report e)
 
--- the stage in which an entry begins: waiting, dropped, an interrupt, a snapshot
+-- the stage in which an entry begins: waiting for its operands, dropped, an interrupt, a snapshot
 abbrev pub first_stage : Entry → List ℕ
-first_stage (Done n a p r c) = codes "W"
+first_stage (Done n a p r t c) = codes "W"
 first_stage (Dropped a p end) = codes "D"
 first_stage (Taken i t) = codes "I"
 first_stage (Shown t) = codes "S"
 
 -- the stage in which an entry ends: executing, or that in which it began
 abbrev pub last_stage : Entry → List ℕ
-last_stage (Done n a p r c) = codes "X"
+last_stage (Done n a p r t c) = codes "X"
 last_stage (Dropped a p end) = codes "D"
 last_stage (Taken i t) = codes "I"
 last_stage (Shown t) = codes "S"
 
 -- the number of an entry's row; 0 where it has none
 abbrev pub row_number : Entry → ℕ
-row_number (Done n a p r c) = n
+row_number (Done n a p r t c) = n
 row_number (Dropped a p end) = 0
 row_number (Taken i t) = 0
 row_number (Shown t) = 0
 
 -- whether an entry was retired, 0, or flushed, 1
 abbrev pub manner : Entry → List ℕ
-manner (Done n a p r c) = codes "0"
+manner (Done n a p r t c) = codes "0"
 manner (Dropped a p end) = codes "1"
 manner (Taken i t) = codes "0"
 manner (Shown t) = codes "0"
@@ -73,9 +73,9 @@ manner (Shown t) = codes "0"
 unfoldable pub begin_lines : List ℕ → ℕ → Entry → List ℕ
 begin_lines report k e = entry_line k ++ label_line k (label report e) ++ stage_line (codes "S") k (first_stage e)
 
--- the lines of an entry whose operands are there
-unfoldable pub ready_lines : ℕ → List ℕ
-ready_lines k = stage_line (codes "E") k (codes "W") ++ stage_line (codes "S") k (codes "X")
+-- the lines of an entry that goes from one stage to another
+unfoldable pub change_lines : ℕ → List ℕ → List ℕ → List ℕ
+change_lines k from to = stage_line (codes "E") k from ++ stage_line (codes "S") k to
 
 -- the lines of an entry that ends
 unfoldable pub end_lines : ℕ → Entry → List ℕ
@@ -84,7 +84,8 @@ end_lines k e = stage_line (codes "E") k (last_stage e) ++ end_line k (row_numbe
 -- the lines of what happens to an entry
 abbrev pub step_lines : List ℕ → ℕ → Step → Entry → List ℕ
 step_lines report k Begin e = begin_lines report k e
-step_lines report k Ready e = ready_lines k
+step_lines report k Ready e = change_lines k (codes "W") (codes "T")
+step_lines report k Turn e = change_lines k (codes "T") (codes "X")
 step_lines report k End e = end_lines k e
 
 -- the lines of a moment that comes after a tick, or at it

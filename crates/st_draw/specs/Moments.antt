@@ -4,20 +4,27 @@ use Rattle.st_io.specs.Count.{counted}
 use Rattle.st_draw.specs.Axis.{first_tick}
 use Rattle.st_draw.specs.declared.moments.Moment.{Moment}
 use Rattle.st_draw.specs.declared.moments.Step.{Step}
-use Rattle.st_draw.specs.declared.moments.Step.TheVariants.{Begin, Ready, End}
+use Rattle.st_draw.specs.declared.moments.Step.TheVariants.{Begin, Ready, Turn, End}
 use Rattle.st_draw.specs.declared.timetable.Entry.{Entry}
 use Rattle.st_draw.specs.declared.timetable.Entry.TheVariants.{Done, Dropped, Taken, Shown}
 
 -- the tick at which an entry's operands are there: not before it begins
 abbrev pub ready_tick : Entry → ℕ
-ready_tick (Done n a p r c) = max p r
+ready_tick (Done n a p r t c) = max p r
 ready_tick (Dropped a p end) = p
 ready_tick (Taken i t) = t
 ready_tick (Shown t) = t
 
+-- the tick at which it is an entry's turn: not before its operands are there
+abbrev pub turn_tick : Entry → ℕ
+turn_tick (Done n a p r t c) = max (max p r) t
+turn_tick (Dropped a p end) = p
+turn_tick (Taken i t) = t
+turn_tick (Shown t) = t
+
 -- the tick at which an entry ends: not before it begins; an interrupt and a snapshot fill one tick
 abbrev pub end_tick : Entry → ℕ
-end_tick (Done n a p r c) = max (max p r) c
+end_tick (Done n a p r t c) = max (max (max p r) t) c
 end_tick (Dropped a p end) = max p end
 end_tick (Taken i t) = counted t 1
 end_tick (Shown t) = counted t 1
@@ -26,22 +33,23 @@ end_tick (Shown t) = counted t 1
 abbrev pub tick_of : Step → Entry → ℕ
 tick_of Begin e = first_tick e
 tick_of Ready e = ready_tick e
+tick_of Turn e = turn_tick e
 tick_of End e = end_tick e
 
 -- what happens to the entry with a number
 abbrev pub moment : ℕ → Step → Entry → Moment
 moment k step e = record { tick = tick_of step e; number = k; step = step; entry = e }
 
--- that the operands of an entry are there: nothing else than an instruction that is done waits for any
-abbrev pub ready_of : ℕ → Entry → List Moment
-ready_of k (Done n a p r c) = moment k Ready (Done n a p r c) ∷ []
-ready_of k (Dropped a p end) = []
-ready_of k (Taken i t) = []
-ready_of k (Shown t) = []
+-- that the operands of an entry are there, and that it is its turn: nothing else than an instruction that is done waits for these
+abbrev pub waits_of : ℕ → Entry → List Moment
+waits_of k (Done n a p r t c) = moment k Ready (Done n a p r t c) ∷ moment k Turn (Done n a p r t c) ∷ []
+waits_of k (Dropped a p end) = []
+waits_of k (Taken i t) = []
+waits_of k (Shown t) = []
 
 -- all that happens to the entry with a number
 unfoldable pub moments_of : ℕ → Entry → List Moment
-moments_of k e = moment k Begin e ∷ ready_of k e ++ moment k End e ∷ []
+moments_of k e = moment k Begin e ∷ waits_of k e ++ moment k End e ∷ []
 
 -- that entries begin
 abbrev pub begins : List Entry → List Moment

@@ -1,5 +1,5 @@
 -- What the lines of a report say of its timetable, read loosely: a line is words between blanks.
-use Rattle.std.specs.Prelude.{ℕ, ◌-◌, ◌^◌, nat_eq, ◌&&◌, Bool, if◌then◌else◌, List, [], get_or, codes, Option, None, Some}
+use Rattle.std.specs.Prelude.{ℕ, ◌-◌, ◌^◌, nat_eq, ◌&&◌, Bool, if◌then◌else◌, List, [], get_or, codes, Option, None}
 use Rattle.std.specs.Option.{option_map, option_and_then}
 use Rattle.std.specs.Cmp.Lexicographic.{pointwise}
 use Rattle.st_text.specs.Number.{number_up_to}

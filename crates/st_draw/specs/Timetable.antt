@@ -2,6 +2,7 @@
 use Rattle.std.specs.Prelude.{ℕ, nat_le, nat_lt, ◌&&◌, Bool, if◌then◌else◌, List, [], ◌∷◌, ◌++◌, reverse, Option, None, Some}
 use Rattle.st_text.specs.Pieces.{parted}
 use Rattle.st_io.specs.Count.{counted}
+use Rattle.st_draw.specs.Phases.{turn_of}
 use Rattle.st_draw.specs.Report.{item}
 use Rattle.st_draw.specs.declared.report.Item.{Item}
 use Rattle.st_draw.specs.declared.report.Item.TheVariants.{Row, Drop, Interrupt, Snapshot}
@@ -46,7 +47,7 @@ counted_later part n later = if nat_lt part.to n then counted later 1 else later
 -- what one more thing tells
 abbrev pub after_item : Part → Timetable → Item → Timetable
 after_item part t (Row n a p r c) =
-    record (joined part n (Done n a p r c) t) { row = n; end = c; later = counted_later part n t.later }
+    record (joined part n (Done n a p r (turn_of t.end r c) c) t) { row = n; end = c; later = counted_later part n t.later }
 after_item part t (Drop a p) = record t { dropped = kept part t.row (Dropped a p t.end) t.dropped }
 after_item part t (Interrupt i) = joined part t.row (Taken i t.end) t
 after_item part t (Snapshot tick) = joined part t.row (Shown tick) t

@@ -29,7 +29,7 @@ part_between from to =
 unfoldable pub part_named : List ℕ → List ℕ → Option Part
 part_named from to = option_and_then (λ f. option_and_then (λ t. part_between f t) (number to)) (number from)
 
--- what a word and two more ask for
+-- what a word and two numbers ask for
 abbrev pub chosen : List ℕ → List ℕ → List ℕ → Option Choice
 chosen word from to =
     option_and_then (λ k. option_map (λ p. record { kind = k; part = p }) (part_named from to)) (kind_named word)
@@ -38,6 +38,6 @@ chosen word from to =
 unfoldable pub choice_of : List (List ℕ) → Option Choice
 choice_of [] = Some (record { kind = Svg; part = first_part })
 choice_of (word ∷ []) = option_map (λ k. record { kind = k; part = first_part }) (kind_named word)
-choice_of (word ∷ from ∷ []) = None
+choice_of (from ∷ to ∷ []) = option_map (λ p. record { kind = Svg; part = p }) (part_named from to)
 choice_of (word ∷ from ∷ to ∷ []) = chosen word from to
 choice_of (word ∷ from ∷ to ∷ more ∷ words) = None

@@ -1,5 +1,5 @@
-//! What stands in front of an entry's bar: three short texts.
-ghost use Rattle.std.specs.Prelude.{◌≡◌, IfOk, decimal};
+//! The texts of an entry: the three in front of its bars, and what the bars tell when they are pointed at.
+ghost use Rattle.std.specs.Prelude.{◌≡◌, ◌≤◌, ◌++◌, IfOk, decimal};
 ghost use Rattle.st_draw.specs.Caption as spec;
 
 use crate::element::push_decimal;
@@ -8,6 +8,9 @@ use crate::report::Place;
 use crate::timetable::Entry;
 use st_text::{behind, front};
 use std::alloc::{AllocError, Global};
+
+/// How many characters of a card are shown at most.
+pub const CARD_LIMIT: usize = 40;
 
 // The names of the indicators 0 to 63, each in four places.
 const INDICATOR_NAMES: &[u8; 256] =
@@ -91,4 +94,78 @@ pub fn third_text<'a>(report: &'a [u8], entry: Entry) -> &'a [u8]
         Entry::Taken { indicator: i, .. } => indicator(i),
         Entry::Shown { .. } => &[],
     }
+}
+
+/// A third text where ASCII alone may stand: one that is too long ends in three dots.
+#[tactic(auto, unfolding(crate::specs::Caption::with_dots))]
+pub fn with_dots(alloc: Global, text: &[u8]) -> Result<Vec<u8>, AllocError>
+    ensures { IfOk result (λ out. out.items ≡ spec.with_dots text.now) }
+{
+    if text.len() <= CARD_LIMIT {
+        return Vec::from_slice(alloc, text);
+    }
+    let mut out = Vec::from_slice(alloc, front(text, 37))?;
+    out.extend_from_slice(b"...")?;
+    Ok(out)
+}
+
+/// How many characters are shown of the longest third text.
+pub fn widest(report: &[u8], entries: &[Entry]) -> usize
+    ensures value { result ≡ spec.widest report.now entries.now }
+    ensures inside { result ≤ 40 }
+{
+    let mut most = 0;
+    let mut rest = entries;
+    'entries: while let [entry, after @ ..] = rest {
+        most = most.max(third_text(report, *entry).len().min(CARD_LIMIT));
+        rest = after;
+    }
+    most
+}
+
+// Appends words and a number.
+#[tactic(auto, unfolding(crate::specs::Caption::numbered))]
+fn push_numbered(out: &mut Vec<u8>, words: &[u8], n: u64) -> Result<(), AllocError>
+    ensures { IfOk result (λ _. out.new.items ≡ out.old.items ++ spec.numbered words.now n) }
+{
+    out.extend_from_slice(words)?;
+    push_decimal(out, u128::from(n))
+}
+
+// Appends what the bars of an entry tell.
+#[tactic(auto, unfolding(crate::specs::Caption::title))]
+fn push_title(out: &mut Vec<u8>, entry: Entry) -> Result<(), AllocError>
+    ensures { IfOk result (λ _. out.new.items ≡ out.old.items ++ spec.title entry) }
+{
+    match entry {
+        Entry::Done {
+            number,
+            prepared,
+            ready,
+            turn,
+            complete,
+            ..
+        } => {
+            push_numbered(out, b"row ", number)?;
+            push_numbered(out, b": waits for operands from P ", prepared)?;
+            push_numbered(out, b" to R ", ready)?;
+            push_numbered(out, b", for its turn to ", turn)?;
+            push_numbered(out, b", executes to C ", complete)
+        }
+        Entry::Dropped { prepared, end, .. } => {
+            push_numbered(out, b"prepared at P ", prepared)?;
+            push_numbered(out, b", dropped at ", end)
+        }
+        Entry::Taken { .. } => Ok(()),
+        Entry::Shown { .. } => Ok(()),
+    }
+}
+
+/// What the bars of an entry tell: the ticks of its phases.
+pub fn title(alloc: Global, entry: Entry) -> Result<Vec<u8>, AllocError>
+    ensures { IfOk result (λ text. text.items ≡ spec.title entry) }
+{
+    let mut out = Vec::new(alloc);
+    push_title(&mut out, entry)?;
+    Ok(out)
 }

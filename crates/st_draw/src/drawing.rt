@@ -1,13 +1,14 @@
 //! The picture of a timetable.
-ghost use Rattle.std.specs.Prelude.{◌≡◌, ◌+◌, ◌^◌, ◌<◌, ◌++◌, IfOk, codes, decimal, max, ◌-◌};
+ghost use Rattle.std.specs.Prelude.{◌≡◌, ◌+◌, ◌^◌, ◌≤◌, ◌<◌, ◌++◌, IfOk, codes, decimal, max, ◌-◌};
 ghost use Rattle.st_draw.specs.Element.{elements_text, element_text, Line, Text};
 ghost use Rattle.st_draw.specs.Drawing as spec;
 ghost use Rattle.st_draw.specs.Drawing.{IsSheet};
 
 use crate::axis::{Axis, Room, at, axis_of, marks_of};
-use crate::caption::{first_text, second_text, third_text};
-use crate::element::{Area, Spot, push_box, push_decimal, push_line, push_text};
-use crate::label::has_listing;
+use crate::caption::{first_text, second_text, third_text, title, widest};
+use crate::element::{
+    Area, Spot, push_bar, push_box, push_card, push_decimal, push_line, push_text,
+};
 use crate::timetable::Entry;
 use std::alloc::{AllocError, Global};
 
@@ -23,13 +24,13 @@ pub struct Sheet {
 }
 
 // What the classes of elements look like, and the hatch of what is dropped.
-const STYLES: &[u8; 502] =
+const STYLES: &[u8; 489] =
     b"\">\n<defs><pattern id=\"h\" width=\"5\" height=\"5\" patternUnits=\"userSpaceOnUse\" patternTransform=\"rotate(45)\">\
     <rect width=\"5\" height=\"5\" fill=\"#fff\"/><rect width=\"2\" height=\"5\" fill=\"#8a3b12\"/></pattern></defs>\n\
-    <style>text{font:11px monospace;fill:#111}.n{text-anchor:end}.m{text-anchor:middle;fill:#555}\
-    .p{fill:#fff}.g{stroke:#ddd}.w{fill:#bcd7f0;stroke:#335c85}.e{fill:#1d3f66;stroke:#1d3f66}\
+    <style>text{font:11px monospace;fill:#111;white-space:pre}.n{text-anchor:end}.m{text-anchor:middle;fill:#555}\
+    .p{fill:#fff}.g{stroke:#ddd}.w{fill:#b5d0eb}.t{fill:#6f9ccb}.e{fill:#17365a}\
     .d{fill:url(#h);stroke:#8a3b12}\
-    .i{stroke:#b3261e;stroke-width:2}.s{stroke:#2e7d32;stroke-dasharray:2 3}</style>\n";
+    .i{stroke:#b3261e}.s{stroke:#2e7d32;stroke-dasharray:2 3}</style>\n";
 
 // An entry, and the upper edge of its row.
 #[derive(Clone, Copy)]
@@ -39,7 +40,8 @@ struct Row {
 }
 
 // The words before the height of a picture.
-const PREAMBLE: &[u8; 57] = b"<svg xmlns=\"http://www.w3.org/2000/svg\" viewBox=\"0 0 640 ";
+const PREAMBLE: &[u8; 78] =
+    b"<svg xmlns=\"http://www.w3.org/2000/svg\" xml:space=\"preserve\" viewBox=\"0 0 640 ";
 
 // The words before the height of a picture, as a text.
 #[tactic(auto, unfolding(crate::specs::Drawing::preamble))]
@@ -57,20 +59,14 @@ fn styles() -> &'static [u8]
     STYLES
 }
 
-// The room of the axis: cards stand before it where the report lists them.
-fn room_of(report: &[u8]) -> Room
-    ensures { result ≡ spec.room_of report.now }
+// The room of the axis, behind cards of so many characters.
+fn room_behind(characters: u16) -> Room
+    requires { characters ≤ 40 }
+    ensures { result ≡ spec.room_behind characters }
 {
-    if has_listing(report) {
-        Room {
-            left: 284,
-            width: 344,
-        }
-    } else {
-        Room {
-            left: 124,
-            width: 504,
-        }
+    Room {
+        left: 124 + 7 * characters,
+        width: 504 - 7 * characters,
     }
 }
 
@@ -81,7 +77,7 @@ fn sheet_of(report: &[u8], entries: &[Entry]) -> Sheet
     ensures good { IsSheet result }
 {
     Sheet {
-        room: room_of(report),
+        room: room_behind(widest(report, entries) as u16),
         axis: axis_of(entries, 1),
         bottom: 36 + 16 * entries.len() as u128,
     }
@@ -196,31 +192,34 @@ fn bar(y: u128, least: u128, from: u128, to: u128) -> Area
     }
 }
 
-// Appends the bars of an entry in the row at y.
+// Appends what stands in the row of an entry: a bar for each of its phases, or its lines.
 #[tactic(auto, unfolding(crate::specs::Drawing::bars, crate::specs::Element::elements_text))]
-fn push_bars(out: &mut Vec<u8>, sheet: &Sheet, y: u128, entry: Entry) -> Result<(), AllocError>
+fn push_bars(alloc: Global, out: &mut Vec<u8>, sheet: &Sheet, row: Row) -> Result<(), AllocError>
     requires sheet { IsSheet sheet.now }
-    requires low { y < 2 ^ 70 }
+    requires low { row.y < 2 ^ 70 }
     ensures { IfOk result (λ _. out.new.items ≡ out.old.items
-        ++ elements_text (spec.bars sheet.now y entry)) }
+        ++ elements_text (spec.bars sheet.now row.y row.entry)) }
 {
+    let Row { y, entry } = row;
+    let title = title(alloc, entry)?;
+    let title = title.as_slice();
     match entry {
         Entry::Done {
             prepared,
             ready,
+            turn,
             complete,
             ..
         } => {
-            let middle = across(sheet, ready);
-            push_box(out, b"w", bar(y, 0, across(sheet, prepared), middle))?;
-            push_box(out, b"e", bar(y, 1, middle, across(sheet, complete)))
+            let there = across(sheet, ready);
+            let start = across(sheet, turn);
+            push_bar(out, b"w", bar(y, 0, across(sheet, prepared), there), title)?;
+            push_bar(out, b"t", bar(y, 0, there, start), title)?;
+            push_bar(out, b"e", bar(y, 1, start, across(sheet, complete)), title)
         }
         Entry::Dropped { prepared, end, .. } => {
-            push_box(
-                out,
-                b"d",
-                bar(y, 1, across(sheet, prepared), across(sheet, end)),
-            )
+            let bar = bar(y, 1, across(sheet, prepared), across(sheet, end));
+            push_bar(out, b"d", bar, title)
         }
         Entry::Taken { tick, .. } => push_upright(out, b"i", sheet, y, tick),
         Entry::Shown { tick } => push_upright(out, b"s", sheet, y, tick),
@@ -245,7 +244,7 @@ fn push_caption(
     let y = y + 12;
     push_text(out, b"n", Spot { x: 48, y }, first.as_slice())?;
     push_text(out, b"n", Spot { x: 110, y }, second.as_slice())?;
-    push_text(out, b"c", Spot { x: 120, y }, third_text(report, entry))
+    push_card(out, Spot { x: 120, y }, third_text(report, entry))
 }
 
 // Appends the row of an entry at y.
@@ -263,7 +262,7 @@ fn push_row(
         ++ elements_text (spec.row sheet.now report.now row.y row.entry)) }
 {
     push_caption(alloc, out, report, row.y, row.entry)?;
-    push_bars(out, sheet, row.y, row.entry)
+    push_bars(alloc, out, sheet, row)
 }
 
 // Appends the rows of entries, one below the other.
@@ -347,15 +346,26 @@ fn push_line_key(
     push_meaning(out, x, y, meaning)
 }
 
-// Appends what the boxes mean.
-#[tactic(auto, unfolding(crate::specs::Drawing::box_keys), using(crate::proofs::Elements::elements_joined))]
-fn push_box_keys(out: &mut Vec<u8>, y: u128) -> Result<(), AllocError>
+// Appends what the boxes of those that wait mean.
+#[tactic(auto, unfolding(crate::specs::Drawing::waiting_keys), using(crate::proofs::Elements::elements_joined))]
+fn push_waiting_keys(out: &mut Vec<u8>, y: u128) -> Result<(), AllocError>
     requires { y < 2 ^ 71 }
-    ensures { IfOk result (λ _. out.new.items ≡ out.old.items ++ elements_text (spec.box_keys y)) }
+    ensures { IfOk result (λ _. out.new.items ≡ out.old.items
+        ++ elements_text (spec.waiting_keys y)) }
 {
-    push_box_key(out, b"w", 12, y, b"waiting")?;
-    push_box_key(out, b"e", 112, y, b"executing")?;
-    push_box_key(out, b"d", 226, y, b"dropped")
+    push_box_key(out, b"w", 12, y, b"waiting for operands")?;
+    push_box_key(out, b"t", 186, y, b"waiting for its turn")
+}
+
+// Appends what the boxes of those that wait no longer mean.
+#[tactic(auto, unfolding(crate::specs::Drawing::ending_keys), using(crate::proofs::Elements::elements_joined))]
+fn push_ending_keys(out: &mut Vec<u8>, y: u128) -> Result<(), AllocError>
+    requires { y < 2 ^ 71 }
+    ensures { IfOk result (λ _. out.new.items ≡ out.old.items
+        ++ elements_text (spec.ending_keys y)) }
+{
+    push_box_key(out, b"e", 360, y, b"executing")?;
+    push_box_key(out, b"d", 466, y, b"dropped")
 }
 
 // Appends what the lines mean.
@@ -365,18 +375,19 @@ fn push_line_keys(out: &mut Vec<u8>, y: u128) -> Result<(), AllocError>
     ensures { IfOk result (λ _. out.new.items ≡ out.old.items
         ++ elements_text (spec.line_keys y)) }
 {
-    push_line_key(out, b"i", 326, y, b"interrupt")?;
-    push_line_key(out, b"s", 440, y, b"snapshot")
+    push_line_key(out, b"i", 12, y, b"interrupt")?;
+    push_line_key(out, b"s", 186, y, b"snapshot")
 }
 
 // Appends the legend.
 #[tactic(auto, unfolding(crate::specs::Drawing::legend), using(crate::proofs::Elements::elements_joined))]
 fn push_legend(out: &mut Vec<u8>, y: u128) -> Result<(), AllocError>
-    requires { y < 2 ^ 71 }
+    requires { y < 2 ^ 70 + 8 }
     ensures { IfOk result (λ _. out.new.items ≡ out.old.items ++ elements_text (spec.legend y)) }
 {
-    push_box_keys(out, y)?;
-    push_line_keys(out, y)
+    push_waiting_keys(out, y)?;
+    push_ending_keys(out, y)?;
+    push_line_keys(out, y + 16)
 }
 
 /// How many rows are shown, and how many follow.
@@ -392,23 +403,25 @@ pub fn remark(alloc: Global, shown: u64, later: u64) -> Result<Vec<u8>, AllocErr
     Ok(text)
 }
 
-// Appends the ground of the picture, and what is said where there is no entry.
+// Appends the ground of the picture, and what is said beside the axis: what its numbers are, or that there is no entry.
 #[tactic(auto, unfolding(crate::specs::Drawing::ground, crate::specs::Drawing::notice, crate::specs::Element::elements_text))]
-fn push_ground(out: &mut Vec<u8>, height: u128, entries: &[Entry]) -> Result<(), AllocError>
+fn push_ground(out: &mut Vec<u8>, sheet: &Sheet, entries: &[Entry]) -> Result<(), AllocError>
+    requires { IsSheet sheet.now }
     ensures { IfOk result (λ _. out.new.items ≡ out.old.items
-        ++ elements_text (spec.ground height entries.now)) }
+        ++ elements_text (spec.ground sheet.now entries.now)) }
 {
     let area = Area {
         x: 0,
         y: 0,
         across: 640,
-        down: height,
+        down: sheet.bottom + 60,
     };
     push_box(out, b"p", area)?;
     if entries.is_empty() {
-        push_text(out, b"c", Spot { x: 12, y: 20 }, b"no rows")?;
+        return push_text(out, b"c", Spot { x: 12, y: 20 }, b"no rows");
     }
-    Ok(())
+    let x = u128::from(sheet.room.left.saturating_sub(48));
+    push_text(out, b"m", Spot { x, y: 22 }, b"ticks")
 }
 
 // Appends the axis and the rows.
@@ -439,7 +452,7 @@ fn push_foot(out: &mut Vec<u8>, bottom: u128, remark: &[u8]) -> Result<(), Alloc
     push_legend(out, bottom + 8)?;
     let spot = Spot {
         x: 12,
-        y: bottom + 38,
+        y: bottom + 54,
     };
     push_text(out, b"c", spot, remark)
 }
@@ -468,8 +481,8 @@ pub fn draw_svg(
     let sheet = sheet_of(report, entries);
     let remark = remark(alloc, shown, later)?;
     let mut out = Vec::new(alloc);
-    push_opening(&mut out, sheet.bottom + 44)?;
-    push_ground(&mut out, sheet.bottom + 44, entries)?;
+    push_opening(&mut out, sheet.bottom + 60)?;
+    push_ground(&mut out, &sheet, entries)?;
     push_chart(alloc, &mut out, &sheet, report, entries)?;
     push_foot(&mut out, sheet.bottom, remark.as_slice())?;
     out.extend_from_slice(b"</svg>\n")?;

@@ -1,7 +1,8 @@
 //! The elements of a picture.
 ghost use Rattle.std.specs.Prelude.{◌≡◌, ◌++◌, IfOk, decimal};
-ghost use Rattle.st_draw.specs.Element.{attribute, front, corner, size, ends, content, element_text, Box, Line, Text};
+ghost use Rattle.st_draw.specs.Element.{attribute, front, corner, size, ends, content, title_end, titled, shown_card, card_content, element_text, Box, Bar, Line, Text, Card};
 
+use crate::caption::CARD_LIMIT;
 use crate::escape::push_escaped;
 use itoa::Buffer;
 use std::alloc::AllocError;
@@ -85,6 +86,46 @@ fn push_ends(out: &mut Vec<u8>, area: Area) -> Result<(), AllocError>
     push_attribute(out, b" y2", area.down)
 }
 
+// The end of a title and of its box.
+#[tactic(auto, unfolding(crate::specs::Element::title_end))]
+fn end_of_title() -> &'static [u8]
+    ensures { result.now ≡ title_end }
+{
+    b"</title></rect>\n"
+}
+
+// Appends what a box says when it is pointed at, and its end.
+#[tactic(auto, unfolding(crate::specs::Element::titled))]
+fn push_title(out: &mut Vec<u8>, text: &[u8]) -> Result<(), AllocError>
+    ensures { IfOk result (λ _. out.new.items ≡ out.old.items ++ titled text.now) }
+{
+    out.extend_from_slice(b"><title>")?;
+    push_escaped(out, text)?;
+    out.extend_from_slice(end_of_title())
+}
+
+// Appends what is shown of a card: one that is too long ends in an ellipsis.
+#[tactic(auto, unfolding(crate::specs::Element::shown_card))]
+fn push_shown_card(out: &mut Vec<u8>, text: &[u8]) -> Result<(), AllocError>
+    ensures { IfOk result (λ _. out.new.items ≡ out.old.items ++ shown_card text.now) }
+{
+    if text.len() <= CARD_LIMIT {
+        return push_escaped(out, text);
+    }
+    push_escaped(out, st_text::front(text, 39))?;
+    out.extend_from_slice("…".as_bytes())
+}
+
+// Appends a card, and its end.
+#[tactic(auto, unfolding(crate::specs::Element::card_content))]
+fn push_card_content(out: &mut Vec<u8>, text: &[u8]) -> Result<(), AllocError>
+    ensures { IfOk result (λ _. out.new.items ≡ out.old.items ++ card_content text.now) }
+{
+    out.extend_from_slice(b">")?;
+    push_shown_card(out, text)?;
+    out.extend_from_slice(b"</text>\n")
+}
+
 // Appends what a text says, and its end.
 #[tactic(auto, unfolding(crate::specs::Element::content))]
 fn push_content(out: &mut Vec<u8>, text: &[u8]) -> Result<(), AllocError>
@@ -107,6 +148,18 @@ pub fn push_box(out: &mut Vec<u8>, class: &[u8], area: Area) -> Result<(), Alloc
     out.extend_from_slice(b"/>\n")
 }
 
+/// Appends a box that says something when it is pointed at.
+#[tactic(auto, unfolding(crate::specs::Element::element_text))]
+pub fn push_bar(out: &mut Vec<u8>, class: &[u8], area: Area, title: &[u8]) -> Result<(), AllocError>
+    ensures { IfOk result (λ _. out.new.items ≡ out.old.items
+        ++ element_text (Bar class.now area.x area.y area.across area.down title.now)) }
+{
+    push_front(out, b"<rect", class)?;
+    push_corner(out, area.x, area.y)?;
+    push_size(out, area.across, area.down)?;
+    push_title(out, title)
+}
+
 /// Appends a line.
 #[tactic(auto, unfolding(crate::specs::Element::element_text))]
 pub fn push_line(out: &mut Vec<u8>, class: &[u8], area: Area) -> Result<(), AllocError>
@@ -127,4 +180,15 @@ pub fn push_text(out: &mut Vec<u8>, class: &[u8], spot: Spot, text: &[u8]) -> Re
     push_front(out, b"<text", class)?;
     push_corner(out, spot.x, spot.y)?;
     push_content(out, text)
+}
+
+/// Appends a card.
+#[tactic(auto, unfolding(crate::specs::Element::element_text))]
+pub fn push_card(out: &mut Vec<u8>, spot: Spot, text: &[u8]) -> Result<(), AllocError>
+    ensures { IfOk result (λ _. out.new.items ≡ out.old.items
+        ++ element_text (Card spot.x spot.y text.now)) }
+{
+    push_front(out, b"<text", b"c")?;
+    push_corner(out, spot.x, spot.y)?;
+    push_card_content(out, text)
 }

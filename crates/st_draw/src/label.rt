@@ -4,7 +4,7 @@ ghost use Rattle.st_draw.specs.Label as spec;
 ghost use Rattle.st_draw.specs.Report.{place};
 
 use crate::report::{Place, number, place_of};
-use st_text::{behind, cut, front, without_front_blanks};
+use st_text::{behind, cut, front, without_end_blanks, without_front_blanks};
 
 // Whether a line is one of the listing: it begins with a number, at the right of five places.
 #[tactic(auto, unfolding(crate::specs::Label::is_listed))]
@@ -42,12 +42,12 @@ fn lays(line: &[u8], here: Place) -> bool
     is_place(without_front_blanks(front(behind(line, 6), 9)), here) && is_filled(behind(line, 16))
 }
 
-// The front of the text of a listed card.
+// The text of a listed card, without the blanks around it.
 #[tactic(auto, unfolding(crate::specs::Label::card_text))]
 fn card_text(line: &[u8]) -> &[u8]
     ensures { result.now ≡ spec.card_text line.now }
 {
-    front(without_front_blanks(behind(line, 33)), 24)
+    without_end_blanks(without_front_blanks(behind(line, 33)))
 }
 
 /// The text of the card that lays what stands at a place; nothing, where the report has no listing of it.
@@ -69,12 +69,4 @@ pub fn label_at(report: &[u8], here: Place) -> &[u8]
         return card_text(rest);
     }
     &[]
-}
-
-/// Whether a report has a listing.
-#[tactic(auto, unfolding(crate::specs::Label::has_listing))]
-pub fn has_listing(report: &[u8]) -> bool
-    ensures { result ≡ spec.has_listing report.now }
-{
-    is_listed(front(report, 5))
 }

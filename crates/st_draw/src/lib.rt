@@ -7,7 +7,6 @@ mod drawing;
 mod element;
 mod escape;
 mod label;
-mod laws;
 mod log;
 mod moments;
 mod program;
@@ -17,9 +16,6 @@ mod terminal;
 mod timetable;
 mod words;
 
-pub use laws::{
-    elements_are_closed, labels_stay_in_their_lines, logs_go_forward, texts_stay_in_their_elements,
-};
 pub use program::draw;
 pub use status::Status;
 

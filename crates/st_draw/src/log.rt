@@ -2,7 +2,7 @@
 ghost use Rattle.std.specs.Prelude.{◌≡◌, ◌++◌, IfOk};
 ghost use Rattle.st_draw.specs.Log as spec;
 
-use crate::caption::{first_text, second_text, third_text};
+use crate::caption::{first_text, second_text, third_text, with_dots};
 use crate::element::push_decimal;
 use crate::moments::{Moment, Step, happenings};
 use crate::terminal::push_plain;
@@ -93,21 +93,22 @@ fn push_end_line(out: &mut Vec<u8>, number: u64, row: u64, how: &[u8]) -> Result
     out.extend_from_slice(b"\n")
 }
 
-// The label of an entry: its three texts.
+// The label of an entry: its three texts, the last one with dots where it is too long.
 #[tactic(auto, unfolding(crate::specs::Log::label))]
 fn label(alloc: Global, report: &[u8], entry: Entry) -> Result<Vec<u8>, AllocError>
     ensures { IfOk result (λ text. text.items ≡ spec.label report.now entry) }
 {
     let mut text = first_text(alloc, entry)?;
     let second = second_text(alloc, entry)?;
+    let third = with_dots(alloc, third_text(report, entry))?;
     text.extend_from_slice(b" ")?;
     text.extend_from_slice(second.as_slice())?;
     text.extend_from_slice(b" ")?;
-    text.extend_from_slice(third_text(report, entry))?;
+    text.extend_from_slice(third.as_slice())?;
     Ok(text)
 }
 
-// The stage in which an entry begins: waiting, dropped, an interrupt, a snapshot.
+// The stage in which an entry begins: waiting for its operands, dropped, an interrupt, a snapshot.
 fn first_stage(entry: Entry) -> &'static [u8]
     ensures { result.now ≡ spec.first_stage entry }
 {
@@ -173,13 +174,14 @@ fn push_begin(
     push_stage(out, b"S", number, first_stage(entry))
 }
 
-// Appends the lines of an entry whose operands are there.
-#[tactic(auto, unfolding(crate::specs::Log::ready_lines))]
-fn push_ready(out: &mut Vec<u8>, number: u64) -> Result<(), AllocError>
-    ensures { IfOk result (λ _. out.new.items ≡ out.old.items ++ spec.ready_lines number) }
+// Appends the lines of an entry that goes from one stage to another.
+#[tactic(auto, unfolding(crate::specs::Log::change_lines))]
+fn push_change(out: &mut Vec<u8>, number: u64, from: &[u8], to: &[u8]) -> Result<(), AllocError>
+    ensures { IfOk result (λ _. out.new.items ≡ out.old.items
+        ++ spec.change_lines number from.now to.now) }
 {
-    push_stage(out, b"E", number, b"W")?;
-    push_stage(out, b"S", number, b"X")
+    push_stage(out, b"E", number, from)?;
+    push_stage(out, b"S", number, to)
 }
 
 // Appends the lines of an entry that ends.
@@ -203,7 +205,8 @@ fn push_step(
 {
     match moment.step {
         Step::Begin => push_begin(alloc, out, report, moment.number, moment.entry),
-        Step::Ready => push_ready(out, moment.number),
+        Step::Ready => push_change(out, moment.number, b"W", b"T"),
+        Step::Turn => push_change(out, moment.number, b"T", b"X"),
         Step::End => push_end(out, moment.number, moment.entry),
     }
 }

@@ -14,6 +14,8 @@ pub enum Step {
     Begin,
     /// Its operands are there.
     Ready,
+    /// It is its turn.
+    Turn,
     /// It is complete, or dropped, or past.
     End,
 }
@@ -44,6 +46,23 @@ fn ready_tick(entry: &Entry) -> u64
     }
 }
 
+// The tick at which it is an entry's turn: not before its operands are there.
+fn turn_tick(entry: &Entry) -> u64
+    ensures { result ≡ spec.turn_tick entry.now }
+{
+    match *entry {
+        Entry::Done {
+            prepared,
+            ready,
+            turn,
+            ..
+        } => prepared.max(ready).max(turn),
+        Entry::Dropped { prepared, .. } => prepared,
+        Entry::Taken { tick, .. } => tick,
+        Entry::Shown { tick } => tick,
+    }
+}
+
 // The tick at which an entry ends: not before it begins; an interrupt and a snapshot fill one tick.
 fn end_tick(entry: &Entry) -> u64
     ensures { result ≡ spec.end_tick entry.now }
@@ -52,9 +71,10 @@ fn end_tick(entry: &Entry) -> u64
         Entry::Done {
             prepared,
             ready,
+            turn,
             complete,
             ..
-        } => prepared.max(ready).max(complete),
+        } => prepared.max(ready).max(turn).max(complete),
         Entry::Dropped { prepared, end, .. } => prepared.max(end),
         Entry::Taken { tick, .. } => tick.saturating_add(1),
         Entry::Shown { tick } => tick.saturating_add(1),
@@ -68,6 +88,7 @@ fn tick_of(step: Step, entry: &Entry) -> u64
     match step {
         Step::Begin => first_tick(entry),
         Step::Ready => ready_tick(entry),
+        Step::Turn => turn_tick(entry),
         Step::End => end_tick(entry),
     }
 }
@@ -87,12 +108,15 @@ fn push(out: &mut Vec<Moment>, number: u64, step: Step, entry: Entry) -> Result<
     Ok(())
 }
 
-// Appends that the operands of an entry are there, where it waits for some.
-fn push_ready(out: &mut Vec<Moment>, number: u64, entry: Entry) -> Result<(), AllocError>
-    ensures { IfOk result (λ _. out.new.items ≡ out.old.items ++ spec.ready_of number entry) }
+// Appends that the operands of an entry are there, and that it is its turn, where it waits for these.
+fn push_waits(out: &mut Vec<Moment>, number: u64, entry: Entry) -> Result<(), AllocError>
+    ensures { IfOk result (λ _. out.new.items ≡ out.old.items ++ spec.waits_of number entry) }
 {
     match entry {
-        Entry::Done { .. } => push(out, number, Step::Ready, entry),
+        Entry::Done { .. } => {
+            push(out, number, Step::Ready, entry)?;
+            push(out, number, Step::Turn, entry)
+        }
         Entry::Dropped { .. } => Ok(()),
         Entry::Taken { .. } => Ok(()),
         Entry::Shown { .. } => Ok(()),
@@ -105,7 +129,7 @@ fn push_moments_of(out: &mut Vec<Moment>, number: u64, entry: Entry) -> Result<(
     ensures { IfOk result (λ _. out.new.items ≡ out.old.items ++ spec.moments_of number entry) }
 {
     push(out, number, Step::Begin, entry)?;
-    push_ready(out, number, entry)?;
+    push_waits(out, number, entry)?;
     push(out, number, Step::End, entry)
 }
 

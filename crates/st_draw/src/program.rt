@@ -114,7 +114,8 @@ fn draw_choice<S: Source, K: Sink>(
 }
 
 /// Draws what the words of the command line, after the program's name, ask for, of a report of at most 16,000,000
-/// bytes: `svg`, `text` or `kanata`, and the numbers of the first and the last row; without words a picture of the first 200.
+/// bytes: `svg`, `text` or `kanata`, `svg` where it is left out, and the numbers of the first and the last row, the first 200
+/// rows where they are left out.
 /// All memory is taken before the first write.
 pub fn draw<S: Source, K: Sink>(
     alloc: Global,

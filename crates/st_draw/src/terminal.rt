@@ -1,13 +1,22 @@
 //! The picture of a timetable as lines of text.
-ghost use Rattle.std.specs.Prelude.{◌≡◌, ◌+◌, ◌≤◌, ◌++◌, IfOk};
+ghost use Rattle.std.specs.Prelude.{◌≡◌, ◌-◌, ◌≤◌, ◌++◌, IfOk, max};
 ghost use Rattle.st_draw.specs.Terminal as spec;
 
-use crate::axis::{Axis, Room, at, axis_of, marks_of};
-use crate::caption::{first_text, second_text, third_text};
+use crate::axis::{Axis, Room, at, axis_of, first_tick, marks_of};
+use crate::caption::{first_text, second_text, third_text, widest, with_dots};
 use crate::drawing::remark;
 use crate::element::push_decimal;
 use crate::timetable::Entry;
 use std::alloc::{AllocError, Global};
+
+/// What all lines of a page share.
+#[derive(Clone, Copy)]
+pub struct Page {
+    /// The ticks that are shown.
+    pub axis: Axis,
+    /// The places of the third texts.
+    pub places: usize,
+}
 
 // Appends a byte, so many times over.
 fn push_many(out: &mut Vec<u8>, count: usize, byte: u8) -> Result<(), AllocError>
@@ -59,21 +68,22 @@ fn push_left(out: &mut Vec<u8>, width: usize, text: &[u8]) -> Result<(), AllocEr
     push_many(out, width.saturating_sub(text.len()), b' ')
 }
 
-// Appends three texts in columns.
+// Appends three texts in columns, the last one at the left of so many places.
 #[tactic(auto, unfolding(crate::specs::Terminal::columns))]
 fn push_columns(
     out: &mut Vec<u8>,
+    places: usize,
     first: &[u8],
     second: &[u8],
     third: &[u8],
 ) -> Result<(), AllocError>
     ensures { IfOk result (λ _. out.new.items ≡ out.old.items
-        ++ spec.columns first.now second.now third.now) }
+        ++ spec.columns places first.now second.now third.now) }
 {
     push_right(out, 7, first)?;
     push_right(out, 10, second)?;
     out.extend_from_slice(b" ")?;
-    push_left(out, 24, third)?;
+    push_left(out, places, third)?;
     out.extend_from_slice(b" ")
 }
 
@@ -97,41 +107,34 @@ fn push_stroke(
 ) -> Result<(), AllocError>
     requires { 1 ≤ axis.now.span }
     ensures { IfOk result (λ _. out.new.items ≡ out.old.items
-        ++ spec.stroke axis.now mark.0 mark.1 from to) }
+        ++ spec.many (max mark.1 (spec.column axis.now to - spec.column axis.now from)) mark.0) }
 {
     let width = column(axis, to).saturating_sub(column(axis, from));
     push_many(out, width.max(mark.1), mark.0)
 }
 
-// Appends the bars of an entry.
+// Appends the bars of an entry behind blanks up to its first tick, or its sign.
 #[tactic(auto, unfolding(crate::specs::Terminal::strokes))]
 fn push_strokes(out: &mut Vec<u8>, axis: &Axis, entry: Entry) -> Result<(), AllocError>
     requires { 1 ≤ axis.now.span }
     ensures { IfOk result (λ _. out.new.items ≡ out.old.items ++ spec.strokes axis.now entry) }
 {
+    push_many(out, column(axis, first_tick(&entry)), b' ')?;
     match entry {
         Entry::Done {
             prepared,
             ready,
+            turn,
             complete,
             ..
         } => {
-            push_many(out, column(axis, prepared), b' ')?;
             push_stroke(out, axis, (b'.', 0), prepared, ready)?;
-            push_stroke(out, axis, (b'#', 1), ready, complete)
+            push_stroke(out, axis, (b'-', 0), ready, turn)?;
+            push_stroke(out, axis, (b'#', 1), turn, complete)
         }
-        Entry::Dropped { prepared, end, .. } => {
-            push_many(out, column(axis, prepared), b' ')?;
-            push_stroke(out, axis, (b'x', 1), prepared, end)
-        }
-        Entry::Taken { tick, .. } => {
-            push_many(out, column(axis, tick), b' ')?;
-            out.extend_from_slice(b"!")
-        }
-        Entry::Shown { tick } => {
-            push_many(out, column(axis, tick), b' ')?;
-            out.extend_from_slice(b"|")
-        }
+        Entry::Dropped { prepared, end, .. } => push_stroke(out, axis, (b'x', 1), prepared, end),
+        Entry::Taken { .. } => out.extend_from_slice(b"!"),
+        Entry::Shown { .. } => out.extend_from_slice(b"|"),
     }
 }
 
@@ -140,23 +143,25 @@ fn push_strokes(out: &mut Vec<u8>, axis: &Axis, entry: Entry) -> Result<(), Allo
 fn push_entry(
     alloc: Global,
     out: &mut Vec<u8>,
-    axis: &Axis,
+    page: &Page,
     report: &[u8],
     entry: Entry,
 ) -> Result<(), AllocError>
-    requires { 1 ≤ axis.now.span }
+    requires { 1 ≤ page.now.axis.span }
     ensures { IfOk result (λ _. out.new.items ≡ out.old.items
-        ++ spec.entry_line axis.now report.now entry) }
+        ++ spec.entry_line page.now report.now entry) }
 {
     let first = first_text(alloc, entry)?;
     let second = second_text(alloc, entry)?;
+    let third = with_dots(alloc, third_text(report, entry))?;
     push_columns(
         out,
+        page.places,
         first.as_slice(),
         second.as_slice(),
-        third_text(report, entry),
+        third.as_slice(),
     )?;
-    push_strokes(out, axis, entry)?;
+    push_strokes(out, &page.axis, entry)?;
     out.extend_from_slice(b"\n")
 }
 
@@ -164,57 +169,64 @@ fn push_entry(
 fn push_entries(
     alloc: Global,
     out: &mut Vec<u8>,
-    axis: &Axis,
+    page: &Page,
     report: &[u8],
     entries: &[Entry],
 ) -> Result<(), AllocError>
-    requires { 1 ≤ axis.now.span }
+    requires { 1 ≤ page.now.axis.span }
     ensures { IfOk result (λ _. out.new.items ≡ out.old.items
-        ++ spec.entry_lines axis.now report.now entries.now) }
+        ++ spec.entry_lines page.now report.now entries.now) }
 {
     let mut rest = entries;
     'entries: while let [entry, after @ ..] = rest {
-        push_entry(alloc, out, axis, report, *entry)?;
+        push_entry(alloc, out, page, report, *entry)?;
         rest = after;
     }
     Ok(())
 }
 
-// Appends a round tick to a line, in its column.
-fn push_mark(line: &mut Vec<u8>, axis: &Axis, tick: u64) -> Result<(), AllocError>
-    requires { 1 ≤ axis.now.span }
-    ensures { IfOk result (λ _. line.new.items ≡ spec.marked axis.now line.old.items tick) }
+// Appends a round tick to a line, in its column; nothing where it would touch the line.
+fn push_mark(line: &mut Vec<u8>, page: &Page, tick: u64) -> Result<(), AllocError>
+    requires axis { 1 ≤ page.now.axis.span }
+    requires places { page.now.places ≤ 40 }
+    ensures { IfOk result (λ _. line.new.items ≡ spec.marked page.now line.old.items tick) }
 {
-    let blanks = (43 + column(axis, tick)).saturating_sub(line.len());
-    push_many(line, blanks, b' ')?;
+    let place = 19 + page.places + column(&page.axis, tick);
+    if place <= line.len() {
+        return Ok(());
+    }
+    push_many(line, place - line.len(), b' ')?;
     push_decimal(line, u128::from(tick))
 }
 
-// Appends round ticks to a line, each in its column.
-fn push_scale(line: &mut Vec<u8>, axis: &Axis, ticks: &[u64]) -> Result<(), AllocError>
-    requires { 1 ≤ axis.now.span }
-    ensures { IfOk result (λ _. line.new.items ≡ spec.scale axis.now line.old.items ticks.now) }
+// Appends round ticks to a line, each in its column, but those that would touch the one before.
+fn push_scale(line: &mut Vec<u8>, page: &Page, ticks: &[u64]) -> Result<(), AllocError>
+    requires axis { 1 ≤ page.now.axis.span }
+    requires places { page.now.places ≤ 40 }
+    ensures { IfOk result (λ _. line.new.items ≡ spec.scale page.now line.old.items ticks.now) }
 {
     let mut rest = ticks;
     'ticks: while let [tick, after @ ..] = rest {
-        push_mark(line, axis, *tick)?;
+        push_mark(line, page, *tick)?;
         rest = after;
     }
     Ok(())
 }
 
-// The line above the rows: round ticks, or that there is no entry.
+// The line above the rows: what its numbers are, and round ticks; or that there is no entry.
 #[tactic(auto, unfolding(crate::specs::Terminal::head))]
-fn head(alloc: Global, axis: &Axis, entries: &[Entry]) -> Result<Vec<u8>, AllocError>
-    requires { 1 ≤ axis.now.span }
-    ensures { IfOk result (λ out. out.items ≡ spec.head axis.now entries.now) }
+fn head(alloc: Global, page: &Page, entries: &[Entry]) -> Result<Vec<u8>, AllocError>
+    requires axis { 1 ≤ page.now.axis.span }
+    requires places { page.now.places ≤ 40 }
+    ensures { IfOk result (λ out. out.items ≡ spec.head page.now entries.now) }
 {
     if entries.is_empty() {
         return Vec::from_slice(alloc, b"no rows\n");
     }
     let mut out = Vec::new(alloc);
-    let marks = marks_of(alloc, *axis)?;
-    push_scale(&mut out, axis, marks.as_slice())?;
+    let marks = marks_of(alloc, page.axis)?;
+    push_right(&mut out, 18 + page.places, b"ticks")?;
+    push_scale(&mut out, page, marks.as_slice())?;
     out.extend_from_slice(b"\n")?;
     Ok(out)
 }
@@ -224,7 +236,10 @@ fn head(alloc: Global, axis: &Axis, entries: &[Entry]) -> Result<Vec<u8>, AllocE
 fn push_key(out: &mut Vec<u8>) -> Result<(), AllocError>
     ensures { IfOk result (λ _. out.new.items ≡ out.old.items ++ spec.key) }
 {
-    out.extend_from_slice(b". waiting  # executing  x dropped  ! interrupt  | snapshot\n")
+    out.extend_from_slice(
+        b". waiting for operands  - waiting for its turn  # executing  x dropped\n\
+        ! interrupt  | snapshot\n",
+    )
 }
 
 /// Draws entries as lines of text: `shown` of them are rows, and `later` rows follow.
@@ -238,10 +253,13 @@ pub fn draw_text(
 ) -> Result<Vec<u8>, AllocError>
     ensures { IfOk result (λ out. out.items ≡ spec.text report.now entries.now shown later) }
 {
-    let axis = axis_of(entries, 60);
+    let page = Page {
+        axis: axis_of(entries, 60),
+        places: widest(report, entries),
+    };
     let remark = remark(alloc, shown, later)?;
-    let mut out = head(alloc, &axis, entries)?;
-    push_entries(alloc, &mut out, &axis, report, entries)?;
+    let mut out = head(alloc, &page, entries)?;
+    push_entries(alloc, &mut out, &page, report, entries)?;
     push_key(&mut out)?;
     out.extend_from_slice(remark.as_slice())?;
     out.extend_from_slice(b"\n")?;

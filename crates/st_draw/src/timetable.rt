@@ -20,13 +20,14 @@ pub struct Part {
 /// One line of the picture.
 #[derive(Clone, Copy)]
 pub enum Entry {
-    /// An instruction is done: its number, its address, and the ticks at which it was prepared, its operands were there
-    /// and it was complete.
+    /// An instruction is done: its number, its address, and the ticks at which it was prepared, its operands were there,
+    /// it was its turn and it was complete.
     Done {
         number: u64,
         place: Place,
         prepared: u64,
         ready: u64,
+        turn: u64,
         complete: u64,
     },
     /// An entry was prepared at one tick and dropped at another.
@@ -128,6 +129,7 @@ fn take_item(part: Part, told: &mut Told, item: Item) -> Result<(), AllocError>
                 place,
                 prepared,
                 ready,
+                turn: ready.max(end.min(complete)),
                 complete,
             };
             join(part, number, entry, told)?;

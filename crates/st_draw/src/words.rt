@@ -62,7 +62,7 @@ fn part_named(from: &str, to: &str) -> Option<Part>
     part_between(from, to)
 }
 
-// The picture that a word and two more ask for.
+// The picture that a word and two numbers ask for.
 fn chosen(word: &str, from: &str, to: &str) -> Option<Choice>
     ensures { result ≡ spec.chosen word.now from.now to.now }
 {
@@ -84,6 +84,10 @@ pub fn read_words(words: &[String]) -> Option<Choice>
         [word] => Some(Choice {
             kind: kind_named(word.as_str())?,
             part: FIRST_PART,
+        }),
+        [from, to] => Some(Choice {
+            kind: Kind::Svg,
+            part: part_named(from.as_str(), to.as_str())?,
         }),
         [word, from, to] => chosen(word.as_str(), from.as_str(), to.as_str()),
         _ => None,

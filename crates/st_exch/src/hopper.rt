@@ -168,6 +168,3 @@ fn column(text: &[u8], c: usize) -> u8
 {
     text.get(c - 1).copied().unwrap_or(b' ')
 }
-
-#[cfg(test)]
-mod tests;

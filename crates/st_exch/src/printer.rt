@@ -43,6 +43,3 @@ fn character(byte: u8) -> u8
         _ => b' ',
     }
 }
-
-#[cfg(test)]
-mod tests;

@@ -101,6 +101,3 @@ pub(crate) fn first_part(text: &[u8]) -> (&[u8], Option<(bool, &[u8])>)
     }
     (text, None)
 }
-
-#[cfg(test)]
-mod tests;

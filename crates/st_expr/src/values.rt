@@ -115,6 +115,3 @@ fn atom_value(atom: Atom, symbols: &Symbols) -> Option<u32>
         Atom::Name(name) => symbols.get(name),
     }
 }
-
-#[cfg(test)]
-mod tests;

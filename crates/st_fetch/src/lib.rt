@@ -13,6 +13,3 @@ pub use fetched::{Fetched, HeldWords};
 pub use held::{Held, Hold};
 pub use laws::{answers_are_known, requests_hold_four, stores_change_content_alone};
 pub use wants::{WANTS, Want, Wants};
-
-#[cfg(test)]
-mod tests;

@@ -24,6 +24,3 @@ pub use operand::{Aligned, Kept, align, cut, shift};
 pub use operations::operate;
 pub use outcome::{Done, done_with, in_accumulator, in_field};
 pub use signed::Signed;
-
-#[cfg(test)]
-mod tests;

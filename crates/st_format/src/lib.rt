@@ -60,6 +60,3 @@ pub use instruction::{Decoded, Format, Instr};
 pub use laws::{bits_spell_instruction, instruction_keeps_bits};
 pub use operations::{FullOp, writes_field};
 pub use rules::misfits_field;
-
-#[cfg(test)]
-mod tests;

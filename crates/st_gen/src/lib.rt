@@ -7,6 +7,3 @@ mod generator;
 mod statement;
 
 pub use deck::make_deck;
-
-#[cfg(test)]
-mod tests;

@@ -9,6 +9,3 @@ mod selection;
 pub use change::{Changed, add_value, count_down, effective, progress};
 pub use results::{compare, index_result};
 pub use selection::sum_values;
-
-#[cfg(test)]
-mod tests;

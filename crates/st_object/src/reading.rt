@@ -139,6 +139,3 @@ pub fn read_object(alloc: Global, text: &[u8]) -> Result<Image, ObjectError>
 {
     read(alloc, text)
 }
-
-#[cfg(test)]
-mod tests;

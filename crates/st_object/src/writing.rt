@@ -181,6 +181,3 @@ pub fn write_object(alloc: Global, image: &Image) -> Result<Vec<u8>, NoMemory>
         Err(_) => Err(NoMemory),
     }
 }
-
-#[cfg(test)]
-mod tests;

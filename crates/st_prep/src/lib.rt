@@ -26,6 +26,3 @@ pub use preparation::{
     is_execute_format, look, plan, plan_in, prepare, prepare_in, prepare_without_side, side_word,
 };
 pub use runs::reads_field;
-
-#[cfg(test)]
-mod tests;

@@ -21,6 +21,3 @@ pub use run::{
 pub use st_text::Line;
 pub use state_block::{line_dump, line_en, line_ic, line_mem, line_reg};
 pub use sweep::{line_calm, line_levels};
-
-#[cfg(test)]
-mod tests;

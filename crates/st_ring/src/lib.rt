@@ -8,6 +8,3 @@ mod ring;
 
 pub use level::Level;
 pub use ring::SpecRing;
-
-#[cfg(test)]
-mod tests;

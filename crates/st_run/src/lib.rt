@@ -10,8 +10,6 @@ mod progress;
 mod run;
 mod seen;
 mod serving;
-#[cfg(test)]
-mod tests;
 mod ticking;
 mod told;
 mod turn;

@@ -262,6 +262,3 @@ fn fixed_word(w: u32, value: u64) -> u64
         value
     }
 }
-
-#[cfg(test)]
-mod tests;

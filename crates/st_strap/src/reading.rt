@@ -150,6 +150,3 @@ fn with_fields(op: Operation, form: Form, fields: &[Field]) -> Result<CompactSta
         Operation::End => say_end(fields),
     }
 }
-
-#[cfg(test)]
-mod tests;

@@ -34,6 +34,3 @@ pub fn without_front_blanks(text: &[u8]) -> &[u8]
     }
     rest
 }
-
-#[cfg(test)]
-mod tests;

@@ -67,25 +67,3 @@ fn with_digit(number: u128, digit: u8, cap: u128) -> u128
 {
     (number * 10 + u128::from(digit)).min(cap)
 }
-
-#[cfg(test)]
-mod tests {
-    use super::*;
-
-    #[test]
-    fn reads_numbers_up_to_the_most(rt: HostRuntime) {
-        let rows: [(&[u8], Reading); 8] = [
-            (b"0", Reading::Good(0)),
-            (b"007", Reading::Good(7)),
-            (b"18446744073709551615", Reading::Good(u64::MAX)),
-            (b"18446744073709551616", Reading::Large),
-            (b"", Reading::Bad),
-            (b"7 ", Reading::Bad),
-            (b"-1", Reading::Bad),
-            (b"99999999999999999999x", Reading::Bad),
-        ];
-        for (text, wanted) in rows {
-            assert_eq!(rt; read_number(text, u64::MAX), wanted);
-        }
-    }
-}

@@ -36,16 +36,3 @@ pub fn behind(text: &[u8], count: usize) -> &[u8]
 {
     text.split_at(count.min(text.len())).1
 }
-
-#[cfg(test)]
-mod tests {
-    use super::*;
-
-    #[test]
-    fn cuts_at_the_first_byte(rt: HostRuntime) {
-        let none: (&[u8], &[u8]) = (b"", b"");
-        let wanted: (&[u8], &[u8]) = (b"a", b"b,c");
-        assert_eq!(rt; cut(b"a,b,c", b',').unwrap_or(none), wanted);
-        assert!(rt; cut(b"abc", b',').is_none());
-    }
-}

@@ -14,15 +14,3 @@ pub fn row_of<T: Copy>(rows: &[(&[u8], T)], word: &[u8]) -> Option<T>
     }
     None
 }
-
-#[cfg(test)]
-mod tests {
-    use super::*;
-
-    #[test]
-    fn the_first_row_counts(rt: HostRuntime) {
-        let rows: [(&[u8], u32); 3] = [(b"AB", 1), (b"A", 2), (b"A", 3)];
-        assert_eq!(rt; row_of(&rows, b"A"), Some(2));
-        assert_eq!(rt; row_of(&rows, b"B"), None);
-    }
-}

@@ -27,16 +27,3 @@ pub fn first_word(text: &[u8]) -> Option<(&[u8], &[u8])>
         Some((rest, &[]))
     }
 }
-
-#[cfg(test)]
-mod tests {
-    use super::*;
-
-    #[test]
-    fn blanks_part_words(rt: HostRuntime) {
-        let none: (&[u8], &[u8]) = (b"", b"");
-        let wanted: (&[u8], &[u8]) = (b"AB", b" C ");
-        assert_eq!(rt; first_word(b"  AB  C ").unwrap_or(none), wanted);
-        assert!(rt; first_word(b"  ").is_none());
-    }
-}

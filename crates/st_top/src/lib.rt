@@ -27,6 +27,3 @@ pub use delays::{
 };
 pub use objects::{lines_are_the_deck, lines_are_the_object_text};
 pub use program::stretch;
-
-#[cfg(test)]
-mod tests;

@@ -7,7 +7,7 @@ use Rattle.st_draw.proofs.drawing.push_rows.Goals as goal
 
 pub entries-preserved : goal.entries-preserved
 entries-preserved c =
-    let parts = first_and_rest c.entries.rest.now (Done 0 (record { word = 0; bit = 0 }) 0 0 0) c.in-len1-up.len_at_least in
+    let parts = first_and_rest c.entries.rest.now (Done 0 (record { word = 0; bit = 0 }) 0 0 0 0) c.in-len1-up.len_at_least in
     record {
       so_far = rows_step c.entries.out.items c.push_row.new.out.items _ _ _ _ _ _ _ parts c.in_ok-push_row.ensures c.entries.invariant.so_far;
       below = omega (arith, ap (λ (s : List Entry). length s) parts, c.entries.invariant.below);

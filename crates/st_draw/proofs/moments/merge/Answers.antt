@@ -7,7 +7,7 @@ use Rattle.st_draw.proofs.moments.merge.Goals as goal
 
 -- the moment that stands for one that is not there
 abbrev none : Moment
-none = record { tick = 0; number = 0; step = Begin; entry = Done 0 (record { word = 0; bit = 0 }) 0 0 0 }
+none = record { tick = 0; number = 0; step = Begin; entry = Done 0 (record { word = 0; bit = 0 }) 0 0 0 0 }
 
 pub returns-in_default-theirs : goal.returns-in_default-theirs
 returns-in_default-theirs c a b here there =

@@ -5,7 +5,7 @@ use Rattle.st_draw.proofs.terminal.push_entries.Goals as goal
 
 pub entries-preserved : goal.entries-preserved
 entries-preserved c =
-    let parts = first_and_rest c.entries.rest.now (Done 0 (record { word = 0; bit = 0 }) 0 0 0) c.in-len1-up.len_at_least in
+    let parts = first_and_rest c.entries.rest.now (Done 0 (record { word = 0; bit = 0 }) 0 0 0 0) c.in-len1-up.len_at_least in
     lines_step c.entries.out.items c.push_entry.new.out.items _ _ _ _ _ _ parts c.in_ok-push_entry.ensures c.entries.invariant
 
 pub returns : goal.returns

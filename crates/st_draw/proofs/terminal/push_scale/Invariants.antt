@@ -4,7 +4,7 @@ use Rattle.st_draw.specs.Terminal.{scale}
 use Rattle.st_draw.proofs.terminal.push_scale.Given as goal
 
 abbrev pub invariant-ticks : goal.invariant-ticks
-invariant-ticks l = scale l.axis l.line.items l.rest ≡ scale l.axis l.fn.line.items l.ticks
+invariant-ticks l = scale l.page l.line.items l.rest ≡ scale l.page l.fn.line.items l.ticks
 
 abbrev pub decreases-ticks : goal.decreases-ticks
 decreases-ticks l = length l.rest

@@ -1,0 +1,6 @@
+pub mod Laws
+pub mod Rows
+pub mod Runs
+pub mod Sums
+pub mod Told
+pub mod Words

@@ -1,0 +1,59 @@
+-- The entries that are done in a run, and the charges of all of them. The machine has the delays ds and n levels.
+use Rattle.std.specs.Prelude.{ℕ, zero, suc, ◌+◌, if◌then◌else◌, List, [], ◌∷◌, ◌++◌}
+use Rattle.st_exec.specs.Step.{rests, address}
+use Rattle.st_rows.specs.declared.front.Row.{Row}
+use Rattle.st_run.specs.Run.{Scene}
+use Rattle.st_run.specs.Events.{Event, Timed, Completes, Drops, Shows, Happens}
+use Rattle.st_run.specs.Moments.{Moment, Standing, start, next_state, standing, oldest, next_row, next_moment}
+use Rattle.st_ledger.specs.declared.charges.Charge.{Charge}
+use Rattle.st_ledger.specs.Charges.{charges}
+
+-- where the run stands before each entry, from a moment on, in which so many may still be done
+unfoldable pub entries_from : List ℕ → ℕ → ℕ → Moment → List Standing
+entries_from ds n zero m = []
+entries_from ds n (suc left) m =
+    if rests (next_state m) then []
+    else standing m ∷ entries_from ds n left (next_moment ds n (standing m))
+
+-- in the whole run of a scene
+abbrev pub entries_of : List ℕ → ℕ → ℕ → Scene → List Standing
+entries_of ds n left c = entries_from ds n left (start c)
+
+-- ---- charges
+
+-- those of the next entry
+unfoldable pub charges_at : List ℕ → ℕ → Standing → List Charge
+charges_at ds n p = charges p.tick p.front (next_row ds n p)
+
+-- and of several ones
+unfoldable pub all_charges : List ℕ → ℕ → List Standing → List Charge
+all_charges ds n [] = []
+all_charges ds n (p ∷ ps) = charges_at ds n p ++ all_charges ds n ps
+
+-- the sum of their costs
+unfoldable pub all_costs : List Standing → ℕ
+all_costs [] = 0
+all_costs (p ∷ ps) = (oldest p).cost + all_costs ps
+
+-- ---- rows
+
+-- an entry that is done: its address, and its row
+pub record DoneRow : Type 0 where
+  pub address : ℕ
+  pub row : Row
+
+-- that of the next entry
+abbrev pub row_at : List ℕ → ℕ → Standing → DoneRow
+row_at ds n p = record { address = address p.scene.machine; row = next_row ds n p }
+
+-- what an event tells of a row
+abbrev pub row_told : Event → List DoneRow
+row_told (Completes s a r) = record { address = a; row = r } ∷ []
+row_told (Drops a p) = []
+row_told (Shows tick s levels) = []
+row_told (Happens happening) = []
+
+-- what the events of a run tell
+unfoldable pub rows_told : List Timed → List DoneRow
+rows_told [] = []
+rows_told (x ∷ xs) = row_told x.event ++ rows_told xs

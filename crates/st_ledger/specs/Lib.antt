@@ -1,0 +1,4 @@
+pub mod Charges
+pub mod Laws
+pub mod Ledger
+pub mod Lines

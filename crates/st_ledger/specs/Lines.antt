@@ -1,0 +1,45 @@
+-- The bytes of each line of the ledger, its line end included.
+use Rattle.std.specs.Prelude.{ℕ, List, [], ◌∷◌, ◌++◌, codes, decimal}
+use Rattle.st_text.specs.Bytes.{lf}
+use Rattle.st_text.specs.Numerals.{half_address}
+use Rattle.st_rows.specs.declared.front.Row.{Row}
+use Rattle.st_ledger.specs.declared.charges.Charge.{Charge}
+use Rattle.st_ledger.specs.declared.charges.Stage.{Stage}
+use Rattle.st_ledger.specs.declared.charges.Stage.TheVariants.{Restart, Instruction, Address, Index, Preparing, Operand, Executing}
+use Rattle.st_ledger.specs.Charges.{parts, charged}
+
+-- the name of a stage
+abbrev pub stage_name : Stage → List ℕ
+stage_name Restart = codes "RESTART"
+stage_name Instruction = codes "INSTRUCTION"
+stage_name Address = codes "ADDRESS"
+stage_name Index = codes "INDEX"
+stage_name Preparing = codes "PREPARING"
+stage_name Operand = codes "OPERAND"
+stage_name Executing = codes "EXECUTING"
+
+-- the n-th entry that is done, with its address and its ticks
+abbrev pub row_line : ℕ → ℕ → Row → List ℕ
+row_line n address row =
+    codes "ROW " ++ decimal n ++ codes " " ++ half_address address
+    ++ codes " A " ++ decimal row.a ++ codes " P " ++ decimal row.p
+    ++ codes " R " ++ decimal row.r ++ codes " C " ++ decimal row.c ++ lf
+
+-- ticks that are charged to a stage
+abbrev pub charge_line : Charge → List ℕ
+charge_line x =
+    codes "CHARGE " ++ decimal x.from ++ codes " " ++ decimal x.to ++ codes " " ++ stage_name x.stage ++ lf
+
+-- the ticks of a stage in the whole run
+abbrev pub sum_line : Stage → ℕ → List ℕ
+sum_line stage ticks = codes "SUM " ++ stage_name stage ++ codes " " ++ decimal ticks ++ lf
+
+-- the lines of charges
+unfoldable pub charge_lines : List Charge → List (List ℕ)
+charge_lines [] = []
+charge_lines (x ∷ xs) = charge_line x ∷ charge_lines xs
+
+-- those of the n-th entry that is done, with its address and its row, where the last one was done at the tick `before` and the
+-- segment of both starts at the tick `start`
+abbrev pub row_lines : ℕ → ℕ → Row → ℕ → ℕ → List (List ℕ)
+row_lines n address row before start = row_line n address row ∷ [] ++ charge_lines (charged before (parts start row))

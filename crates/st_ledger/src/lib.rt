@@ -1,0 +1,12 @@
+//! Where the ticks of a run went: each is charged to one entry and to one stage of it. `docs/ledger.md` has the rules.
+#![tactic(auto, using(st_bits::specs::Storage::words_of_storage_is))]
+
+mod charges;
+mod entries;
+mod lines;
+mod telling;
+
+pub use charges::{Charge, Part, Stage};
+pub use entries::entry;
+pub use lines::{line_charge, line_row, line_sum};
+pub use telling::write_row;

@@ -1,0 +1,110 @@
+//! The lines of a row.
+ghost use Rattle.std.specs.Prelude.{◌≡◌, ◌∷◌, ◌<◌, [], length, max, MatchOption, IfSome};
+ghost use Rattle.st_io.specs.Lines.{WritesLines};
+ghost use Rattle.st_ledger.specs.Charges.{parts as parts_of, charged, part_charges};
+ghost use Rattle.st_ledger.specs.Lines.{row_line, charge_line, charge_lines, row_lines};
+
+use crate::charges::{Charge, Part, Stage};
+use crate::lines::{line_charge, line_row};
+use st_io::{Failed, Sink, write_line};
+use st_rows::Row;
+use st_text::Line;
+
+// Writes a line.
+fn put<K: Sink>(out: &mut K, line: &Line) -> Result<(), Failed>
+    ensures { WritesLines (K.output out.old) (K.output out.new) (line.now.bytes ∷ []) result }
+{
+    write_line(out, line.as_str().as_bytes())
+}
+
+// A stage, with the tick at which it ends.
+fn part(stage: Stage, end: u64) -> Part
+    ensures { result ≡ record { stage = stage; end = end } }
+{
+    Part { stage, end }
+}
+
+// The stages of a row in their order, each with the tick at which it ends; the segment starts at `start`.
+fn parts(start: u64, row: &Row) -> [Part; 7]
+    ensures { result ≡ parts_of start row.now }
+{
+    [
+        part(Stage::Restart, start),
+        part(Stage::Instruction, row.a.saturating_sub(1)),
+        part(Stage::Address, row.a),
+        part(Stage::Index, row.p.saturating_sub(1)),
+        part(Stage::Preparing, row.p),
+        part(Stage::Operand, row.r),
+        part(Stage::Executing, row.c),
+    ]
+}
+
+// Writes the charge of a stage behind the tick `from`, where it ends later.
+#[tactic(auto, using(st_io::proofs::Progress::wrote_nothing))]
+fn write_part<K: Sink>(out: &mut K, from: u64, part: Part) -> Result<(), Failed>
+    ensures { WritesLines (K.output out.old) (K.output out.new) (charge_lines (part_charges from part)) result }
+{
+    if part.end <= from {
+        return Ok(());
+    }
+    put(
+        out,
+        &line_charge(Charge {
+            from,
+            to: part.end,
+            stage: part.stage,
+        }),
+    )
+}
+
+// The first of some stages, and those behind it.
+fn first_part(parts: &[Part]) -> Option<(Part, &[Part])>
+    ensures parts { MatchOption result (parts.now ≡ []) (λ r. parts.now ≡ r.0 ∷ r.1.now) }
+    ensures fewer { IfSome result (λ r. length r.1.now < length parts.now) }
+{
+    match parts {
+        [first, more @ ..] => Some((*first, more)),
+        [] => None,
+    }
+}
+
+// The later of two ticks.
+fn later(a: u64, b: u64) -> u64
+    ensures { result ≡ max a b }
+{
+    a.max(b)
+}
+
+// Writes the charges of stages behind the tick `from`.
+fn write_charges<K: Sink>(out: &mut K, from: u64, parts: &[Part]) -> Result<(), Failed>
+    ensures { WritesLines (K.output out.old) (K.output out.new) (charge_lines (charged from parts.now)) result }
+{
+    let Some((part, more)) = first_part(parts) else {
+        return Ok(());
+    };
+    write_part(out, from, part)?;
+    write_charges(out, later(from, part.end), more)
+}
+
+// Writes the line of an entry that is done.
+fn write_ticks<K: Sink>(out: &mut K, n: u32, address: u32, row: &Row) -> Result<(), Failed>
+    ensures { WritesLines (K.output out.old) (K.output out.new) (row_line n address row.now ∷ []) result }
+{
+    put(out, &line_row(n, address, row))
+}
+
+/// Writes the lines of the n-th entry that is done, whose half-word address and row these are: the last one before it was done at the
+/// tick `before`, and its segment starts at `start`, if it is the first one of that.
+pub fn write_row<K: Sink>(
+    out: &mut K,
+    n: u32,
+    address: u32,
+    row: &Row,
+    before: u64,
+    start: u64,
+) -> Result<(), Failed>
+    ensures { WritesLines (K.output out.old) (K.output out.new) (row_lines n address row.now before start) result }
+{
+    write_ticks(out, n, address, row)?;
+    write_charges(out, before, &parts(start, row))
+}
