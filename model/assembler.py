@@ -111,9 +111,9 @@ def place_of(said, location, value):
     if name == 'END':
         return None, location
     if name == 'SYN':
-        return value % ADDRESSES, location
+        return value, location
     if name == 'SLC':
-        return value % ADDRESSES, value
+        return value, value
     if name == 'DD':
         return location, location + said.parts['length']
     unit = 64 if name in ('XW', 'DR') else 32
