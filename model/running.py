@@ -31,7 +31,7 @@ class Draw(decks.Draw):
         return self.some(40, DATA + self.randrange(4), 40, DATA + self.randrange(16),
                          5, CODE + self.randrange(self.code),
                          self.faults, self.choice([31, 32, 98303, 98304]),
-                         self.registers, self.some(1, self.randrange(32), 1, 11), 2, 65535 + self.randrange(4))
+                         self.registers, self.some(1, self.randrange(32), 1, 11), 4, 65535 + self.randrange(4))
 
     def bit(self):
         return self.some(5, 0, 2, 32, 3, self.randrange(64))
@@ -111,7 +111,7 @@ def mixed(d):
 
 
 def with_orders(d):
-    return d.some(3, on_index(d), 3, on_field(d), 2, branch(d), 3, order(d), 1, 'BEW')
+    return d.some(6, ahead(d), 1, branch(d), 3, order(d), 1, 'BEW')
 
 
 def any_word(d):
@@ -164,7 +164,9 @@ def deck_of(d, statement, table_statement, enabled, count):
 
 
 def table_entry(d):
-    return d.some(3, 'NOP', 2, on_index(d), 1, on_field(d), 2, branch(d), 1, f'BD,{d.place()}', 1, move(d), 1, order(d))
+    own = f'{d.choice(INDEX_READING)},$X{d.randrange(8)},$IND'      # the indicator that is taken is off in it
+    return d.some(3, 'NOP', 2, on_index(d), 1, on_field(d), 2, branch(d), 1, f'BD,{d.place()}', 1, move(d), 1, order(d),
+                  1, own)
 
 
 def delays(d):
