@@ -4,7 +4,6 @@ pub mod AloneLemmas
 pub mod SlotLemmas
 pub mod PushLemmas
 pub mod DoneLemmas
-pub mod OperandSlots
 pub mod UndoLemmas
 pub mod Edits
 pub mod FillLemmas

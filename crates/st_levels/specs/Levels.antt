@@ -1,8 +1,7 @@
 -- The levels of a machine: entries that are prepared and not done, with their planned rows.
-use Rattle.std.specs.Prelude.{ℕ, ◌≡◌, ◌+◌, ◌-◌, ◌≤◌, ◌<◌, Bool, false, ◌==◌, if◌then◌else◌, List, [], ◌∷◌, length, slice_get, slice_index_or, All, Option, None, Some, IfSome}
-use Rattle.st_state.specs.Machine.{Machine, word}
+use Rattle.std.specs.Prelude.{ℕ, ◌≡◌, ◌+◌, ◌-◌, ◌≤◌, ◌<◌, Bool, false, ◌==◌, if◌then◌else◌, List, [], ◌∷◌, length, All, Option, None, Some}
+use Rattle.st_state.specs.Machine.{Machine}
 use Rattle.st_prep.specs.Plan.{plan}
-use Rattle.st_prep.specs.FewWords.{is_transmission}
 use Rattle.st_prep.specs.Ranges.{IsPrepared}
 use Rattle.st_exec.specs.Completion.{guess, is_missed}
 use Rattle.st_rows.specs.Rows.{row, after, fills}
@@ -68,15 +67,6 @@ is_due (q ∷ qs) now = q.c == now
 abbrev pub oldest_front : List Plan → Front → Front
 oldest_front [] last = last
 oldest_front (q ∷ qs) last = q.front.value
-
--- the operand words of a level are in its slots, as they stand in the state s; T and SWAP take theirs from storage
-pub record HasOperands (s : Machine) (level : Level) : Type 0 where
-  pub slots : is_transmission level.prepared.instr ≡ false → (k : ℕ) → k < level.prepared.reads.len → k < 2 →
-      slice_index_or level.have k None ≡ Some (word s (level.prepared.reads.first + k))
-
--- there is an oldest level, and its operand words are in its slots
-abbrev pub IsOldestReady : Machine → LevelsView → Type 0
-IsOldestReady s v = (0 < length v.ring) × IfSome (slice_get v.ring 0) (HasOperands s)
 
 -- what is told of the next entry of the state s behind the front f when it is done
 pub record IsCompleted (ds : List ℕ) (n : ℕ) (t : Option ℕ) (s : Machine) (f : Front) (done : Completed) : Type 0 where

@@ -12,16 +12,16 @@ ghost use Rattle.st_rows.specs.declared.front.Front.{Front as FrontOf};
 ghost use Rattle.st_segment.specs.Entries.{entry};
 ghost use Rattle.st_segment.specs.Guesses.{guesses, table_behind};
 ghost use Rattle.st_segment.specs.Alone.{RunAhead};
-ghost use Rattle.st_levels.specs.Levels.{LevelsView, AreSound, AreAhead, AreNotDone, HasOperands, IsOldestReady, IsCompleted, is_due as is_due_of};
+ghost use Rattle.st_levels.specs.Levels.{LevelsView, AreSound, AreAhead, AreNotDone, IsCompleted, is_due as is_due_of};
 ghost use Rattle.st_levels.specs.PlannedRows.{planned};
 ghost use Rattle.st_levels.specs.Slots.{register_in};
 
 use crate::filling::fill_all;
 use crate::plans::{Plan, Plans};
-use crate::slots::{change, missed, put_operands, registers};
-use st_exec::complete;
+use crate::slots::{change, missed, registers};
+use st_exec::complete_in;
 use st_prep::{Prepared, index_words};
-use st_ring::{Level, SpecRing};
+use st_ring::SpecRing;
 use st_rows::{Filled, Front};
 use st_state::State;
 use std::marker::Model;
@@ -45,8 +45,6 @@ pub struct Levels<const N: usize> {
     ring: SpecRing<N>,
     plans: Plans,
     x: [u64; 16],
-    // Room for the operands of an entry that is done.
-    operands: [u64; 32],
 }
 
 // Clauses see the levels and the planned rows, oldest first, and the index words.
@@ -71,7 +69,6 @@ impl<const N: usize> Levels<N> {
             ring: SpecRing::new(),
             plans: Plans::new(),
             x,
-            operands: [0; 32],
         }
     }
 
@@ -150,15 +147,16 @@ impl<const N: usize> Levels<N> {
 
     /// Whether the oldest level is done at this tick.
     pub fn is_due(&self, now: u64) -> bool
-        ensures { result ≡ is_due_of self.now.plans now }
+        ensures value { result ≡ is_due_of self.now.plans now }
+        ensures some { result ≡ true → 0 < length self.now.ring }
     {
         self.len() > 0 && self.plans.get(0).c == now
     }
 
-    /// The oldest level is done: its entry is executed by the operands in its slots, and it is taken away. Where it is done alone the
-    /// index words become those of the state. There is one, and its operands are there.
+    /// The oldest level is done: its entry is executed by its operands as they stand in the state, and it is taken away. Where it is done alone
+    /// the index words become those of the state. There is one.
     pub fn complete(&mut self, state: &mut State) -> Completed
-        requires ready { IsOldestReady state.old self.old }
+        requires some { 0 < length self.old.ring }
         requires few { state.old.done < 2 ^ 63 }
         ensures { (ds : List ℕ) (n tick : ℕ) (t : Option ℕ) (s : Machine) (f last : FrontOf) →
             IsMachine s → IfSome t (λ i. i < 64) → AreAhead ds n tick t s f last self.old →
@@ -169,7 +167,7 @@ impl<const N: usize> Levels<N> {
         let r = self.plans.get(0).r;
         let level = self.ring.oldest();
         let missed = missed(&level.prepared, state);
-        execute_level(level, &mut self.operands, state);
+        complete_in(&level.prepared, state);
         renew(&mut self.x, level.prepared.serial, state);
         let done = Completed {
             address: level.prepared.place.address,
@@ -211,18 +209,6 @@ impl<const N: usize> Levels<N> {
         self.plans.clear();
         self.ring.undo_into(&mut self.x)
     }
-}
-
-// Executes the entry of a level, by the operands in its slots.
-fn execute_level(level: &Level, operands: &mut [u64; 32], state: &mut State)
-    requires prepared { IsPrepared level.now.prepared }
-    requires operands { HasOperands state.old level.now }
-    requires few { state.old.done < 2 ^ 63 }
-    ensures { (t : Option ℕ) → level.now.prepared ≡ plan_of state.old t →
-        state.new ≡ executed t state.old }
-{
-    put_operands(level, operands, state);
-    complete(&level.prepared, operands, state);
 }
 
 // The index words behind an entry that is done: those of the state where it is done alone, and else as they were.

@@ -44,7 +44,7 @@ returns g c = λ ds n tick t s f last m some h same.
     let first : slice_get v.plans 0 ≡ Some q = sym (ap (λ (w : LevelsView). slice_get w.plans 0) c.self.view_is) ∙ c.get.ensures in
     let is = first-is ds n tick t s f last level rest v.plans q levels first in
     let form : level.prepared ≡ plan s t = is.prepared in
-    let done : c.execute_level.new.state ≡ executed t s = c.execute_level.ensures t (form ∙ ap (λ (u : Machine). plan u t) same)
+    let done : c.complete_in.new.state ≡ executed t s = c.complete_in.ensures.step t (form ∙ ap (λ (u : Machine). plan u t) same)
     ∙ ap (λ (u : Machine). executed t u) (sym same) in
     let count : length v.ring ≡ suc (length rest) = ap length ring in
     let before : v.x ≡ split_words (suc (length rest)) t s = h.index ∙ ap (λ k. split_words k t s) count in
