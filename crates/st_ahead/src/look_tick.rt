@@ -1,5 +1,5 @@
 //! What a tick does to what runs ahead.
-ghost use Rattle.std.specs.Prelude.{◌≡◌, ℕ, ◌+◌, ◌<◌, ◌≤◌, ◌^◌, List, Option, None, true};
+ghost use Rattle.std.specs.Prelude.{◌≡◌, ℕ, ◌+◌, ◌<◌, ◌≤◌, ◌^◌, List, Option, None};
 ghost use Rattle.st_state.specs.Machine.{Machine, word};
 ghost use Rattle.st_exec.specs.Completion.{executed, guess};
 ghost use Rattle.st_rows.specs.Ranges.{AreDelays};
@@ -54,12 +54,12 @@ impl<const N: usize> Look<N> {
         done
     }
 
-    // Operands that come at this tick are put into their levels, of which none is done by then. They are the same in the state that the levels
+    // Operands that are there by this tick are put into their levels, of which none is done by then. They are the same in the state that the levels
     // run ahead of, which may have another counter.
     fn fill(&mut self, state: &State, now: u64)
         ensures { (ds : List ℕ) (tick : ℕ) (t : Option ℕ) (s : Machine) (f : FrontOf) → AreDelays 255 ds →
             IsLook ds N tick now t s f self.old → now ≡ tick + 1 → now < (row ds N f (entry t s)).c →
-            ((w : ℕ) → 32 ≤ w → word state.now w ≡ word s w) →
+            ((w : ℕ) → word state.now w ≡ word s w) →
             IsLook ds N now now t s f self.new × (self.new.port ≡ self.old.port) }
     {
         self.levels.fill(state, now);

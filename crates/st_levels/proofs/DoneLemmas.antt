@@ -13,7 +13,7 @@ use Rattle.st_segment.specs.Guesses.{guesses, after_early_change, split_words}
 use Rattle.st_segment.specs.Alone.{RunAhead}
 use Rattle.st_segment.proofs.GuessLemmas.{behind-none}
 use Rattle.st_segment.proofs.IndexLemmas.{guess-past, split-change}
-use Rattle.st_levels.specs.Levels.{IsLevel, AreLevels, AreAhead}
+use Rattle.st_levels.specs.Levels.{IsLevel, AreLevels, AreAhead, AreFull}
 use Rattle.st_levels.specs.declared.plans.Plan.{Plan}
 
 pub split-behind : (k : ℕ) (t : Option ℕ) (s : Machine) → split_words (suc (suc k)) t s ≡ split_words (suc k) None (guess t s)
@@ -65,3 +65,9 @@ unfolding AreLevels
 first-is ds n tick t s f last level ring [] q h first = absurd h
 first-is ds n tick t s f last level ring (r ∷ rs) q h first =
     let same : r ≡ q = cc first in subst (λ (p : Plan). IsLevel ds n tick t s f level p) same h.0
+
+-- they have all words that are there
+pub full-behind : (ds : List ℕ) (n tick : ℕ) (t : Option ℕ) (s : Machine) (f : Front) (level : Level) (ring : List Level)
+    → AreFull ds n tick t s f (level ∷ ring) → AreFull ds n tick None (guess t s) (after ds n f (entry t s)) ring
+unfolding AreFull
+full-behind ds n tick t s f level ring full = full.1

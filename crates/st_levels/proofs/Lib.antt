@@ -1,7 +1,6 @@
 pub mod LevelLemmas
 pub mod WriterLemmas
 pub mod AloneLemmas
-pub mod SlotLemmas
 pub mod PushLemmas
 pub mod DoneLemmas
 pub mod UndoLemmas

@@ -13,9 +13,9 @@ use Rattle.st_ring.specs.declared.level.Level.{Level}
 use Rattle.st_segment.specs.Entries.{entry}
 use Rattle.st_segment.specs.Guesses.{split_words}
 use Rattle.st_segment.specs.Alone.{RunAhead}
-use Rattle.st_levels.specs.Levels.{LevelsView, AreLevels, AreAhead}
+use Rattle.st_levels.specs.Levels.{LevelsView, AreLevels, AreAhead, AreFull}
 use Rattle.st_levels.specs.declared.plans.Plan.{Plan}
-use Rattle.st_levels.proofs.DoneLemmas.{levels-behind, first-is}
+use Rattle.st_levels.proofs.DoneLemmas.{levels-behind, first-is, full-behind}
 use Rattle.st_levels.proofs.levels.Levels.complete.Goals as goal
 
 pub invariant_of-self : goal.invariant_of-self
@@ -65,4 +65,5 @@ returns g c = λ ds n tick t s f last m some h same.
             ∙ ap₂ (λ (p : Prepared) (u : Machine). if is_missed p u then Some p.following else None) form (sym same);
       },
       subst P (sym plans) ahead,
+      λ full. full-behind ds n tick t s f level rest (subst (λ (r : List Level). AreFull ds n tick t s f r) ring full),
     )
