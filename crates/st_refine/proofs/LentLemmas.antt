@@ -24,6 +24,7 @@ use Rattle.st_segment.proofs.GuessLemmas.{behind-none}
 use Rattle.st_levels.specs.Slots.{fill_tick, is_there, slot_of, slots_of}
 use Rattle.st_levels.specs.Levels.{AreLevels}
 use Rattle.st_levels.specs.declared.plans.Plan.{Plan}
+use Rattle.st_levels.proofs.FillLemmas.{kept-there}
 use Rattle.st_levels.proofs.UndoLemmas.{levels-keep}
 use Rattle.st_ahead.specs.Overlap.{Overlap, seen, oldest_row, levels_of, last_tick}
 use Rattle.st_ahead.specs.Shown.{IsLevelOf, AreLevelsOf, index_of, shown}
@@ -152,7 +153,7 @@ levels-from ds n tick t s f (x ∷ xs) are = (
   record {
     prepared = are.0.prepared;
     p = are.0.p;
-    have = are.0.have;
+    have = record { first = _; second = _; slots = are.0.have; kept_first = kept-there _; kept_second = kept-there _ };
     front = refl;
     r = refl;
     c = refl;
