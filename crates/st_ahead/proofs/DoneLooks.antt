@@ -1,7 +1,7 @@
 -- What runs ahead once the oldest entry is done, and once the operands that come at the tick are there.
 use Rattle.std.proofs.Common.{◌≡◌, ℕ, zero, suc, ◌+◌, ◌*◌, ◌<◌, ◌≤◌, Bool, true, false, not, ◌&&◌, ◌||◌, List, [], ◌∷◌, ◌++◌, append_assoc, length, Option, None, refl, sym, subst, ◌∙◌, ap, arith}
 use Rattle.std.specs.Prelude.{All, IfSome, ◌==◌, if◌then◌else◌}
-use Rattle.std.proofs.lemmas.List.Elements.{All-nil, All-head, All-tail}
+use Rattle.std.proofs.lemmas.List.Elements.{All-nil, All-head, All-tail, All-weaker}
 use Rattle.std.proofs.lemmas.Bool.{and_parts, eqb-true, ne_eqb}
 use Rattle.st_state.specs.Machine.{Machine, IsMachine}
 use Rattle.st_prep.specs.Fetch.{place_of}
@@ -23,7 +23,7 @@ use Rattle.st_segment.proofs.GuessLemmas.{guess-machine, behind-none}
 use Rattle.st_segment.proofs.StepLemmas.{guess-alone}
 use Rattle.st_way.specs.Way.{IsOnTheWay}
 use Rattle.st_way.proofs.Wanted.{way-done}
-use Rattle.st_levels.specs.Levels.{LevelsView, AreLevels, AreAhead}
+use Rattle.st_levels.specs.Levels.{LevelsView, AreLevels, AreAhead, AreFull}
 use Rattle.st_levels.specs.declared.plans.Plan.{Plan}
 use Rattle.st_levels.proofs.LevelLemmas.{levels-front}
 use Rattle.st_levels.proofs.OrderLemmas.{after-c}
@@ -31,6 +31,7 @@ use Rattle.st_next.specs.Going.{known_count}
 use Rattle.st_next.specs.Progress.{IsNext, Rests, Waits, reads_so_far}
 use Rattle.st_next.specs.declared.next.Next.{Next}
 use Rattle.st_ahead.specs.Look.{LookView, IsLook, IsNextIf, is_open, count, asked_ahead}
+use Rattle.st_ahead.specs.Going.{IsGoing}
 use Rattle.st_ahead.proofs.Openings.{first-none, so-far}
 use Rattle.st_ahead.proofs.LevelTicks.{done-later, behind-soon, same-count, prepared-still, done-after}
 
@@ -68,15 +69,16 @@ next-same ds n now t s v levels same h =
 -- ---- at a tick at which no entry is done, or once it is
 
 pub look-filled : (ds : List ℕ) (n tick now : ℕ) (t : Option ℕ) (s : Machine) (f : Front) (v : LookView) (levels : LevelsView)
-    → IsLook ds n tick now t s f v → AreAhead ds n now t s f v.front levels → now < (row ds n f (entry t s)).c
+    → IsLook ds n tick now t s f v → AreAhead ds n now t s f v.front levels → AreFull ds n now t s f levels.ring → now < (row ds n f (entry t s)).c
     → IsLook ds n now now t s f (record v { levels = levels })
-look-filled ds n tick now t s f v levels h ahead late =
+look-filled ds n tick now t s f v levels h ahead full late =
     let same : length levels.ring ≡ count v =
     same-count ds n tick now t s f v.front v.levels.ring levels.ring v.levels.plans levels.plans h.machine h.indicator h.ahead.levels ahead.levels in
     record {
       machine = h.machine;
       indicator = h.indicator;
       ahead = ahead;
+      full = full;
       prepared = prepared-still ds n tick now now t s f v.front v.levels.ring levels.ring v.levels.plans levels.plans h.ahead.levels ahead.levels same h.prepared;
       not_done = done-after ds n now now t s f v.front levels.ring levels.plans h.machine h.indicator ahead.levels late;
       oldest = h.oldest;
@@ -99,6 +101,38 @@ nothing-filled ds n a b t s f last [] [] empty h = (h, All-nil (λ (q : Plan). b
 nothing-filled ds n a b t s f last [] (q ∷ qs) empty h = absurd h
 nothing-filled ds n a b t s f last (level ∷ levels) plans empty h = absurd (omega (arith, empty))
 
+-- the same while it goes on
+pub going-filled : (ds : List ℕ) (n now rest : ℕ) (t : Option ℕ) (s : Machine) (f : Front) (v : LookView) (levels : LevelsView)
+    → IsGoing ds n now rest t s f v → AreAhead ds n now t s f v.front levels → levels.plans ≡ v.levels.plans
+    → IsGoing ds n now rest t s f (record v { levels = levels })
+going-filled ds n now rest t s f v levels h ahead plans =
+    let same : length levels.ring ≡ count v =
+    same-count ds n now now t s f v.front v.levels.ring levels.ring v.levels.plans levels.plans h.machine h.indicator h.ahead.levels ahead.levels in
+    let before = All-weaker (λ (level : Level). level.p ≤ now) (λ level. level.p < now + 1) (λ level p. omega (arith, p)) v.levels.ring h.prepared in
+    let after_ = prepared-still ds n now now (now + 1) t s f v.front v.levels.ring levels.ring v.levels.plans levels.plans h.ahead.levels ahead.levels same before in
+    record {
+      machine = h.machine;
+      indicator = h.indicator;
+      ahead = ahead;
+      prepared = All-weaker (λ (level : Level). level.p < now + 1) (λ level. level.p ≤ now) (λ level p. omega (arith, p)) levels.ring after_;
+      not_done = subst (λ (rows : List Plan). All (λ (q : Plan). now < q.c) rows) (sym plans) h.not_done;
+      oldest = h.oldest;
+      tight = h.tight;
+      start = h.start;
+      early = subst (λ k. v.front.c ≤ now + 9 + 16576 * k) (sym same) h.early;
+      next = next-same ds n rest t s v levels same h.next;
+      late = h.late;
+      way = subst (λ k. IsOnTheWay ds now (asked_ahead ds n k t s f ++ reads_so_far ds v.front v.next) f.bus v.port) (sym same) h.way;
+      room = h.room;
+      near = h.near;
+      free = h.free;
+    }
+
+full-without : (ds : List ℕ) (n tick : ℕ) (t : Option ℕ) (s : Machine) (f : Front) (ring : List Level) → length ring ≡ 0 → AreFull ds n tick t s f ring
+unfolding AreFull
+full-without ds n tick t s f [] empty = tt
+full-without ds n tick t s f (level ∷ levels) empty = absurd (omega (arith, empty))
+
 pub look-without : (ds : List ℕ) (n tick now : ℕ) (t : Option ℕ) (s : Machine) (f : Front) (v : LookView) → count v ≡ 0
     → IsLook ds n tick now t s f v → IsLook ds n now now t s f v
 look-without ds n tick now t s f v empty h =
@@ -107,6 +141,7 @@ look-without ds n tick now t s f v empty h =
       machine = h.machine;
       indicator = h.indicator;
       ahead = record { levels = levels.0; index = h.ahead.index; run_ahead = h.ahead.run_ahead };
+      full = full-without ds n now t s f v.levels.ring empty;
       prepared = h.prepared;
       not_done = levels.1;
       oldest = h.oldest;
@@ -258,9 +293,11 @@ front-left ds n (suc k) t s f last none_left h = absurd (omega (arith, none_left
 
 pub look-done : (ds : List ℕ) (n tick now : ℕ) (t : Option ℕ) (s u : Machine) (f : Front) (v : LookView) (levels : LevelsView) (b : Bool)
     → AreDelays 255 ds → IsLook ds n tick now t s f v → 1 ≤ count v → (row ds n f (entry t s)).c ≡ now
-    → AreAhead ds n tick None (guess t s) (after ds n f (entry t s)) v.front levels → b ≡ is_alone v levels → u ≡ executed t s
+    → AreAhead ds n tick None (guess t s) (after ds n f (entry t s)) v.front levels
+    → (AreFull ds n tick t s f v.levels.ring → AreFull ds n tick None (guess t s) (after ds n f (entry t s)) levels.ring)
+    → b ≡ is_alone v levels → u ≡ executed t s
     → IsLook ds n tick now None (guess t s) (after ds n f (entry t s)) (record v { levels = levels; next = next_behind u v b })
-look-done ds n tick now t s u f v levels b are h some due ahead e done =
+look-done ds n tick now t s u f v levels b are h some due ahead full e done =
     let entry_ = entry t s in
     let s' = guess t s in
     let f' = after ds n f entry_ in
@@ -283,6 +320,7 @@ look-done ds n tick now t s u f v levels b are h some due ahead e done =
       machine = machine;
       indicator = tt;
       ahead = ahead;
+      full = full h.full;
       prepared = left.1;
       not_done = done-after ds n tick tick None s' f' v.front levels.ring levels.plans machine tt ahead.levels (omega (arith, late, later, due));
       oldest = tight;
@@ -305,12 +343,14 @@ look-done ds n tick now t s u f v levels b are h some due ahead e done =
 -- the same where it is seen through the whole, and whatever is said of whether the next entry is behind one that is done alone
 pub all-done : (ds : List ℕ) (n tick now : ℕ) (t : Option ℕ) (s u : Machine) (f : Front) (v old : LookView) (levels : LevelsView) (b : Bool)
     → v ≡ old → AreDelays 255 ds → IsLook ds n tick now t s f old → 0 < count old → (row ds n f (entry t s)).c ≡ now
-    → AreAhead ds n tick None (guess t s) (after ds n f (entry t s)) v.front levels → is_alone v levels ≡ b → u ≡ executed t s
+    → AreAhead ds n tick None (guess t s) (after ds n f (entry t s)) v.front levels
+    → (AreFull ds n tick t s f v.levels.ring → AreFull ds n tick None (guess t s) (after ds n f (entry t s)) levels.ring)
+    → is_alone v levels ≡ b → u ≡ executed t s
     → let w = record v { levels = levels; next = next_behind u v b } in
     IsLook ds n tick now None (guess t s) (after ds n f (entry t s)) w × (w.port ≡ old.port)
-all-done ds n tick now t s u f v old levels b is are h some due ahead e done = (
+all-done ds n tick now t s u f v old levels b is are h some due ahead full e done = (
   look-done ds n tick now t s u f v levels b are (subst (λ (w : LookView). IsLook ds n tick now t s f w) (sym is) h)
-      (subst (λ (w : LookView). 1 ≤ count w) (sym is) some) due ahead (sym e) done,
+      (subst (λ (w : LookView). 1 ≤ count w) (sym is) some) due ahead full (sym e) done,
   ap (λ (w : LookView). w.port) is,
 )
 
@@ -329,9 +369,10 @@ alone-not true b e = absurd (cc e)
 alone-not false b e = refl
 
 pub all-filled : (ds : List ℕ) (n tick now : ℕ) (t : Option ℕ) (s : Machine) (f : Front) (v old : LookView) (levels : LevelsView)
-    → v ≡ old → IsLook ds n tick now t s f old → AreAhead ds n now t s f v.front levels → now < (row ds n f (entry t s)).c
+    → v ≡ old → IsLook ds n tick now t s f old → AreAhead ds n now t s f v.front levels → AreFull ds n now t s f levels.ring
+    → now < (row ds n f (entry t s)).c
     → let w = record v { levels = levels } in IsLook ds n now now t s f w × (w.port ≡ old.port)
-all-filled ds n tick now t s f v old levels is h ahead late = (
-  look-filled ds n tick now t s f v levels (subst (λ (w : LookView). IsLook ds n tick now t s f w) (sym is) h) ahead late,
+all-filled ds n tick now t s f v old levels is h ahead full late = (
+  look-filled ds n tick now t s f v levels (subst (λ (w : LookView). IsLook ds n tick now t s f w) (sym is) h) ahead full late,
   ap (λ (w : LookView). w.port) is,
 )

@@ -23,7 +23,7 @@ use Rattle.st_rows.specs.declared.entry.Run.{Run}
 use Rattle.st_segment.specs.Entries.{entry}
 use Rattle.st_segment.specs.Guesses.{guesses, split_words}
 use Rattle.st_segment.specs.Alone.{RunAhead}
-use Rattle.st_levels.specs.Levels.{LevelsView, AreLevels, AreAhead}
+use Rattle.st_levels.specs.Levels.{LevelsView, AreLevels, AreAhead, AreFull}
 use Rattle.st_next.specs.Words.{words_so_far, asked_so_far, IsStart, AreFirst}
 use Rattle.st_next.specs.Progress.{IsNext, Rests, Waits, reads_so_far}
 use Rattle.st_next.specs.declared.next.Next.{Next}
@@ -63,6 +63,10 @@ no-levels ds n tick t s f last v ring plans index front = record {
   index = rw ring index;
   run_ahead = rw ring tt;
 }
+
+no-slots : (ds : List ℕ) (n tick : ℕ) (t : Option ℕ) (s : Machine) (f : Front) (ring : List Level) → ring ≡ [] → AreFull ds n tick t s f ring
+unfolding AreFull
+no-slots ds n tick t s f ring none = rw none tt
 
 -- ---- no words
 
@@ -140,6 +144,7 @@ opening-looks ds n tick now start t s banks v is machine some early before soon 
       machine = machine;
       indicator = some;
       ahead = no-levels ds n tick t s f v.front v.levels is.ring is.plans is.index front;
+      full = no-slots ds n tick t s f v.levels.ring is.ring;
       prepared = rw is.ring (All-nil (λ (level : Level). level.p < now));
       not_done = rw is.plans (All-nil (λ (q : Plan). tick < q.c));
       oldest = tight;

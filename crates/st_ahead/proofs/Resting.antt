@@ -15,7 +15,7 @@ use Rattle.st_segment.specs.Entries.{entry}
 use Rattle.st_segment.specs.Ahead.{ahead, prepared_before}
 use Rattle.st_way.specs.Way.{IsOnTheWay}
 use Rattle.st_way.proofs.Turned.{on-served}
-use Rattle.st_levels.specs.Levels.{AreLevels, AreAhead}
+use Rattle.st_levels.specs.Levels.{AreLevels, AreAhead, AreFull}
 use Rattle.st_levels.specs.declared.plans.Plan.{Plan}
 use Rattle.st_next.specs.Progress.{Rests, reads_so_far}
 use Rattle.st_ahead.specs.Look.{LookView, IsLook, IsNextIf, count, is_open, asked_ahead}
@@ -87,14 +87,15 @@ next-rests false ds n now later t s v rests is = is
 pub look-rests : (ds : List ℕ) (n tick now later made known : ℕ) (t : Option ℕ) (s : Machine) (f : Front) (v : LookView)
     → now ≡ tick + 1 → tick ≤ later → later + 1 ≤ made → later + 1 ≤ known → AreFrom made v.port.reads v.port.bus
     → ((k : Option ℕ) (u : Machine) → Rests now k u v.front v.next → Rests (later + 1) k u v.front v.next)
-    → (v.next.planned ≡ true → known ≡ v.next.formed.p) → AreAhead ds n later t s f v.front v.levels
+    → (v.next.planned ≡ true → known ≡ v.next.formed.p) → AreAhead ds n later t s f v.front v.levels → AreFull ds n later t s f v.levels.ring
     → IfSome (slice_get v.levels.plans 0) (λ q. later < q.c) → IsLook ds n tick now t s f v → IsLook ds n later (later + 1) t s f v
-look-rests ds n tick now later made known t s f v is behind unmade unknown from rests planned ahead done h =
+look-rests ds n tick now later made known t s f v is behind unmade unknown from rests planned ahead full done h =
     let same : now + (later - tick) ≡ later + 1 = omega arith in
     record {
       machine = h.machine;
       indicator = h.indicator;
       ahead = ahead;
+      full = full;
       prepared = All-weaker (λ (x : Level). x.p < now) (λ x. x.p < later + 1) (λ x early. omega (arith, early)) v.levels.ring h.prepared;
       not_done = none-done ds n later later t s f v.front v.levels.ring v.levels.plans h.machine h.indicator ahead.levels done;
       oldest = h.oldest;

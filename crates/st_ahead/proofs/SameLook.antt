@@ -21,7 +21,7 @@ use Rattle.st_segment.proofs.SameReading.{same-index, same-place, same-sight}
 use Rattle.st_levels.specs.Levels.{AreNotDone}
 use Rattle.st_levels.specs.declared.plans.Plan.{Plan}
 use Rattle.st_levels.proofs.AloneLemmas.{AwaitsLast, behind-ahead}
-use Rattle.st_levels.proofs.PassLemmas.{ahead-same}
+use Rattle.st_levels.proofs.PassLemmas.{ahead-same, full-same}
 use Rattle.st_next.specs.Words.{AreFirst}
 use Rattle.st_next.specs.Progress.{IsNext, IsFound, IsPlannedIf, Rests, Planned, Waits, Target, reads_so_far}
 use Rattle.st_next.specs.declared.next.Next.{Next}
@@ -113,6 +113,7 @@ look-same ds n tick now s u f v run is m beside =
       machine = m;
       indicator = tt;
       ahead = ahead-same ds n tick s u f v.front v.levels is.machine beside run is.ahead;
+      full = full-same ds n tick s u f v.levels.ring is.machine beside run is.full;
       prepared = is.prepared;
       not_done = is.not_done;
       oldest = is.oldest;

@@ -10,7 +10,7 @@ use Rattle.st_ring.specs.declared.level.Level.{Level}
 use Rattle.st_segment.specs.Entries.{entry}
 use Rattle.st_segment.specs.Ahead.{Ahead, ahead, prepared_before}
 use Rattle.st_segment.specs.Guesses.{split_words}
-use Rattle.st_levels.specs.Levels.{oldest_front, AreLevels}
+use Rattle.st_levels.specs.Levels.{oldest_front, AreLevels, AreFull}
 use Rattle.st_levels.specs.declared.plans.Plan.{Plan}
 use Rattle.st_levels.proofs.LevelLemmas.{length-ahead}
 use Rattle.st_ahead.specs.Overlap.{Overlap, seen, levels_of, last_tick}
@@ -42,14 +42,14 @@ soon-last false now = omega arith
 -- ---- levels
 
 pub levels-zip : (ds : List ℕ) (n tick : ℕ) (t : Option ℕ) (s : Machine) (f last : Front) (ring : List Level) (plans : List Plan)
-    → AreLevels ds n tick t s f last ring plans → AllZip (IsLevelOf ds n tick) ring (ahead ds n (length ring) t s f)
-unfolding AreLevels ahead
-levels-zip ds n tick t s f last [] [] is = tt
-levels-zip ds n tick t s f last [] (q ∷ qs) is = absurd is
-levels-zip ds n tick t s f last (level ∷ levels) [] is = absurd is
-levels-zip ds n tick t s f last (level ∷ levels) (q ∷ qs) is = (
-  record { prepared = is.0.prepared; p = is.0.p; have = is.0.have },
-  levels-zip ds n tick None (guess t s) (after ds n f (entry t s)) last levels qs is.1,
+    → AreLevels ds n tick t s f last ring plans → AreFull ds n tick t s f ring → AllZip (IsLevelOf ds n tick) ring (ahead ds n (length ring) t s f)
+unfolding AreLevels AreFull ahead
+levels-zip ds n tick t s f last [] [] is full = tt
+levels-zip ds n tick t s f last [] (q ∷ qs) is full = absurd is
+levels-zip ds n tick t s f last (level ∷ levels) [] is full = absurd is
+levels-zip ds n tick t s f last (level ∷ levels) (q ∷ qs) is full = (
+  record { prepared = is.0.prepared; p = is.0.p; have = full.0 },
+  levels-zip ds n tick None (guess t s) (after ds n f (entry t s)) last levels qs is.1 full.1,
 )
 
 -- the levels are those that a machine stands for
@@ -66,7 +66,7 @@ showing m v look levels = record { look = look; levels = levels }
 pub showing-ring : (m : Overlap) (v : LookView) → IsShowing m v → AreLevelsOf m v.levels.ring
 showing-ring m v is =
     subst (λ (levels : List Ahead). AllZip (IsLevelOf m.delays m.levels (last_tick m)) v.levels.ring levels) (sym is.levels)
-    (levels-zip m.delays m.levels (last_tick m) m.taken (seen m) m.front v.front v.levels.ring v.levels.plans is.look.ahead.levels)
+    (levels-zip m.delays m.levels (last_tick m) m.taken (seen m) m.front v.front v.levels.ring v.levels.plans is.look.ahead.levels is.look.full)
 
 pub showing-count : (m : Overlap) (v : LookView) → IsShowing m v → length (levels_of m) ≡ count v
 showing-count m v is = ap length is.levels ∙ length-ahead m.delays m.levels (count v) m.taken (seen m) m.front

@@ -17,6 +17,7 @@ use Rattle.st_way.specs.Way.{IsOnTheWay}
 use Rattle.st_way.proofs.Turned.{on-served, near-made}
 use Rattle.st_next.specs.Progress.{IsPlanned, IsPlannedIf, reads_so_far}
 use Rattle.st_ahead.specs.Look.{LookView, IsLook, IsNextIf, count, is_open, asked_ahead}
+use Rattle.st_levels.specs.Levels.{AreFull}
 use Rattle.st_ahead.specs.Going.{IsGoing}
 use Rattle.st_ahead.proofs.Further.{next-known, port-is}
 use Rattle.st_ahead.proofs.Due.{planned-open, front-before}
@@ -51,15 +52,16 @@ same-next false ds n rest t s v port is = is
 
 pub next-look : (ds : List ℕ) (n now : ℕ) (t : Option ℕ) (s : Machine) (f : Front) (v : LookView) (port : PortView) → AreDelays 255 ds
     → (v.next.planned ≡ true → now < v.next.formed.p) → port.bus ≡ made_before ds (now + 1) v.port.reads v.port.bus
-    → port.reads ≡ not_made ds (now + 1) v.port.reads v.port.bus → IsGoing ds n now (now + 1) t s f v
+    → port.reads ≡ not_made ds (now + 1) v.port.reads v.port.bus → IsGoing ds n now (now + 1) t s f v → AreFull ds n now t s f v.levels.ring
     → IsLook ds n now (now + 1) t s f (record { levels = v.levels; front = v.front; port = port; next = v.next })
-next-look ds n now t s f v port are later bus reads is =
+next-look ds n now t s f v port are later bus reads is full =
     let all = asked_ahead ds n (count v) t s f ++ reads_so_far ds v.front v.next in
     let near = near-made 255 (now + 1) ds v.port.reads v.port.bus are is.near in
     record {
       machine = is.machine;
       indicator = is.indicator;
       ahead = is.ahead;
+      full = full;
       prepared = All-weaker (λ (x : Level). x.p ≤ now) (λ x. x.p < now + 1) (λ x h. omega (arith, h)) v.levels.ring is.prepared;
       not_done = is.not_done;
       oldest = is.oldest;

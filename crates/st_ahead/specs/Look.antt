@@ -11,7 +11,7 @@ use Rattle.st_segment.specs.Entries.{entry}
 use Rattle.st_segment.specs.Guesses.{guesses, table_behind}
 use Rattle.st_port.specs.Making.{PortView}
 use Rattle.st_way.specs.Way.{IsOnTheWay}
-use Rattle.st_levels.specs.Levels.{LevelsView, AreAhead, AreNotDone}
+use Rattle.st_levels.specs.Levels.{LevelsView, AreAhead, AreFull, AreNotDone}
 use Rattle.st_next.specs.Going.{known_count}
 use Rattle.st_next.specs.Progress.{IsNext, Rests, reads_so_far}
 use Rattle.st_next.specs.declared.next.Next.{Next}
@@ -47,12 +47,13 @@ IsNextIf false ds n now t s v =
     × (v.next.words ≡ record { bus = v.front.bus; answered = 0; awaited = 0 })
 
 -- What runs ahead of the state s, behind the front f of the oldest entry that is not done; t says whether that is a table instruction. Entries that
--- are prepared before `now` are levels, and those are not done at `tick` or before it.
+-- are prepared before `now` are levels, and those are not done at `tick` or before it; their slots are filled up to `tick`.
 pub record IsLook (ds : List ℕ) (n tick now : ℕ) (t : Option ℕ) (s : Machine) (f : Front) (v : LookView) : Type 0 where
   pub machine : IsMachine s
   pub indicator : IfSome t (λ i. i < 64)
   pub ahead : AreAhead ds n tick t s f v.front v.levels
   pub prepared : All (λ level. level.p < now) v.levels.ring
+  pub full : AreFull ds n tick t s f v.levels.ring
   pub not_done : AreNotDone tick v.levels
   pub oldest : IsTight 255 f
   pub tight : IsTight 255 v.front

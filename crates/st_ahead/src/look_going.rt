@@ -1,9 +1,10 @@
 //! What runs ahead goes on by one tick: the next entry is known further, becomes a level when it is prepared, and a read is made.
 ghost use Rattle.std.specs.Prelude.{◌≡◌, ℕ, ◌+◌, ◌<◌, ◌≤◌, ◌^◌, true, false, Option, None, List, [], ◌++◌, length};
-ghost use Rattle.st_rows.specs.Ranges.{IsEntry};
+ghost use Rattle.st_rows.specs.Ranges.{IsEntry, AreDelays};
 ghost use Rattle.st_next.specs.Progress.{wanted_next};
 ghost use Rattle.st_rows.specs.declared.front.Front.{Front as FrontOf};
 ghost use Rattle.st_port.specs.Parts.{runs_asked};
+ghost use Rattle.st_levels.specs.Levels.{AreFull};
 
 use crate::going_laws::{
     next_entries_are_known, open_levels_run_ahead, planned_entries_become_levels,
@@ -137,12 +138,21 @@ impl<const N: usize> Look<N> {
         );
         self.port
             .ask_following(filled.following, &self.next.entry, now);
-        self.levels
-            .push(&self.next.prepared, &self.front, &filled, state);
+        self.levels.push(&self.next.prepared, &self.front, &filled);
         self.front
             .pass(&self.next.entry, &filled.row, &self.next.words.bus);
         let place = place_behind(&self.next.prepared);
         self.next.restart(place, &self.front);
+    }
+
+    // The slots of what became a level at this tick are filled.
+    fn fill_pushed(&mut self, now: u64, state: &State)
+        ensures going { (ds : List ℕ) (rest : ℕ) (t : Option ℕ) (f : FrontOf) → AreDelays 255 ds →
+            IsGoing ds N now rest t state.now f self.old →
+            IsGoing ds N now rest t state.now f self.new × AreFull ds N now t state.now f self.new.levels.ring }
+        ensures front { self.new.front ≡ self.old.front }
+    {
+        self.levels.fill(state, now);
     }
 
     // The next entry is known further; where it is planned and this is its P, it becomes a level, and the one behind it is known further. What is
@@ -155,13 +165,19 @@ impl<const N: usize> Look<N> {
         ensures going { (t : Option ℕ) (f : FrontOf) →
             IsGoing delays.now N now now t state.now f self.old →
             IsGoing delays.now N now (now + 1) t state.now f self.new }
+        ensures full { (t : Option ℕ) (f : FrontOf) →
+            IsGoing delays.now N now now t state.now f self.old →
+            AreFull delays.now N now t state.now f self.old.levels.ring →
+            AreFull delays.now N now t state.now f self.new.levels.ring }
         ensures later { self.new.next.planned ≡ true → now < self.new.next.formed.p }
     {
         if self.next.planned {
             if self.next.formed.p != now {
                 return;
             }
+            delays.shape();
             self.push(now, state, delays);
+            self.fill_pushed(now, state);
             self.begin(now, state, delays);
             self.advance(now, state, delays);
             return;
@@ -170,7 +186,7 @@ impl<const N: usize> Look<N> {
     }
 
     /// Goes on at the tick `now`, below 2^63, once the entry that is done at it, if there is one, is executed: the next entry is known
-    /// further or becomes a level, and a read is made.
+    /// further or becomes a level, and a read is made. The slots of levels are filled up to this tick, before and after.
     pub fn go_on(&mut self, now: u64, state: &State, delays: &Delays)
         requires some { 1 ≤ N }
         requires few { N ≤ 8 }
@@ -178,6 +194,7 @@ impl<const N: usize> Look<N> {
         requires going { Goes delays.now N now now state.now self.old }
         ensures { (t : Option ℕ) (f : FrontOf) →
             IsGoing delays.now N now now t state.now f self.old →
+            AreFull delays.now N now t state.now f self.old.levels.ring →
             IsLook delays.now N now (now + 1) t state.now f self.new }
     {
         delays.shape();

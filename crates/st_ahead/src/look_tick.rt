@@ -1,12 +1,12 @@
 //! What a tick does to what runs ahead.
-ghost use Rattle.std.specs.Prelude.{◌≡◌, ℕ, ◌+◌, ◌<◌, ◌≤◌, ◌^◌, List, Option, None, true};
+ghost use Rattle.std.specs.Prelude.{◌≡◌, ℕ, ◌+◌, ◌<◌, ◌≤◌, ◌^◌, List, Option, None};
 ghost use Rattle.st_state.specs.Machine.{Machine, word};
 ghost use Rattle.st_exec.specs.Completion.{executed, guess};
 ghost use Rattle.st_rows.specs.Ranges.{AreDelays};
 ghost use Rattle.st_rows.specs.Rows.{row, after};
 ghost use Rattle.st_rows.specs.declared.front.Front.{Front as FrontOf};
 ghost use Rattle.st_segment.specs.Entries.{entry};
-ghost use Rattle.st_levels.specs.Levels.{IsOldestReady, IsCompleted, is_due};
+ghost use Rattle.st_levels.specs.Levels.{IsCompleted};
 ghost use Rattle.st_ahead.specs.Look.{IsLook, count};
 ghost use Rattle.st_ahead.specs.Ticked.{IsTicked};
 
@@ -18,9 +18,8 @@ use st_state::State;
 
 impl<const N: usize> Look<N> {
     /// Makes the tick `now`: the oldest entry is done if it is due, and executed on the state; and operands that come at this tick are put
-    /// into their levels. At a tick at which the state is up to date, with nothing owed; the operands of the oldest entry are there if it is due.
+    /// into their levels. At a tick at which the state is up to date, with nothing owed.
     pub fn tick(&mut self, state: &mut State, now: u64) -> Option<Completed>
-        requires ready { is_due self.old.levels.plans now ≡ true → IsOldestReady state.old self.old.levels }
         requires few { state.old.done < 2 ^ 63 }
         ensures { (ds : List ℕ) (tick : ℕ) (t : Option ℕ) (f : FrontOf) → 1 ≤ N → N ≤ 8 → AreDelays 255 ds →
             IsLook ds N tick now t state.old f self.old → (1 ≤ count self.old → now ≡ tick + 1) →
@@ -38,9 +37,9 @@ impl<const N: usize> Look<N> {
         None
     }
 
-    // The oldest entry is done, of which the operands are there. Behind one that is done alone the place of the next one is known only now.
+    // The oldest entry is done. Behind one that is done alone the place of the next one is known only now.
     fn complete(&mut self, state: &mut State) -> Completed
-        requires ready { IsOldestReady state.old self.old.levels }
+        requires some { 0 < count self.old }
         requires few { state.old.done < 2 ^ 63 }
         ensures { (ds : List ℕ) (tick now : ℕ) (t : Option ℕ) (f : FrontOf) → AreDelays 255 ds →
             IsLook ds N tick now t state.old f self.old → (row ds N f (entry t state.old)).c ≡ now →
@@ -55,12 +54,12 @@ impl<const N: usize> Look<N> {
         done
     }
 
-    // Operands that come at this tick are put into their levels, of which none is done by then. They are the same in the state that the levels
+    // Operands that are there by this tick are put into their levels, of which none is done by then. They are the same in the state that the levels
     // run ahead of, which may have another counter.
     fn fill(&mut self, state: &State, now: u64)
         ensures { (ds : List ℕ) (tick : ℕ) (t : Option ℕ) (s : Machine) (f : FrontOf) → AreDelays 255 ds →
             IsLook ds N tick now t s f self.old → now ≡ tick + 1 → now < (row ds N f (entry t s)).c →
-            ((w : ℕ) → 32 ≤ w → word state.now w ≡ word s w) →
+            ((w : ℕ) → word state.now w ≡ word s w) →
             IsLook ds N now now t s f self.new × (self.new.port ≡ self.old.port) }
     {
         self.levels.fill(state, now);

@@ -6,9 +6,7 @@ use crate::look::Look;
 use crate::look_laws::{looks_are_levels, signals_leave_looks, the_banks_are_left};
 use st_banks::{Delays, LastAnswers};
 use st_exec::{entries_count_as_one, is_at_rest, orders_are_passed_over};
-use st_levels::{
-    levels_are_the_entries_ahead, levels_come_in_order, levels_that_are_due_have_their_operands,
-};
+use st_levels::levels_are_the_entries_ahead;
 use st_prep::place_of;
 use st_ring::SpecRing;
 use st_segment::{entries_are_in_range, steps_are_guesses};
@@ -86,8 +84,6 @@ impl<const N: usize> Machine<N> {
         the_banks_are_left();
         looks_are_levels();
         entries_are_in_range();
-        levels_that_are_due_have_their_operands();
-        levels_come_in_order();
         levels_are_the_entries_ahead();
         steps_are_guesses();
         entries_count_as_one();

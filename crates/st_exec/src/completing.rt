@@ -9,7 +9,7 @@ ghost use Rattle.st_exec.specs.Completion.{is_taken as is_taken_of, target as ta
 use crate::deeds::deed_by;
 use crate::early::{change_early, take};
 use crate::effects::carry_out;
-use crate::operands::operand_field;
+use crate::operands::{first_operands, operand_field};
 use st_bits::part;
 use st_bits::register::INDICATORS;
 use st_format::Instr;
@@ -123,4 +123,18 @@ pub fn complete(p: &Prepared, operands: &[u64; 32], state: &mut State) -> Words
 {
     complete_with(p, &[operands[0], operands[1]], state);
     p.writes
+}
+
+/// Executes an entry that is prepared, by its operands as they stand in the state.
+#[inline(always)]
+pub fn complete_in(p: &Prepared, state: &mut State)
+    requires prepared { IsPrepared p.now }
+    requires few { state.old.done < 2 ^ 63 }
+    ensures state { state.new ≡ completed p.now state.old }
+
+    // The next entry of the state, or its table instruction, is executed by it.
+    ensures step { (t : Option ℕ) → p.now ≡ plan state.old t → state.new ≡ executed t state.old }
+{
+    let operands = first_operands(&p.reads, state);
+    complete_with(p, &operands, state);
 }

@@ -5,8 +5,7 @@ ghost use Rattle.st_prep.specs.Ranges.{IsRuns, AreInside};
 ghost use Rattle.st_exec.specs.Operand.{AreOperands};
 ghost use Rattle.st_exec.specs.Completion.{executed};
 
-use crate::completing::complete_with;
-use crate::operands::first_operands;
+use crate::completing::complete_in;
 use st_prep::{Prepared, Words, plan_in};
 use st_state::State;
 
@@ -52,6 +51,5 @@ pub fn execute(table: Option<u8>, state: &mut State)
 {
     let mut p = Prepared::default();
     plan_in(table, state, &mut p);
-    let operands = first_operands(&p.reads, state);
-    complete_with(&p, &operands, state);
+    complete_in(&p, state);
 }

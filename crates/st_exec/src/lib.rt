@@ -16,7 +16,7 @@ mod step;
 mod transfers;
 mod transmission;
 
-pub use completing::complete;
+pub use completing::{complete, complete_in};
 pub use execution::{execute, read_operands};
 pub use kept::{Trail, one_kept};
 pub use laws::{

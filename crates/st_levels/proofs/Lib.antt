@@ -1,10 +1,8 @@
 pub mod LevelLemmas
 pub mod WriterLemmas
 pub mod AloneLemmas
-pub mod SlotLemmas
 pub mod PushLemmas
 pub mod DoneLemmas
-pub mod OperandSlots
 pub mod UndoLemmas
 pub mod Edits
 pub mod FillLemmas

@@ -19,8 +19,8 @@ use Rattle.st_segment.specs.Guesses.{guesses}
 use Rattle.st_segment.specs.Alone.{RunAhead}
 use Rattle.st_segment.proofs.GuessLemmas.{guess-machine}
 use Rattle.st_segment.proofs.PassedOver.{entry-same, plan-same, passed-over}
-use Rattle.st_levels.specs.Levels.{LevelsView, IsLevel, AreLevels, AreAhead}
-use Rattle.st_levels.specs.Slots.{fill_tick, slot_of, slots_of}
+use Rattle.st_levels.specs.Levels.{LevelsView, IsLevel, AreLevels, AreAhead, AreFull}
+use Rattle.st_levels.specs.Slots.{fill_tick, slot_of, IsKept}
 use Rattle.st_levels.specs.declared.plans.Plan.{Plan}
 
 -- ---- slots
@@ -43,10 +43,11 @@ slot-same ticks p s u tick k h free alike =
     let above : 32 ≤ p.reads.first = (h.ahead free).reads.above (omega arith) in
     sym (alike.words (p.reads.first + k) (λ e. omega (arith, e))))
 
-slots-same : (ticks : List ℕ) (p : Prepared) (s u : Machine) (tick : ℕ) → IsPrepared p → p.serial ≡ false → AreAlikeBesideOrders s u
-    → slots_of ticks p s tick ≡ slots_of ticks p u tick
-slots-same ticks p s u tick h free alike =
-    ap₂ (λ (x y : Option ℕ). x ∷ y ∷ []) (slot-same ticks p s u tick 0 h free alike) (slot-same ticks p s u tick 1 h free alike)
+slot-moved : (ds : List ℕ) (n tick k : ℕ) (s u : Machine) (f : Front) → IsMachine s → AreAlikeBesideOrders s u → (plan s None).serial ≡ false
+    → slot_of (fills ds n f (entry None s)) (plan s None) s tick k ≡ slot_of (fills ds n f (entry None u)) (plan u None) u tick k
+slot-moved ds n tick k s u f m alike free =
+    slot-same (fills ds n f (entry None s)) (plan s None) s u tick k (plan-prepared s None m tt) free alike
+    ∙ ap₂ (λ (x : Entry) (p : Prepared). slot_of (fills ds n f x) p u tick k) (sym (entry-same None s u alike)) (sym (plan-same s u alike free))
 
 -- ---- levels
 
@@ -58,8 +59,13 @@ level-same ds n tick s u f level q m alike free h =
     record {
       prepared = h.prepared ∙ own;
       p = h.p ∙ ap (λ (x : Entry). (row ds n f x).p) e;
-      have = h.have ∙ slots-same (fills ds n f (entry None s)) (plan s None) s u tick (plan-prepared s None m tt) free alike
-          ∙ ap₂ (λ (x : Entry) (p : Prepared). slots_of (fills ds n f x) p u tick) e own;
+      have = record {
+        first = h.have.first;
+        second = h.have.second;
+        slots = h.have.slots;
+        kept_first = subst (λ (there : Option ℕ). IsKept h.have.first there) (slot-moved ds n tick 0 s u f m alike free) h.have.kept_first;
+        kept_second = subst (λ (there : Option ℕ). IsKept h.have.second there) (slot-moved ds n tick 1 s u f m alike free) h.have.kept_second;
+      };
       front = h.front;
       r = h.r ∙ ap (λ (x : Entry). (row ds n f x).r) e;
       c = h.c ∙ ap (λ (x : Entry). (row ds n f x).c) e;
@@ -84,6 +90,19 @@ levels-same ds n tick s u f last (level ∷ levels) (q ∷ qs) m alike free h =
       subst P (sym (entry-same None s u alike))
           (levels-same ds n tick (guess None s) (guess None u) (after ds n f (entry None s)) last levels qs (guess-machine None s m tt)
           (guess-same s u m alike free.0) free.1 h.1),
+    )
+
+-- and have all words that are there
+pub full-same : (ds : List ℕ) (n tick : ℕ) (s u : Machine) (f : Front) (ring : List Level) → IsMachine s
+    → AreAlikeBesideOrders s u → RunAhead (length ring) None s → AreFull ds n tick None s f ring → AreFull ds n tick None u f ring
+unfolding AreFull RunAhead
+full-same ds n tick s u f [] m alike free full = tt
+full-same ds n tick s u f (level ∷ levels) m alike free full =
+    let P : Entry → Type 0 = λ x. AreFull ds n tick None (guess None u) (after ds n f x) levels in (
+      full.0 ∙ ap₂ (λ (x y : Option ℕ). x ∷ y ∷ []) (slot-moved ds n tick 0 s u f m alike free.0) (slot-moved ds n tick 1 s u f m alike free.0),
+      subst P (sym (entry-same None s u alike))
+          (full-same ds n tick (guess None s) (guess None u) (after ds n f (entry None s)) levels (guess-machine None s m tt)
+          (guess-same s u m alike free.0) free.1 full.1),
     )
 
 -- fewer run ahead too

@@ -1,12 +1,10 @@
 -- One more level.
-use Rattle.std.proofs.Common.{◌≡◌, ℕ, suc, ◌-◌, ◌<◌, true, List, [], ◌∷◌, ◌++◌, length, Option, refl, sym, subst, ◌∙◌, ap, ap₂, arith, length-append}
+use Rattle.std.proofs.Common.{◌≡◌, ℕ, suc, ◌-◌, ◌<◌, List, [], ◌∷◌, ◌++◌, length, Option, None, refl, sym, subst, ◌∙◌, ap, ap₂, arith, length-append}
 use Rattle.std.specs.Prelude.{IfSome}
 use Rattle.st_state.specs.Machine.{Machine, IsMachine}
 use Rattle.st_prep.specs.EarlyChange.{words_after}
 use Rattle.st_prep.specs.Plan.{plan}
-use Rattle.st_prep.specs.Ranges.{IsPrepared}
 use Rattle.st_prep.specs.declared.entries.Prepared.{Prepared}
-use Rattle.st_rows.specs.Ranges.{AreDelays}
 use Rattle.st_rows.specs.Rows.{row, after, fills}
 use Rattle.st_rows.specs.declared.front.Front.{Front}
 use Rattle.st_rows.specs.declared.front.Filled.{Filled}
@@ -18,42 +16,25 @@ use Rattle.st_segment.specs.Alone.{RunAhead}
 use Rattle.st_segment.proofs.IndexLemmas.{split-change, index-split}
 use Rattle.st_levels.specs.Levels.{LevelsView, IsLevel, AreLevels, AreAhead}
 use Rattle.st_levels.specs.PlannedRows.{planned}
-use Rattle.st_levels.specs.Slots.{slot_of, register_in}
 use Rattle.st_levels.specs.declared.plans.Plan.{Plan}
 use Rattle.st_levels.proofs.LevelLemmas.{levels-append}
-use Rattle.st_levels.proofs.SlotLemmas.{fill-late, register-slot}
 
--- what is pushed
-abbrev pub pushed_level : Prepared → Filled → Machine → Level
-pushed_level p filled m = prepared_at p filled.row.p (register_in p m 0 ∷ register_in p m 1 ∷ [])
+-- what is pushed: its slots are empty
+abbrev pub pushed_level : Prepared → Filled → Level
+pushed_level p filled = prepared_at p filled.row.p (None ∷ None ∷ [])
 
-module _ (ds : List ℕ) (n tick most : ℕ) (k : Option ℕ) (u m : Machine) (last : Front) (p : Prepared) (g : Front) (filled : Filled)
-    (are : AreDelays most ds) (ranges : IsPrepared p) (front : g ≡ last) (form : p ≡ plan u k)
-    (numbers : filled.row ≡ row ds n last (entry k u)) (ticks : filled.fills ≡ fills ds n last (entry k u)) (now : tick ≡ filled.row.p)
-    (alone : (entry k u).serial ≡ true → m ≡ u) where
-  entry-alone : (plan u k).serial ≡ true → m ≡ u
-  unfolding entry
-  entry-alone e = alone e
-
-  slot-there : (i : ℕ) → i < 2 → register_in p m i ≡ slot_of (fills ds n last (entry k u)) (plan u k) u tick i
-  slot-there i few =
-      let P : Prepared → Type 0 = λ q. IsPrepared q in
-      let own : IsPrepared (plan u k) = subst P form ranges in
-      let here : tick ≡ (row ds n last (entry k u)).p = now ∙ ap (λ r. r.p) numbers in
-      ap (λ (q : Prepared). register_in q m i) form
-      ∙ register-slot (fills ds n last (entry k u)) (plan u k) m u tick i own entry-alone
-      (λ inside above. rw here (fill-late ds n k u last most i are inside few above))
-
-  pub pushed-level : IsLevel ds n tick k u last (pushed_level p filled m) (planned g filled)
-  pushed-level = record {
-    prepared = form;
-    p = ap (λ r. r.p) numbers;
-    have = ap₂ (λ x y. x ∷ y ∷ []) (slot-there 0 (omega arith)) (slot-there 1 (omega arith));
-    front = front;
-    r = ap (λ r. r.r) numbers;
-    c = ap (λ r. r.c) numbers;
-    fills = ticks;
-  }
+pub pushed-level : (ds : List ℕ) (n tick : ℕ) (k : Option ℕ) (u : Machine) (last : Front) (p : Prepared) (g : Front) (filled : Filled)
+    → g ≡ last → p ≡ plan u k → filled.row ≡ row ds n last (entry k u) → filled.fills ≡ fills ds n last (entry k u)
+    → IsLevel ds n tick k u last (pushed_level p filled) (planned g filled)
+pushed-level ds n tick k u last p g filled front form numbers ticks = record {
+  prepared = form;
+  p = ap (λ r. r.p) numbers;
+  have = record { first = None; second = None; slots = refl; kept_first = tt; kept_second = tt };
+  front = front;
+  r = ap (λ r. r.r) numbers;
+  c = ap (λ r. r.c) numbers;
+  fills = ticks;
+}
 
 -- the index words behind one more
 pub split-after : (k : ℕ) (t : Option ℕ) (s : Machine) (p : Prepared) (x : List ℕ) → IsMachine s → IfSome t (λ i. i < 64)

@@ -11,9 +11,10 @@ use Rattle.st_rows.specs.Rows.{fills, fills_of, after}
 use Rattle.st_rows.specs.declared.front.Front.{Front}
 use Rattle.st_ring.specs.declared.level.Level.{Level}
 use Rattle.st_segment.specs.Entries.{entry}
-use Rattle.st_levels.specs.Levels.{LevelsView, IsLevel, AreLevels, AreAhead}
+use Rattle.st_levels.specs.Levels.{LevelsView, IsLevel, AreLevels, AreAhead, AreFull}
 use Rattle.st_levels.specs.Slots.{fill_tick, slot_of, slots_of}
 use Rattle.st_levels.specs.declared.plans.Plan.{Plan}
+use Rattle.st_levels.proofs.FillLemmas.{kept-later}
 
 -- these ticks of operands lie before the tick `now`, or not before the tick `to`
 pub record AreOutside (now to : ℕ) (ticks : List ℕ) : Type 0 where
@@ -84,12 +85,18 @@ module _ (now to tick later : ℕ) (is : now ≡ tick + 1) (behind : tick ≤ la
 
   -- ---- levels
 
-  level-rests : (ds : List ℕ) (n : ℕ) (t : Option ℕ) (s : Machine) (f : Front) (level : Level) (q : Plan) → AreOutside now to q.fills
+  level-rests : (ds : List ℕ) (n : ℕ) (t : Option ℕ) (s : Machine) (f : Front) (level : Level) (q : Plan)
       → IsLevel ds n tick t s f level q → IsLevel ds n later t s f level q
-  level-rests ds n t s f level q out h = record {
+  level-rests ds n t s f level q h = record {
     prepared = h.prepared;
     p = h.p;
-    have = h.have ∙ slots-rest ds n t s f (rw h.fills at out);
+    have = record {
+      first = h.have.first;
+      second = h.have.second;
+      slots = h.have.slots;
+      kept_first = kept-later (fills ds n f (entry t s)) (plan s t) s tick later 0 h.have.first behind h.have.kept_first;
+      kept_second = kept-later (fills ds n f (entry t s)) (plan s t) s tick later 1 h.have.second behind h.have.kept_second;
+    };
     front = h.front;
     r = h.r;
     c = h.c;
@@ -97,22 +104,30 @@ module _ (now to tick later : ℕ) (is : now ≡ tick + 1) (behind : tick ≤ la
   }
 
   levels-rest : (ds : List ℕ) (n : ℕ) (t : Option ℕ) (s : Machine) (f last : Front) (ring : List Level) (plans : List Plan)
-      → ((k : ℕ) (q : Plan) → slice_get plans k ≡ Some q → AreOutside now to q.fills) → AreLevels ds n tick t s f last ring plans
-      → AreLevels ds n later t s f last ring plans
+      → AreLevels ds n tick t s f last ring plans → AreLevels ds n later t s f last ring plans
   unfolding AreLevels
-  levels-rest ds n t s f last [] [] out h = h
-  levels-rest ds n t s f last [] (q ∷ qs) out h = absurd h
-  levels-rest ds n t s f last (level ∷ levels) [] out h = absurd h
-  levels-rest ds n t s f last (level ∷ levels) (q ∷ qs) out h = (
-    level-rests ds n t s f level q (out 0 q refl) h.0,
-    levels-rest ds n None (guess t s) (after ds n f (entry t s)) last levels qs (λ k r at. out (suc k) r at) h.1,
-  )
+  levels-rest ds n t s f last [] [] h = h
+  levels-rest ds n t s f last [] (q ∷ qs) h = absurd h
+  levels-rest ds n t s f last (level ∷ levels) [] h = absurd h
+  levels-rest ds n t s f last (level ∷ levels) (q ∷ qs) h =
+      (level-rests ds n t s f level q h.0, levels-rest ds n None (guess t s) (after ds n f (entry t s)) last levels qs h.1)
 
   pub ahead-rests : (ds : List ℕ) (n : ℕ) (t : Option ℕ) (s : Machine) (f last : Front) (v : LevelsView)
-      → ((k : ℕ) (q : Plan) → slice_get v.plans k ≡ Some q → AreOutside now to q.fills) → AreAhead ds n tick t s f last v
-      → AreAhead ds n later t s f last v
-  ahead-rests ds n t s f last v out h = record {
-    levels = levels-rest ds n t s f last v.ring v.plans out h.levels;
+      → AreAhead ds n tick t s f last v → AreAhead ds n later t s f last v
+  ahead-rests ds n t s f last v h = record {
+    levels = levels-rest ds n t s f last v.ring v.plans h.levels;
     index = h.index;
     run_ahead = h.run_ahead;
   }
+
+  -- no word comes, so that they have all that are there
+  pub full-rests : (ds : List ℕ) (n : ℕ) (t : Option ℕ) (s : Machine) (f last : Front) (ring : List Level) (plans : List Plan)
+      → ((k : ℕ) (q : Plan) → slice_get plans k ≡ Some q → AreOutside now to q.fills) → AreLevels ds n tick t s f last ring plans
+      → AreFull ds n tick t s f ring → AreFull ds n later t s f ring
+  unfolding AreLevels AreFull
+  full-rests ds n t s f last [] plans out h full = tt
+  full-rests ds n t s f last (level ∷ levels) [] out h full = absurd h
+  full-rests ds n t s f last (level ∷ levels) (q ∷ qs) out h full = (
+    full.0 ∙ slots-rest ds n t s f (rw h.0.fills at (out 0 q refl)),
+    full-rests ds n None (guess t s) (after ds n f (entry t s)) last levels qs (λ k r at. out (suc k) r at) h.1 full.1,
+  )

@@ -1,8 +1,7 @@
 -- The levels of a machine: entries that are prepared and not done, with their planned rows.
-use Rattle.std.specs.Prelude.{ℕ, ◌≡◌, ◌+◌, ◌-◌, ◌≤◌, ◌<◌, Bool, false, ◌==◌, if◌then◌else◌, List, [], ◌∷◌, length, slice_get, slice_index_or, All, Option, None, Some, IfSome}
-use Rattle.st_state.specs.Machine.{Machine, word}
+use Rattle.std.specs.Prelude.{ℕ, ◌≡◌, ◌-◌, ◌≤◌, ◌<◌, Bool, false, ◌==◌, if◌then◌else◌, List, [], ◌∷◌, length, All, Option, None, Some}
+use Rattle.st_state.specs.Machine.{Machine}
 use Rattle.st_prep.specs.Plan.{plan}
-use Rattle.st_prep.specs.FewWords.{is_transmission}
 use Rattle.st_prep.specs.Ranges.{IsPrepared}
 use Rattle.st_exec.specs.Completion.{guess, is_missed}
 use Rattle.st_rows.specs.Rows.{row, after, fills}
@@ -11,7 +10,7 @@ use Rattle.st_ring.specs.declared.level.Level.{Level}
 use Rattle.st_segment.specs.Entries.{entry}
 use Rattle.st_segment.specs.Guesses.{split_words}
 use Rattle.st_segment.specs.Alone.{RunAhead}
-use Rattle.st_levels.specs.Slots.{have_of}
+use Rattle.st_levels.specs.Slots.{slot_of, have_of, AreKept}
 use Rattle.st_levels.specs.declared.plans.Plan.{Plan}
 use Rattle.st_levels.specs.declared.levels.Completed.{Completed}
 
@@ -29,12 +28,12 @@ pub record AreSound (n : ℕ) (ring : List Level) (plans : List Plan) : Type 0 w
   pub most : n ≤ 8
   pub prepared : All (λ level. IsPrepared level.prepared) ring
 
--- a level is the next entry of the state s behind the front f, prepared; t says whether it is a table instruction. The operand words are
--- those that are there at the tick
+-- a level is the next entry of the state s behind the front f, prepared; t says whether it is a table instruction. It has no other operand words
+-- than those that are there at the tick
 pub record IsLevel (ds : List ℕ) (n tick : ℕ) (t : Option ℕ) (s : Machine) (f : Front) (level : Level) (q : Plan) : Type 0 where
   pub prepared : level.prepared ≡ plan s t
   pub p : level.p ≡ (row ds n f (entry t s)).p
-  pub have : level.have ≡ have_of ds n tick t s f
+  pub have : AreKept level.have (slot_of (fills ds n f (entry t s)) (plan s t) s tick 0) (slot_of (fills ds n f (entry t s)) (plan s t) s tick 1)
   pub front : q.front.value ≡ f
   pub r : q.r ≡ (row ds n f (entry t s)).r
   pub c : q.c ≡ (row ds n f (entry t s)).c
@@ -48,6 +47,12 @@ AreLevels ds n tick t s f last (level ∷ levels) [] = ⊥
 AreLevels ds n tick t s f last (level ∷ levels) (q ∷ qs) =
     IsLevel ds n tick t s f level q
     × AreLevels ds n tick None (guess t s) (after ds n f (entry t s)) last levels qs
+
+-- they have all operand words that are there at the tick
+unfoldable pub AreFull : List ℕ → ℕ → ℕ → Option ℕ → Machine → Front → List Level → Type 0
+AreFull ds n tick t s f [] = Unit {0}
+AreFull ds n tick t s f (level ∷ levels) =
+    (level.have ≡ have_of ds n tick t s f) × AreFull ds n tick None (guess t s) (after ds n f (entry t s)) levels
 
 -- all of it: only the youngest level may be one that is done alone
 pub record AreAhead (ds : List ℕ) (n tick : ℕ) (t : Option ℕ) (s : Machine) (f last : Front) (v : LevelsView) : Type 0 where
@@ -68,15 +73,6 @@ is_due (q ∷ qs) now = q.c == now
 abbrev pub oldest_front : List Plan → Front → Front
 oldest_front [] last = last
 oldest_front (q ∷ qs) last = q.front.value
-
--- the operand words of a level are in its slots, as they stand in the state s; T and SWAP take theirs from storage
-pub record HasOperands (s : Machine) (level : Level) : Type 0 where
-  pub slots : is_transmission level.prepared.instr ≡ false → (k : ℕ) → k < level.prepared.reads.len → k < 2 →
-      slice_index_or level.have k None ≡ Some (word s (level.prepared.reads.first + k))
-
--- there is an oldest level, and its operand words are in its slots
-abbrev pub IsOldestReady : Machine → LevelsView → Type 0
-IsOldestReady s v = (0 < length v.ring) × IfSome (slice_get v.ring 0) (HasOperands s)
 
 -- what is told of the next entry of the state s behind the front f when it is done
 pub record IsCompleted (ds : List ℕ) (n : ℕ) (t : Option ℕ) (s : Machine) (f : Front) (done : Completed) : Type 0 where

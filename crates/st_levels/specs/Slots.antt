@@ -1,5 +1,5 @@
 -- The operand words that a level has at a tick.
-use Rattle.std.specs.Prelude.{ℕ, ◌+◌, ◌-◌, Bool, not, ◌&&◌, ◌||◌, nat_lt, nat_le, ◌==◌, if◌then◌else◌, List, [], ◌∷◌, get_or, Option, None, Some}
+use Rattle.std.specs.Prelude.{ℕ, ◌≡◌, ◌+◌, ◌-◌, Bool, not, ◌&&◌, ◌||◌, nat_lt, nat_le, if◌then◌else◌, List, [], ◌∷◌, get_or, slice_index_or, Option, None, Some}
 use Rattle.st_bits.specs.declared.register.TheConstants.{FIRST_STORAGE_WORD}
 use Rattle.st_state.specs.Machine.{Machine, word}
 use Rattle.st_prep.specs.Plan.{plan}
@@ -35,25 +35,40 @@ slots_of ticks p s tick = slot_of ticks p s tick 0 ∷ slot_of ticks p s tick 1 
 abbrev pub have_of : List ℕ → ℕ → ℕ → Option ℕ → Machine → Front → List (Option ℕ)
 have_of ds n tick t s f = slots_of (fills ds n f (entry t s)) (plan s t) s tick
 
--- the word that slot k has as soon as the entry is prepared: a register, as it stands in the state s
-abbrev pub register_in : Prepared → Machine → ℕ → Option ℕ
-register_in p s k =
-    if not (is_transmission p.instr) && nat_lt k p.reads.len && nat_lt (p.reads.first + k) FIRST_STORAGE_WORD
-    then Some (word s (p.reads.first + k)) else None
+-- a slot is empty, or has the word that is there
+abbrev pub IsKept : Option ℕ → Option ℕ → Type 0
+IsKept None there = Unit {0}
+IsKept (Some w) there = there ≡ Some w
 
--- the word that comes into slot k at this tick, as it stands in the state s
-abbrev pub coming : List ℕ → Prepared → Machine → ℕ → ℕ → Option ℕ
-coming ticks p s now k =
-    if not (is_transmission p.instr) && nat_lt k p.reads.len && nat_le FIRST_STORAGE_WORD (p.reads.first + k)
-    && fill_tick ticks p (p.reads.first + k) == now
-    then Some (word s (p.reads.first + k)) else None
+-- so are both slots of a level, of which these words are there
+pub record AreKept (have : List (Option ℕ)) (a b : Option ℕ) : Type 0 where
+  pub first : Option ℕ
+  pub second : Option ℕ
+  pub slots : have ≡ first ∷ second ∷ []
+  pub kept_first : IsKept first a
+  pub kept_second : IsKept second b
+
+-- the word that is put into a slot, by what it has: one that is there, where it is empty
+abbrev pub put_of : Option ℕ → Option ℕ → Option ℕ
+put_of None there = there
+put_of (Some w) there = None
+
+-- the word that is put into slot k of a level by the tick `now`, as it stands in the state s
+abbrev pub coming : List ℕ → Level → Machine → ℕ → ℕ → Option ℕ
+coming ticks level s now k = put_of (slice_index_or level.have k None) (slot_of ticks level.prepared s now k)
+
+-- when it came: a register is there when the entry is prepared
+abbrev pub came_at : List ℕ → Level → ℕ → ℕ
+came_at ticks level k =
+    if nat_lt (level.prepared.reads.first + k) FIRST_STORAGE_WORD then level.p
+    else fill_tick ticks level.prepared (level.prepared.reads.first + k)
 
 -- a level with a word in slot k, where one comes
 abbrev pub with_word : Level → ℕ → Option ℕ → ℕ → Level
-with_word level k None now = level
-with_word level k (Some w) now = filled level k w now
+with_word level k None tick = level
+with_word level k (Some w) tick = filled level k w tick
 
--- with the words that come at this tick
+-- with the words that come by the tick `now`
 abbrev pub with_words : List ℕ → Machine → ℕ → Level → Level
 with_words ticks s now level =
-    with_word (with_word level 0 (coming ticks level.prepared s now 0) now) 1 (coming ticks level.prepared s now 1) now
+    with_word (with_word level 0 (coming ticks level s now 0) (came_at ticks level 0)) 1 (coming ticks level s now 1) (came_at ticks level 1)

@@ -4,16 +4,15 @@ ghost use Rattle.st_state.specs.Machine.{Machine, IsMachine, word};
 ghost use Rattle.st_prep.specs.Fetch.{index_words};
 ghost use Rattle.st_prep.specs.BesideOrders.{AreAlikeBesideOrders};
 ghost use Rattle.st_rows.specs.Entries.{latest_done};
-ghost use Rattle.st_rows.specs.Ranges.{IsTight};
 ghost use Rattle.st_rows.specs.Rows.{row, after};
 ghost use Rattle.st_rows.specs.declared.front.Front.{Front};
 ghost use Rattle.st_segment.specs.Entries.{entry};
 ghost use Rattle.st_segment.specs.Guesses.{guesses, table_behind};
 ghost use Rattle.st_segment.specs.Ahead.{ahead, front_behind, prepared_before};
 ghost use Rattle.st_segment.specs.Alone.{RunAhead, is_written};
-ghost use Rattle.st_levels.specs.Levels.{LevelsView, AreAhead, AreNotDone, IsOldestReady, is_due, oldest_front};
+ghost use Rattle.st_levels.specs.Levels.{LevelsView, AreAhead, AreNotDone, is_due, oldest_front};
 
-use st_rows::{operands_are_there_before_completion, rows_are_in_order};
+use st_rows::rows_are_in_order;
 use st_segment::{entries_are_in_range, guesses_leave_the_rest};
 
 /// The last front is the one behind the levels, and the oldest of them stands behind the first one. Where all of them are prepared before a
@@ -64,17 +63,6 @@ pub fn writers_are_seen()
         latest_done last.past w ≤ now → word (guesses (length v.ring) t s) w ≡ word s w }
 {
     guesses_leave_the_rest();
-}
-
-/// A level that is done at the next tick has its operands.
-pub fn levels_that_are_due_have_their_operands()
-    ensures { (ds : List ℕ) (n tick most : ℕ) (t : Option ℕ) (s : Machine) (f last : Front)
-        (v : LevelsView) →
-        IsMachine s → IfSome t (λ i. i < 64) → IsTight most f → AreAhead ds n tick t s f last v →
-        is_due v.plans (tick + 1) ≡ true → IsOldestReady s v }
-{
-    operands_are_there_before_completion();
-    entries_are_in_range();
 }
 
 /// A signal, and an order that brings no card, are passed over: the levels, none of them done alone, are the entries ahead as before.

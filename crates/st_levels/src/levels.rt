@@ -1,5 +1,5 @@
 //! Levels that are pushed, filled, done and undone.
-ghost use Rattle.std.specs.Prelude.{◌≡◌, ℕ, ◌+◌, ◌<◌, ◌≤◌, ◌^◌, length, Option, None, Some, IfSome, List, [], ◌∷◌, ◌++◌, slice_get, false, true};
+ghost use Rattle.std.specs.Prelude.{◌≡◌, ℕ, ◌+◌, ◌<◌, ◌≤◌, ◌^◌, length, Option, None, Some, IfSome, List, [], ◌∷◌, ◌++◌, slice_get, All, false, true};
 ghost use Rattle.st_state.specs.Machine.{Machine, IsMachine, word as word_of};
 ghost use Rattle.st_prep.specs.EarlyChange.{words_after};
 ghost use Rattle.st_prep.specs.Fetch.{index_words as index_words_of};
@@ -12,16 +12,16 @@ ghost use Rattle.st_rows.specs.declared.front.Front.{Front as FrontOf};
 ghost use Rattle.st_segment.specs.Entries.{entry};
 ghost use Rattle.st_segment.specs.Guesses.{guesses, table_behind};
 ghost use Rattle.st_segment.specs.Alone.{RunAhead};
-ghost use Rattle.st_levels.specs.Levels.{LevelsView, AreSound, AreAhead, AreNotDone, HasOperands, IsOldestReady, IsCompleted, is_due as is_due_of};
+ghost use Rattle.st_levels.specs.Levels.{LevelsView, AreSound, AreAhead, AreFull, AreNotDone, IsCompleted, is_due as is_due_of};
 ghost use Rattle.st_levels.specs.PlannedRows.{planned};
-ghost use Rattle.st_levels.specs.Slots.{register_in};
 
 use crate::filling::fill_all;
+use crate::laws::levels_that_are_not_done_run_ahead;
 use crate::plans::{Plan, Plans};
-use crate::slots::{change, missed, put_operands, registers};
-use st_exec::complete;
+use crate::slots::{change, missed};
+use st_exec::complete_in;
 use st_prep::{Prepared, index_words};
-use st_ring::{Level, SpecRing};
+use st_ring::SpecRing;
 use st_rows::{Filled, Front};
 use st_state::State;
 use std::marker::Model;
@@ -45,8 +45,6 @@ pub struct Levels<const N: usize> {
     ring: SpecRing<N>,
     plans: Plans,
     x: [u64; 16],
-    // Room for the operands of an entry that is done.
-    operands: [u64; 32],
 }
 
 // Clauses see the levels and the planned rows, oldest first, and the index words.
@@ -71,7 +69,6 @@ impl<const N: usize> Levels<N> {
             ring: SpecRing::new(),
             plans: Plans::new(),
             x,
-            operands: [0; 32],
         }
     }
 
@@ -113,63 +110,63 @@ impl<const N: usize> Levels<N> {
         self.plans.get(k)
     }
 
-    /// Appends an entry that is prepared at this tick, its P, behind `front`; `filled` is its row. Its register operands are taken from the
-    /// state, and the index word that it changes is changed. There is room.
-    pub fn push(&mut self, prepared: &Prepared, front: &Front, filled: &Filled, state: &State)
+    /// Appends an entry that is prepared behind `front`; `filled` is its row. The index word that it changes is changed, and its slots are
+    /// empty. There is room.
+    pub fn push(&mut self, prepared: &Prepared, front: &Front, filled: &Filled)
         requires room { length self.old.ring < N }
         requires prepared { IsPrepared prepared.now }
         ensures ring { self.new.ring ≡ self.old.ring ++ (record {
           prepared = prepared.now;
           p = filled.now.row.p;
           r = filled.now.row.p;
-          have = register_in prepared.now state.now 0 ∷ register_in prepared.now state.now 1 ∷ [];
+          have = None ∷ None ∷ [];
         }) ∷ [] }
         ensures plans { self.new.plans ≡ self.old.plans ++ planned front.now filled.now ∷ [] }
         ensures index { self.new.x ≡ words_after self.old.x prepared.now.index }
         ensures not_done { (now : ℕ) → AreNotDone now self.old → now < filled.now.row.c →
             AreNotDone now self.new }
 
-        // Where the levels are the entries ahead, none done alone, and it is the next one, they are so with it. One that is done alone is
-        // pushed when all before it are done.
-        ensures ahead { (ds : List ℕ) (n tick most : ℕ) (t : Option ℕ) (s : Machine)
+        // Where the levels are the entries ahead, none done alone, and it is the next one, they are so with it.
+        ensures ahead { (ds : List ℕ) (n tick : ℕ) (t : Option ℕ) (s : Machine)
             (f last : FrontOf) →
             let k = length self.old.ring in let u = guesses k t s in let i = table_behind k t in
-            AreDelays most ds → IsMachine s → IfSome t (λ i. i < 64) →
+            IsMachine s → IfSome t (λ i. i < 64) →
             AreAhead ds n tick t s f last self.old → RunAhead k t s →
-            front.now ≡ last → tick ≡ filled.now.row.p → prepared.now ≡ plan_of u i →
+            front.now ≡ last → prepared.now ≡ plan_of u i →
             filled.now.row ≡ row ds n last (entry i u) →
             filled.now.fills ≡ fills ds n last (entry i u) →
-            ((entry i u).serial ≡ true → state.now ≡ u) →
             AreAhead ds n tick t s f (after ds n last (entry i u)) self.new }
     {
         change(&mut self.x, prepared.index);
         self.ring
-            .push_prepared(prepared, filled.row.p, registers(prepared, state));
+            .push_prepared(prepared, filled.row.p, [None, None]);
         self.plans.push(front, filled);
     }
 
     /// Whether the oldest level is done at this tick.
     pub fn is_due(&self, now: u64) -> bool
-        ensures { result ≡ is_due_of self.now.plans now }
+        ensures value { result ≡ is_due_of self.now.plans now }
+        ensures some { result ≡ true → 0 < length self.now.ring }
     {
         self.len() > 0 && self.plans.get(0).c == now
     }
 
-    /// The oldest level is done: its entry is executed by the operands in its slots, and it is taken away. Where it is done alone the
-    /// index words become those of the state. There is one, and its operands are there.
+    /// The oldest level is done: its entry is executed by its operands as they stand in the state, and it is taken away. Where it is done alone
+    /// the index words become those of the state. There is one.
     pub fn complete(&mut self, state: &mut State) -> Completed
-        requires ready { IsOldestReady state.old self.old }
+        requires some { 0 < length self.old.ring }
         requires few { state.old.done < 2 ^ 63 }
         ensures { (ds : List ℕ) (n tick : ℕ) (t : Option ℕ) (s : Machine) (f last : FrontOf) →
             IsMachine s → IfSome t (λ i. i < 64) → AreAhead ds n tick t s f last self.old →
             s ≡ state.old →
             (state.new ≡ executed t s) × IsCompleted ds n t s f result
-            × AreAhead ds n tick None (guess t s) (after ds n f (entry t s)) last self.new }
+            × AreAhead ds n tick None (guess t s) (after ds n f (entry t s)) last self.new
+            × (AreFull ds n tick t s f self.old.ring → AreFull ds n tick None (guess t s) (after ds n f (entry t s)) self.new.ring) }
     {
         let r = self.plans.get(0).r;
         let level = self.ring.oldest();
         let missed = missed(&level.prepared, state);
-        execute_level(level, &mut self.operands, state);
+        complete_in(&level.prepared, state);
         renew(&mut self.x, level.prepared.serial, state);
         let done = Completed {
             address: level.prepared.place.address,
@@ -182,21 +179,23 @@ impl<const N: usize> Levels<N> {
         done
     }
 
-    /// Puts the operand words that come at this tick into their slots, as they stand in the state.
+    /// Puts the operand words that are there by this tick into their slots, where these are empty, as they stand in the state.
     pub fn fill(&mut self, state: &State, now: u64)
         ensures plans { self.new.plans ≡ self.old.plans }
         ensures index { self.new.x ≡ self.old.x }
         ensures len { length self.new.ring ≡ length self.old.ring }
 
-        // No level is done yet. A word that comes at this tick is written by no older level, so it stands in the state as before the step of the entry.
+        // All are prepared by then, and none is done yet. A word that is there is written by no older level, so it stands in the state as before the
+        // step of the entry.
         ensures ahead { (ds : List ℕ) (n tick most : ℕ) (t : Option ℕ) (s : Machine)
             (f last : FrontOf) →
             AreDelays most ds → IsMachine s → IfSome t (λ i. i < 64) →
             AreAhead ds n tick t s f last self.old →
-            now ≡ tick + 1 → AreNotDone now self.old → ((w : ℕ) → 32 ≤ w →
-            word_of state.now w ≡ word_of s w) →
-            AreAhead ds n now t s f last self.new }
+            tick ≤ now → All (λ level. level.p ≤ now) self.old.ring → AreNotDone now self.old →
+            ((w : ℕ) → word_of state.now w ≡ word_of s w) →
+            AreAhead ds n now t s f last self.new × AreFull ds n now t s f self.new.ring }
     {
+        levels_that_are_not_done_run_ahead();
         fill_all(&mut self.ring, &self.plans, state, now);
     }
 
@@ -211,18 +210,6 @@ impl<const N: usize> Levels<N> {
         self.plans.clear();
         self.ring.undo_into(&mut self.x)
     }
-}
-
-// Executes the entry of a level, by the operands in its slots.
-fn execute_level(level: &Level, operands: &mut [u64; 32], state: &mut State)
-    requires prepared { IsPrepared level.now.prepared }
-    requires operands { HasOperands state.old level.now }
-    requires few { state.old.done < 2 ^ 63 }
-    ensures { (t : Option ℕ) → level.now.prepared ≡ plan_of state.old t →
-        state.new ≡ executed t state.old }
-{
-    put_operands(level, operands, state);
-    complete(&level.prepared, operands, state);
 }
 
 // The index words behind an entry that is done: those of the state where it is done alone, and else as they were.

@@ -11,8 +11,7 @@ mod slots;
 
 pub use laws::{
     levels_are_the_entries_ahead, levels_come_in_order, levels_pass_signals_over,
-    levels_that_are_due_have_their_operands, levels_that_are_not_done_run_ahead,
-    nothing_is_ahead_without_levels, writers_are_seen,
+    levels_that_are_not_done_run_ahead, nothing_is_ahead_without_levels, writers_are_seen,
 };
 pub use levels::{Completed, Levels};
 pub use plans::{Plan, Plans};

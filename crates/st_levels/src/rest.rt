@@ -2,7 +2,7 @@
 ghost use Rattle.std.specs.Prelude.{◌≡◌, ℕ, ◌+◌, ◌<◌, ◌≤◌, slice_get, IfSome, Option};
 ghost use Rattle.st_state.specs.Machine.{Machine};
 ghost use Rattle.st_rows.specs.declared.front.Front.{Front as FrontOf};
-ghost use Rattle.st_levels.specs.Levels.{AreAhead};
+ghost use Rattle.st_levels.specs.Levels.{AreAhead, AreFull};
 
 use crate::levels::Levels;
 
@@ -17,6 +17,9 @@ impl<const N: usize> Levels<N> {
         ensures ahead { (ds : List ℕ) (n tick later : ℕ) (t : Option ℕ) (s : Machine) (f last : FrontOf) →
             AreAhead ds n tick t s f last self.now → now ≡ tick + 1 → tick ≤ later → later < result →
             AreAhead ds n later t s f last self.now }
+        ensures full { (ds : List ℕ) (n tick later : ℕ) (t : Option ℕ) (s : Machine) (f last : FrontOf) →
+            AreAhead ds n tick t s f last self.now → AreFull ds n tick t s f self.now.ring → now ≡ tick + 1 → tick ≤ later → later < result →
+            AreFull ds n later t s f self.now.ring }
     {
         if self.len() == 0 {
             return limit;

@@ -1,18 +1,13 @@
-//! The operand words of a level, and the index word that it changes.
-ghost use Rattle.std.specs.Prelude.{◌≡◌, ℕ, ◌+◌, ◌<◌, ◌≤◌, IfSome, None, Some, if◌then◌else◌, [], ◌∷◌};
+//! What a level changes, and whether its guess was wrong.
+ghost use Rattle.std.specs.Prelude.{◌≡◌, IfSome, None, Some, if◌then◌else◌};
 ghost use Rattle.st_prep.specs.EarlyChange.{words_after};
 ghost use Rattle.st_prep.specs.FewWords.{is_transmission as is_transmission_of};
 ghost use Rattle.st_prep.specs.Ranges.{IsPrepared, IsChange};
-ghost use Rattle.st_exec.specs.Operand.{AreOperands};
 ghost use Rattle.st_exec.specs.Completion.{is_missed as is_missed_of};
-ghost use Rattle.st_levels.specs.Levels.{HasOperands};
-ghost use Rattle.st_levels.specs.Slots.{register_in};
 
-use st_bits::register::FIRST_STORAGE_WORD;
-use st_exec::{is_missed, read_operands};
+use st_exec::is_missed;
 use st_format::Instr;
 use st_prep::{IndexChange, Prepared};
-use st_ring::Level;
 use st_state::State;
 
 // Makes the change of an index word, if there is one.
@@ -30,45 +25,6 @@ pub(crate) fn is_transmission(instr: &Instr) -> bool
     ensures { result ≡ is_transmission_of instr.now }
 {
     matches!(*instr, Instr::Move { .. })
-}
-
-// The word of slot `k` that is there as soon as an entry is prepared: a register.
-fn register(p: &Prepared, k: u8, state: &State) -> Option<u64>
-    requires prepared { IsPrepared p.now }
-    requires slot { k < 2 }
-    ensures { result ≡ register_in p.now state.now k }
-{
-    if is_transmission(&p.instr) || k >= p.reads.len {
-        return None;
-    }
-    let w = p.reads.first + u32::from(k);
-    if w < FIRST_STORAGE_WORD {
-        Some(state.word(w))
-    } else {
-        None
-    }
-}
-
-// The same of both slots.
-pub(crate) fn registers(p: &Prepared, state: &State) -> [Option<u64>; 2]
-    requires { IsPrepared p.now }
-    ensures { result ≡ register_in p.now state.now 0 ∷ register_in p.now state.now 1 ∷ [] }
-{
-    [register(p, 0, state), register(p, 1, state)]
-}
-
-// Puts the operands of a level at the front, those in its slots or, of T and SWAP, those in storage.
-pub(crate) fn put_operands(level: &Level, operands: &mut [u64; 32], state: &State)
-    requires prepared { IsPrepared level.now.prepared }
-    requires operands { HasOperands state.now level.now }
-    ensures { AreOperands level.now.prepared.reads operands.new state.now }
-{
-    if is_transmission(&level.prepared.instr) {
-        *operands = read_operands(level.prepared.reads, state);
-        return;
-    }
-    operands[0] = level.have[0].unwrap_or(0);
-    operands[1] = level.have[1].unwrap_or(0);
 }
 
 // The counter by which what runs ahead of an entry goes on, where the guess of it is wrong.

@@ -106,6 +106,10 @@ module _ (ds : List ℕ) (n now : ℕ) (f : Front) (x : List ℕ) (s : Machine) 
     pub known-own : (w : ℕ) → what ds n now f x s before un due cs contents ≡ GivenWord w false → IsNextOwn before.own before.target (entry k.table k.state) w
     known-own w e = comes-own ds n now f x s before un due cs contents k.table k.state k.indicator k.before k.is_next.read_on w e
 
+    -- it lies in storage
+    pub own-above : (w : ℕ) → what ds n now f x s before un due cs contents ≡ GivenWord w false → 32 ≤ w
+    own-above w e = let it = known-own w e in omega (arith, it.place, known-entry.own.above (omega (arith, it.more)))
+
     own-want : (w : ℕ) → IsNextOwn before.own before.target (entry k.table k.state) w → Rests now k.table k.state f before → now ≤ want_of ds f.past (wanted_from f) before.words
     own-want w is (Planned p) = absurd (cc)
     own-want w is (Waits p late) = omega (arith, late, waits-none f before.target is.none)
@@ -136,6 +140,9 @@ module _ (ds : List ℕ) (n now : ℕ) (f : Front) (x : List ℕ) (s : Machine) 
     target-want (Planned p) = absurd (cc)
     target-want (Waits p late) = omega (arith, late, waits-most f before.target)
     target-want (Target p all none some late) = omega arith
+
+    pub target-above : (w : ℕ) → what ds n now f x s before un due cs contents ≡ GivenWord w true → 32 ≤ w
+    target-above w e = let it = known-target w e in omega (arith, it.place, known-entry.target.above (omega (arith, it.more)))
 
     pub target-asks : (w : ℕ) (after : Next) (reads more : List Read) → what ds n now f x s before un due cs contents ≡ GivenWord w true
         → after ≡ with_target ds n now f x s before un due cs contents w → more ≡ reads ++ read_of ds f.past (max (wanted_from f) f.c) before.words w

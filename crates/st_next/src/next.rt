@@ -221,6 +221,7 @@ impl Next {
     fn ask(&mut self, w: u32, from: u64, front: &Front, delays: &Delays, port: &mut Port)
         requires room { IsEarly front.now self.old.words }
         requires early { from ≤ 2 ^ 64 - 512 }
+        requires storage { 32 ≤ w }
         requires few { length port.old.reads < 40 }
         ensures words { self.new ≡ record self.old {
           words =
@@ -242,6 +243,7 @@ impl Next {
     fn ask_own(&mut self, w: u32, front: &Front, delays: &Delays, port: &mut Port)
         requires words { self.old.own.len ≤ 16 }
         requires room { IsEarly front.now self.old.words }
+        requires storage { 32 ≤ w }
         requires few { length port.old.reads < 40 }
         ensures next { self.new ≡ record self.old {
           words = fetch_word delays.now front.now.past self.old.words w (wanted_from front.now);
@@ -261,6 +263,7 @@ impl Next {
     fn ask_target(&mut self, w: u32, front: &Front, delays: &Delays, port: &mut Port)
         requires words { self.old.target.len ≤ 16 }
         requires room { IsEarly front.now self.old.words }
+        requires storage { 32 ≤ w }
         requires few { length port.old.reads < 40 }
         ensures next { self.new ≡ record self.old {
           words = fetch_word delays.now front.now.past self.old.words w

@@ -1,5 +1,5 @@
 //! The port: reads are asked for, and each is made at the tick at which it is accepted.
-ghost use Rattle.std.specs.Prelude.{◌≡◌, true, ◌+◌, ◌-◌, ◌<◌, ◌≤◌, ◌^◌, ◌==◌, List, [], ◌∷◌, ◌++◌, ℕ, length, All, if◌then◌else◌};
+ghost use Rattle.std.specs.Prelude.{◌≡◌, true, ◌+◌, ◌-◌, ◌<◌, ◌≤◌, ◌^◌, ◌==◌, List, [], ◌∷◌, ◌++◌, ℕ, length, All, IfSome, if◌then◌else◌};
 ghost use Rattle.st_rows.specs.Asked.{data_asked, side_asked, operands_asked, following_asked, are_following_asked, side_count, made_before};
 ghost use Rattle.st_rows.specs.BusTimes.{no_reads};
 ghost use Rattle.st_rows.specs.Ranges.{IsReadable, IsEntry};
@@ -89,7 +89,8 @@ impl Port {
     /// is done later.
     #[tactic(auto, unfolding(st_rows::specs::Asked::side_asked))]
     pub fn ask_side(&mut self, past: &LastEntries, side: Option<u32>, a: u64)
-        requires { length self.old.reads + side_count side ≤ 40 }
+        requires room { length self.old.reads + side_count side ≤ 40 }
+        requires storage { IfSome side (λ w. 32 ≤ w) }
         ensures reads { self.new.reads ≡ self.old.reads ++ side_asked past.now side a }
         ensures bus { self.new.bus ≡ self.old.bus }
     {
@@ -170,7 +171,8 @@ impl Port {
 
     // Asks for a word that is no instruction word, unless an earlier entry writes it that is done later.
     fn ask_data(&mut self, past: &LastEntries, w: u32, tick: u64)
-        requires { length self.old.reads < 40 }
+        requires room { length self.old.reads < 40 }
+        requires storage { 32 ≤ w }
         ensures reads { self.new.reads ≡ self.old.reads ++ data_asked past.now w tick }
         ensures bus { self.new.bus ≡ self.old.bus }
         ensures few { length self.new.reads ≤ length self.old.reads + 1 }

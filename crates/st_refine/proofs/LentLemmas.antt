@@ -21,7 +21,7 @@ use Rattle.st_segment.specs.Alone.{RunAhead}
 use Rattle.st_segment.specs.Guesses.{guesses, table_behind, split_words}
 use Rattle.st_segment.specs.Ahead.{Ahead, next_ahead, ahead, front_behind}
 use Rattle.st_segment.proofs.GuessLemmas.{behind-none}
-use Rattle.st_levels.specs.Slots.{fill_tick, is_there, slot_of, slots_of}
+use Rattle.st_levels.specs.Slots.{fill_tick, is_there, slot_of, slots_of, IsKept as IsSlotKept}
 use Rattle.st_levels.specs.Levels.{AreLevels}
 use Rattle.st_levels.specs.declared.plans.Plan.{Plan}
 use Rattle.st_levels.proofs.UndoLemmas.{levels-keep}
@@ -143,6 +143,11 @@ rows_of ds n (suc k) t s f =
     record { front = record { marker = record {}; value = f }; r = r.r; c = r.c; fills = fills ds n f (entry t s) }
     ∷ rows_of ds n k None (guess t s) (after ds n f (entry t s))
 
+-- a slot that has its word keeps it
+kept-full : (there : Option ℕ) → IsSlotKept there there
+kept-full None = tt
+kept-full (Some w) = refl
+
 levels-from : (ds : List ℕ) (n tick : ℕ) (t : Option ℕ) (s : Machine) (f : Front) (ring : List Level)
     → AllZip (IsLevelOf ds n tick) ring (ahead ds n (length ring) t s f)
     → AreLevels ds n tick t s f (front_behind ds n (length ring) t s f) ring (rows_of ds n (length ring) t s f)
@@ -152,7 +157,7 @@ levels-from ds n tick t s f (x ∷ xs) are = (
   record {
     prepared = are.0.prepared;
     p = are.0.p;
-    have = are.0.have;
+    have = record { first = _; second = _; slots = are.0.have; kept_first = kept-full _; kept_second = kept-full _ };
     front = refl;
     r = refl;
     c = refl;

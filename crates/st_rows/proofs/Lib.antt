@@ -7,5 +7,7 @@ pub mod Stages
 pub mod Tight
 pub mod Turns
 pub mod Within
+pub mod NoteLemmas
+pub mod LogLaws
 pub mod Writers
 mod Shifted

@@ -1,6 +1,6 @@
 -- How late the ticks of an entry can be, stage by stage, where no delay is longer than `most`.
-use Rattle.std.proofs.Common.{ℕ, zero, suc, ◌+◌, ◌-◌, ◌*◌, ◌≤◌, max, true, false, Bool, List, [], ◌∷◌, get_or, Option, None, Some, arith}
-use Rattle.std.specs.Prelude.{◌||◌, if◌then◌else◌}
+use Rattle.std.proofs.Common.{ℕ, zero, suc, ◌+◌, ◌-◌, ◌*◌, ◌<◌, ◌≤◌, max, true, false, Bool, List, [], ◌∷◌, get_or, Option, None, Some, arith}
+use Rattle.std.specs.Prelude.{IfSome, ◌||◌, if◌then◌else◌}
 use Rattle.std.proofs.Math.Nat.{max-le, mul-le-mul_right}
 use Rattle.std.proofs.lemmas.List.Elements.{All-head, All-tail, All-weaker}
 use Rattle.st_fetch.specs.declared.fetched.Fetched.{Fetched}
@@ -15,6 +15,11 @@ use Rattle.st_rows.specs.declared.past.Past.{Past}
 use Rattle.st_rows.specs.declared.fetching.Fetching.{Fetching}
 use Rattle.st_rows.specs.declared.front.Front.{Front}
 use Rattle.st_rows.proofs.Within.{latest-within, bus-weaker, past-weaker, fetching-weaker, reading-weaker, answer-within, read-within, fetch_words-within, read_words-within}
+
+-- an index-side word that is read is one of storage
+pub side-above : (side : Option ℕ) (end : ℕ) → IfSome side (λ w. (32 ≤ w) × (w < end)) → IfSome side (λ w. 32 ≤ w)
+side-above None end inside = tt
+side-above (Some w) end inside = inside.0
 
 -- the bus of a tight front
 pub tight-bus : (most : ℕ) (f : Front) → IsTight most f → IsBusWithin (f.c + 3 * most + 2) f.bus

@@ -1,11 +1,12 @@
 -- The entries that write any word, and the latest writer of a word.
 use Rattle.std.specs.Prelude.{ℕ, zero, suc, Bool, ◌&&◌, ◌||◌, nat_le, nat_lt, if◌then◌else◌, List, [], ◌∷◌, get_or}
 use Rattle.std.specs.Int.{bit_at, bit_not, trailing_zeros, w64}
-use Rattle.std.proofs.Common.{◌≡◌, ◌+◌, ◌*◌, ◌/◌, ◌%◌, ◌^◌, bit_and, ◌<◌, ◌≤◌, true, false, inl, inr, length, refl, ap, sym, ◌∙◌, arith}
+use Rattle.std.proofs.Common.{take, All, ◌≡◌, ◌+◌, ◌*◌, ◌/◌, ◌%◌, ◌^◌, bit_and, ◌<◌, ◌≤◌, true, false, inl, inr, length, refl, ap, sym, ◌∙◌, arith}
 use Rattle.std.proofs.lemmas.Bool.{cases_eq}
 use Rattle.std.proofs.lemmas.Bool.Decides.{nat_tests}
 use Rattle.std.proofs.lemmas.Nat.Bits.{bit_at_lowest, bit_at-suc, bit_at-zero, bit_at-trailing_zeros, bit_at_clear_same, bit_at_clear_other, bit_at_and}
 use Rattle.std.proofs.lemmas.Nat.{and_le_l}
+use Rattle.std.proofs.lemmas.List.Elements.{All-head, All-tail, All-cons, All-take}
 use Rattle.st_rows.specs.Entries.{is_in, is_among, no_words, has_words, writer_bits, latest_done}
 use Rattle.st_rows.specs.declared.past.Past.{Past}
 
@@ -69,6 +70,26 @@ latest-none : (past : List Past) (w : ℕ) → ((i : ℕ) → i < length past �
 unfolding latest_done
 latest-none [] w none = refl
 latest-none (entry ∷ past) w none = rw (none 0 (omega arith)) (latest-none past w (λ i inside. none (suc i) (omega arith)))
+
+pub latest-unwritten : (past : List Past) (w : ℕ) → All (λ (entry : Past). is_among w entry.writes ≡ false) past → 0 ≡ latest_done past w
+unfolding latest_done
+latest-unwritten [] w none = refl
+latest-unwritten (entry ∷ past) w none =
+    rw (All-head (λ (e : Past). is_among w e.writes ≡ false) entry past none)
+    (latest-unwritten past w (All-tail (λ (e : Past). is_among w e.writes ≡ false) entry past none))
+
+-- runs of no words
+pub silent-runs : (w : ℕ) (e : Past) → e.writes.one.len ≡ 0 → e.writes.two.len ≡ 0 → is_among w e.writes ≡ false
+unfolding is_among is_in
+silent-runs w e one two = none-in w e.writes.one.first e.writes.one.len e.writes.two.first e.writes.two.len (rw (one, two) refl)
+
+-- of one entry more
+pub unwritten-put : (w : ℕ) (newest : Past) (past : List Past) → is_in w newest.writes.one ≡ false → is_in w newest.writes.two ≡ false
+    → All (λ (entry : Past). is_among w entry.writes ≡ false) past → All (λ (entry : Past). is_among w entry.writes ≡ false) (newest ∷ take 7 past)
+unfolding is_among
+unwritten-put w newest past one two each =
+    All-cons (λ (e : Past). is_among w e.writes ≡ false) newest (take 7 past) (rw (one, two) refl)
+    (All-take (λ (e : Past). is_among w e.writes ≡ false) 7 past each)
 
 -- where an entry writes it, and no newer one does
 latest-here : (past : List Past) (w i : ℕ) → true ≡ is_among w (nth past i).writes

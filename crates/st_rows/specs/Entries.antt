@@ -1,5 +1,5 @@
 -- Which words are in a run, and when the entry is done that wrote a word last.
-use Rattle.std.specs.Prelude.{◌≡◌, ℕ, ◌<◌, length, ◌+◌, ◌*◌, Bool, ◌&&◌, ◌||◌, nat_lt, nat_le, if◌then◌else◌, List, [], ◌∷◌}
+use Rattle.std.specs.Prelude.{◌≡◌, ℕ, ◌<◌, ◌≤◌, true, false, All, length, ◌+◌, ◌*◌, Bool, ◌&&◌, ◌||◌, nat_lt, nat_le, if◌then◌else◌, List, [], ◌∷◌}
 use Rattle.st_fetch.specs.Queue.{window}
 use Rattle.st_rows.specs.declared.entry.Run.{Run}
 use Rattle.st_rows.specs.declared.entry.Runs.{Runs}
@@ -31,8 +31,13 @@ unfoldable pub latest_done : List Past → ℕ → ℕ
 latest_done [] w = 0
 latest_done (entry ∷ past) w = if is_among w entry.writes then entry.c else latest_done past w
 
--- eight entries in a ring, the newest one at the head, and a bit for each
-pub record IsRing (head : ℕ) (entries : List Past) (bits : ℕ) : Type 0 where
+-- the word w is below low or not below high
+abbrev pub is_outside : ℕ → ℕ → ℕ → Bool
+is_outside low high w = nat_lt w low || nat_le high w
+
+-- eight entries in a ring, the newest one at the head, a bit for each, and bounds between which all words from 32 up lie that they write
+pub record IsRing (head : ℕ) (entries : List Past) (bits low high : ℕ) : Type 0 where
   pub inside : head < 8
   pub whole : length entries ≡ 8
   pub writers : bits ≡ writer_bits (window head 8 entries)
+  pub bounds : (w : ℕ) → 32 ≤ w → is_outside low high w ≡ true → All (λ entry. is_among w entry.writes ≡ false) (window head 8 entries)

@@ -50,6 +50,7 @@ impl Fetching {
         requires room { IsFetchingWithin (2 ^ 64 - 512) self.old }
         requires before { ArePastWithin (2 ^ 64 - 512) past.now }
         requires early { from ≤ 2 ^ 64 - 512 }
+        requires storage { 32 ≤ w }
         ensures after { self.new ≡ fetch_word delays.now past.now self.old w from }
         ensures asked { result ≡ is_unheld self.old.bus w }
     {

@@ -1,5 +1,5 @@
 //! Fronts: what the row of the next entry is computed from.
-ghost use Rattle.std.specs.Prelude.{◌≡◌, ◌+◌, ◌*◌, ◌-◌, ◌<◌, ◌≤◌, ◌^◌, ℕ, max, All, List};
+ghost use Rattle.std.specs.Prelude.{◌≡◌, ◌+◌, ◌*◌, ◌-◌, ◌<◌, ◌≤◌, ◌^◌, ℕ, max, All, IfSome, List};
 ghost use Rattle.st_rows.specs.Asked.{is_inside_asked, are_following_asked};
 ghost use Rattle.st_rows.specs.BusTimes.{requested};
 ghost use Rattle.st_rows.specs.Rows.{opening, wanted_from, fetched, addressed, bus_sided, side_there, prepared as prepared_of};
@@ -275,6 +275,7 @@ impl Front {
 fn side(bus: &mut Bus, delays: &Delays, past: &LastEntries, word: Option<u32>, a: u64) -> u64
     requires room { IsBusWithin (2 ^ 64 - 512) bus.old }
     requires early { a ≤ 2 ^ 64 - 512 }
+    requires storage { IfSome word (λ w. 32 ≤ w) }
     ensures value { result ≡ side_there delays.now past.now bus.old word a }
     ensures after { bus.new ≡ bus_sided delays.now past.now bus.old word a }
 {

@@ -7,6 +7,7 @@ mod entry;
 mod fetching;
 mod front;
 mod laws;
+mod log;
 mod past;
 mod reading;
 
@@ -20,6 +21,7 @@ pub use laws::{
     operands_are_there_before_completion, reads_are_no_later, reads_come_in_order,
     rows_are_in_order, rows_make_their_reads,
 };
+pub use log::{Log, Made};
 pub use past::{LastEntries, Past};
 
 #[cfg(test)]

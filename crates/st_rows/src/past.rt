@@ -1,9 +1,10 @@
 //! What is kept of the entries before.
-ghost use Rattle.std.specs.Prelude.{◌≡◌, ◌∷◌, ◌-◌, ◌<◌, ◌≤◌, take, replicate};
-ghost use Rattle.st_rows.specs.Entries.{no_words, latest_done as latest_done_of};
+ghost use Rattle.std.specs.Prelude.{◌≡◌, ◌∷◌, ℕ, ◌-◌, ◌<◌, ◌≤◌, take, replicate, true, false};
+ghost use Rattle.st_rows.specs.Entries.{no_words, is_in, is_outside, latest_done as latest_done_of};
 ghost use Rattle.st_rows.specs.Rows.{done_before as done_before_of};
 
-use crate::entry::Runs;
+use crate::entry::{Run, Runs};
+use st_bits::register::FIRST_STORAGE_WORD;
 use std::marker::Model;
 
 /// What is kept of an earlier entry of the segment.
@@ -26,6 +27,15 @@ pub struct LastEntries {
     head: usize,
     // A bit for each entry, the lowest one for the newest: whether it writes any word.
     writers: u64,
+    // Between which words all lie that entries of the segment write.
+    bounds: Bounds,
+}
+
+// The words from `low` on and below `high`.
+#[derive(Clone, Copy, Debug)]
+struct Bounds {
+    low: u64,
+    high: u64,
 }
 
 // Clauses see the entries, the newest one first.
@@ -39,7 +49,7 @@ impl Model for LastEntries {
 
     ghost view = { λ last. window last.head 8 last.entries };
 
-    ghost invariant = { λ last. IsRing last.head last.entries last.writers };
+    ghost invariant = { λ last. IsRing last.head last.entries last.writers last.bounds.low last.bounds.high };
 }
 
 impl Default for LastEntries {
@@ -60,6 +70,10 @@ impl LastEntries {
             entries: [Past::default(); KEPT],
             head: 0,
             writers: 0,
+            bounds: Bounds {
+                low: u64::MAX,
+                high: 0,
+            },
         }
     }
 
@@ -71,6 +85,8 @@ impl LastEntries {
         self.entries[self.head] = newest;
         let writes = self.entries[self.head].writes.any();
         self.writers = self.writers % 128 * 2 + u64::from(writes);
+        let bounds = widened(self.bounds, newest.writes.one);
+        self.bounds = widened(bounds, newest.writes.two);
     }
 
     /// The tick at which the entry `n` before is done, 1 to 8; 0 where there was no such entry.
@@ -81,18 +97,19 @@ impl LastEntries {
         self.entries[(self.head + n - 1) % KEPT].c
     }
 
-    /// The tick at which the latest of these entries is done that writes the word `w`, 0 where none does.
+    /// The tick at which the latest of these entries is done that writes the word `w`, from 32 up; 0 where none does.
     #[inline(always)]
     pub fn latest_done(&self, w: u32) -> u64
+        requires storage { 32 ≤ w }
         ensures { result ≡ latest_done_of self.now w }
     {
-        if self.writers == 0 {
+        if lies_outside(self.bounds, w) {
             return 0;
         }
         self.latest_writer(w)
     }
 
-    // The same, where some entry writes any word.
+    // The same, whatever the bounds.
     #[inline(always)]
     fn latest_writer(&self, w: u32) -> u64
         ensures { result ≡ latest_done_of self.now w }
@@ -107,5 +124,32 @@ impl LastEntries {
             left &= !(1 << newest);
         }
         0
+    }
+}
+
+// Whether a word lies outside the bounds.
+#[inline(always)]
+fn lies_outside(bounds: Bounds, w: u32) -> bool
+    ensures { result ≡ is_outside bounds.low bounds.high w }
+{
+    let word = u64::from(w);
+    word < bounds.low || word >= bounds.high
+}
+
+// The bounds with the words of a run, but for its registers, for which no read is made.
+#[tactic(auto, unfolding(crate::specs::Entries::is_in))]
+#[inline(always)]
+fn widened(bounds: Bounds, run: Run) -> Bounds
+    ensures { (w : ℕ) → 32 ≤ w → is_outside result.low result.high w ≡ true →
+        (is_in w run ≡ false) × (is_outside bounds.low bounds.high w ≡ true) }
+{
+    let first = u64::from(run.first);
+    let behind = first + u64::from(run.len);
+    if run.len == 0 || behind <= u64::from(FIRST_STORAGE_WORD) {
+        return bounds;
+    }
+    Bounds {
+        low: bounds.low.min(first),
+        high: bounds.high.max(behind),
     }
 }

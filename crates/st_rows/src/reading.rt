@@ -16,6 +16,7 @@ impl Fetching {
         requires room { IsReadingWithin (2 ^ 64 - 512) (reading_of self.old) }
         requires before { ArePastWithin (2 ^ 64 - 512) past.now }
         requires early { p ≤ 2 ^ 64 - 512 }
+        requires storage { 32 ≤ w }
         ensures value { result ≡ fill_at delays.now past.now self.old.bus w p }
         ensures after { reading_of self.new ≡ read_word delays.now past.now (reading_of self.old) w p }
     {

@@ -18,6 +18,12 @@ returns-then-run-eq1-clause-value c =
     read-turn c.args.delays.now c.args.past.now c.args.run.first c.args.p (reading_of c.args.operands.now) (reading_of c.read-first.new.self) 1 c.read-first.ensures.after (omega arith)
     ∙ rw one refl
 
+pub read-first-requires-clause-storage : goal.read-first-requires-clause-storage
+read-first-requires-clause-storage c = c.requires.words.above (omega arith)
+
+pub read-second-requires-clause-storage : goal.read-second-requires-clause-storage
+read-second-requires-clause-storage c = omega (arith, c.requires.words.above (omega arith))
+
 pub overflow_add-run : goal.overflow_add-run
 overflow_add-run c = omega (arith, words_of_storage_is, c.requires.words.inside (omega arith))
 

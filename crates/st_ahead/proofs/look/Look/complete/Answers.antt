@@ -20,7 +20,7 @@ returns-then-self g c = λ ds tick now t f are h due.
     (ahead-through ds n tick now t s f inside old c.self.view_is h) refl in
     let left = c.complete-done.new.self in
     let empty = eq-eqb (length left.ring) 0 (sym c.len.ensures.value ∙ c.if-len-eq0.true) in
-    let behind = all-done ds n tick now t s c.complete-done.new.state f inside old left true c.self.view_is are h c.requires.ready.0 due all.2
+    let behind = all-done ds n tick now t s c.complete-done.new.state f inside old left true c.self.view_is are h c.requires.some due all.2 all.3
     (alone-if (length left.ring == 0) inside.front.serial empty ∙ c.if-self.true) all.0 in
     let P : Place → Type 0 = λ place. IsLook ds n tick now None (guess t s) (after ds n f (entry t s))
     (record inside { levels = left; next = record inside.next { place = place } }) in
@@ -36,7 +36,7 @@ returns-else-len-eq0 g c = λ ds tick now t f are h due.
     (ahead-through ds n tick now t s f inside old c.self.view_is h) refl in
     let left = c.complete-done.new.self in
     let P : LookView → Type 0 = λ w. IsLook ds n tick now None (guess t s) (after ds n f (entry t s)) w × (w.port ≡ old.port) in
-    let behind : is_alone inside left ≡ false → P (record inside { levels = left }) = λ e. all-done ds n tick now t s c.complete-done.new.state f inside old left false c.self.view_is are h c.requires.ready.0 due all.2 e all.0 in
+    let behind : is_alone inside left ≡ false → P (record inside { levels = left }) = λ e. all-done ds n tick now t s c.complete-done.new.state f inside old left false c.self.view_is are h c.requires.some due all.2 all.3 e all.0 in
     elim c.else-len-eq0.branch [
       | else-len-eq0-via-then-len-eq0+else-self w ↦
           let empty = eq-eqb (length left.ring) 0 (sym c.len.ensures.value ∙ w.if-len-eq0.true) in

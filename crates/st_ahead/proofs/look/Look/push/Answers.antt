@@ -126,8 +126,8 @@ returns-clause-going g c = λ t f given.
     c.pass.ensures ds n c.fill-filled.ensures.value c.fill-filled.ensures.bus ∙ ap (after ds n view.front) entry_is in
     let tight = subst (λ (h : Front). IsTight 255 h) (sym front) (c.completions_are_bounded.ensures.tight 255 n ds view.front x are becomes.range is.tight) in
     let bound : new.front.c ≤ view.front.c + 16576 = omega (arith, ap (λ (h : Front). h.c) front, c.completions_are_bounded.ensures.bound 255 n ds view.front x are becomes.range is.tight) in
-    let pushed = c.push.ensures.ahead ds n now 255 t s f view.front are is.machine is.indicator is.ahead becomes.run refl (sym p_is) plan_is
-    (row_is ∙ ap (row ds n view.front) same) (c.fill-filled.ensures.fills ∙ ap (fills ds n view.front) (entry_is ∙ same)) (λ alone. sym (serial alone)) in
+    let pushed = c.push.ensures.ahead ds n now t s f view.front is.machine is.indicator is.ahead becomes.run refl plan_is
+    (row_is ∙ ap (row ds n view.front) same) (c.fill-filled.ensures.fills ∙ ap (fills ds n view.front) (entry_is ∙ same)) in
     let ahead = subst (λ (h : Front). AreAhead ds n now t s f h new.levels) (ap (after ds n view.front) (sym same) ∙ sym front) pushed in
     going-pushed ds n now t s f view new _ c.prepare.new.self.prepared is becomes planned due c.push.ensures.ring p_is
     (c.push.ensures.not_done now is.not_done late) ahead front tight bound plan_is

@@ -19,11 +19,12 @@ returns-clause-rests g c = λ ds tick later t s f some few are given next more b
     let view : LookView = record { levels = c.self.inside.levels; front = c.self.inside.front; port = c.self.inside.port; next = c.self.inside.next } in
     let h = subst (λ (w : LookView). IsLook ds n tick now t s f w) (sym c.self.view_is) given in
     let ahead = c.rests_to-2.ensures.ahead ds n tick later t s f view.front h.ahead next behind before in
+    let full = c.rests_to-2.ensures.full ds n tick later t s f view.front h.ahead h.full next behind before in
     let done = earlier-done (slice_get view.levels.plans 0) later c.rests_to-2.result before c.rests_to-2.ensures.done in
     let soon : later + 1 ≤ known = omega (arith, before, c.rests_to-2.ensures.limit, c.min-known.ensures) in
     let in_port : later + 1 ≤ made = omega (arith, before, c.rests_to-2.ensures.limit, c.min-known.ensures) in
     let look = look-rests ds n tick now later made known t s f view next behind in_port soon c.rests_to-made.ensures.turn
-    (λ k u rests. c.rests_to.ensures.rests (later + 1) k u soon rests) (λ planned. c.rests_to.ensures.planned planned) ahead done h in
+    (λ k u rests. c.rests_to.ensures.rests (later + 1) k u soon rests) (λ planned. c.rests_to.ensures.planned planned) ahead full done h in
     let at = subst (λ (w : LookView). IsLook ds n later (later + 1) t s f w) c.self.view_is look in
     let most : count c.args.self.now ≤ n = c.shape.ensures in
     let levels = c.looks_are_levels.ensures ds n later (later + 1) t s f c.args.self.now some few are (omega arith) most at in (

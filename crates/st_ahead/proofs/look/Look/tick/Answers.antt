@@ -21,7 +21,7 @@ returns-then-is_due g c = λ ds tick t f one most are h next.
     let is : inside ≡ c.args.self.now = c.self.view_is in
     let look = subst (λ (w : LookView). IsLook ds n tick now t s f w) (sym is) h in
     let oldest = due-row ds n tick now t s f inside.front inside.levels.ring inside.levels.plans look.ahead.levels
-    (sym c.is_due.ensures ∙ c.if-is_due.true) in
+    (sym c.is_due.ensures.value ∙ c.if-is_due.true) in
     let due : (row ds n f (entry t s)).c ≡ now = oldest.1 in
     let some : 1 ≤ count c.args.self.now = subst (λ (w : LookView). 1 ≤ count w) is oldest.0 in
     let all = c.complete-done.ensures ds tick now t f are h due in
@@ -30,7 +30,7 @@ returns-then-is_due g c = λ ds tick t f one most are h next.
     let late : now < (row ds n (after ds n f (entry t s)) (entry None s')).c =
     omega (arith, oldest.2, done-later ds n None s' (after ds n f (entry t s)) machine tt) in
     let filled = c.fill.ensures ds tick None s' (after ds n f (entry t s)) are all.2 (next some) late
-    (λ w above. ap (λ (u : Machine). word u w) all.0 ∙ guess-words t s w) in
+    (λ w. ap (λ (u : Machine). word u w) all.0 ∙ guess-words t s w) in
     record { due = due; told = all.1; state = all.0; look = filled.0; port = filled.1 ∙ all.3 }
 
 pub returns-then-len-gt0 : goal.returns-then-len-gt0
@@ -44,8 +44,8 @@ returns-then-len-gt0 g c = λ ds tick t f one most are h next.
     let some : 1 ≤ count inside = omega (arith, c.len.ensures.value, c.if-len-gt0.true) in
     let soon = next (subst (λ (w : LookView). 1 ≤ count w) is some) in
     let late = due-later ds n tick now t s f inside.front inside.levels.ring inside.levels.plans look.ahead.levels look.not_done
-    (sym c.is_due.ensures ∙ c.if-is_due.false) soon some in
-    let filled = c.fill-then-len-gt0.ensures ds tick t s f are h soon late (λ w above. refl) in
+    (sym c.is_due.ensures.value ∙ c.if-is_due.false) soon some in
+    let filled = c.fill-then-len-gt0.ensures ds tick t s f are h soon late (λ w. refl) in
     record { state = refl; later = λ same. absurd (omega (arith, late, same)); look = filled.0; port = filled.1 }
 
 pub returns-else-len-gt0 : goal.returns-else-len-gt0

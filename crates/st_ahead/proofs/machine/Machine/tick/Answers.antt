@@ -1,10 +1,10 @@
-use Rattle.std.proofs.Common.{◌≡◌, ℕ, ◌+◌, ◌-◌, ◌<◌, ◌≤◌, ◌^◌, true, false, Option, None, refl, ap, sym, subst, ◌∙◌, arith}
+use Rattle.std.proofs.Common.{◌≡◌, ◌+◌, ◌-◌, ◌<◌, ◌≤◌, ◌^◌, true, false, Option, None, refl, ap, sym, subst, ◌∙◌, arith}
 use Rattle.st_prep.specs.Plan.{plan}
 use Rattle.st_exec.specs.Completion.{guess, is_missed}
 use Rattle.st_rows.specs.Rows.{after}
 use Rattle.st_rows.proofs.Within.{AreDelays-list}
 use Rattle.st_segment.specs.Entries.{entry}
-use Rattle.st_levels.specs.Levels.{oldest_front, is_due}
+use Rattle.st_levels.specs.Levels.{oldest_front}
 use Rattle.st_levels.specs.declared.levels.Completed.{Completed}
 use Rattle.st_ahead.specs.Overlap.{Overlap}
 use Rattle.st_ahead.specs.Calls.{is_done, row_done, ticked}
@@ -17,24 +17,7 @@ use Rattle.st_ahead.proofs.machine.Machine.tick.Goals as goal
 
 pub tick-done-requires : goal.tick-done-requires
 tick-done-requires g c =
-    let n = g.row.N in
-    let i = c.self.inside in
-    let v = i.look in
-    let f = oldest_front v.levels.plans v.front in
-    let owes = subst (λ (m : Overlap). m.owed ≡ false) (sym c.self.view_is) c.requires.settled in
-    let early = subst (λ (m : Overlap). m.now < 2 ^ 63) (sym c.self.view_is) c.requires.tick in
-    let at = idle n i.delays i.state i.taken i.behind i.now i.owed i.ended i.fresh v c.self.invariant owes in
-    let few = subst (λ (m : Overlap). m.state.done < 2 ^ 63) (sym c.self.view_is) c.requires.done in (
-      omega arith,
-      (
-        λ due.
-            let oldest = c.levels_come_in_order.ensures.due i.delays n (i.now - 1) i.now i.taken i.state f v.front v.levels at.look.ahead due in
-            let next = not-first i.now v.levels.ring at.look.prepared oldest.0 in
-            c.levels_that_are_due_have_their_operands.ensures i.delays n (i.now - 1) 255 i.taken i.state f v.front v.levels at.look.machine at.look.indicator
-            at.look.oldest at.look.ahead (subst (λ (x : ℕ). is_due v.levels.plans x ≡ true) next due),
-        few,
-      ),
-    )
+    let few = subst (λ (m : Overlap). m.state.done < 2 ^ 63) (sym c.self.view_is) c.requires.done in (omega arith, few)
 
 pub invariant_of-self : goal.invariant_of-self
 invariant_of-self g c =

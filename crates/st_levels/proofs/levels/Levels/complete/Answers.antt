@@ -13,9 +13,9 @@ use Rattle.st_ring.specs.declared.level.Level.{Level}
 use Rattle.st_segment.specs.Entries.{entry}
 use Rattle.st_segment.specs.Guesses.{split_words}
 use Rattle.st_segment.specs.Alone.{RunAhead}
-use Rattle.st_levels.specs.Levels.{LevelsView, AreLevels, AreAhead}
+use Rattle.st_levels.specs.Levels.{LevelsView, AreLevels, AreAhead, AreFull}
 use Rattle.st_levels.specs.declared.plans.Plan.{Plan}
-use Rattle.st_levels.proofs.DoneLemmas.{levels-behind, first-is}
+use Rattle.st_levels.proofs.DoneLemmas.{levels-behind, first-is, full-behind}
 use Rattle.st_levels.proofs.levels.Levels.complete.Goals as goal
 
 pub invariant_of-self : goal.invariant_of-self
@@ -44,7 +44,7 @@ returns g c = λ ds n tick t s f last m some h same.
     let first : slice_get v.plans 0 ≡ Some q = sym (ap (λ (w : LevelsView). slice_get w.plans 0) c.self.view_is) ∙ c.get.ensures in
     let is = first-is ds n tick t s f last level rest v.plans q levels first in
     let form : level.prepared ≡ plan s t = is.prepared in
-    let done : c.execute_level.new.state ≡ executed t s = c.execute_level.ensures t (form ∙ ap (λ (u : Machine). plan u t) same)
+    let done : c.complete_in.new.state ≡ executed t s = c.complete_in.ensures.step t (form ∙ ap (λ (u : Machine). plan u t) same)
     ∙ ap (λ (u : Machine). executed t u) (sym same) in
     let count : length v.ring ≡ suc (length rest) = ap length ring in
     let before : v.x ≡ split_words (suc (length rest)) t s = h.index ∙ ap (λ k. split_words k t s) count in
@@ -65,4 +65,5 @@ returns g c = λ ds n tick t s f last m some h same.
             ∙ ap₂ (λ (p : Prepared) (u : Machine). if is_missed p u then Some p.following else None) form (sym same);
       },
       subst P (sym plans) ahead,
+      λ full. full-behind ds n tick t s f level rest (subst (λ (r : List Level). AreFull ds n tick t s f r) ring full),
     )

@@ -1,8 +1,7 @@
-use Rattle.std.proofs.Common.{◌<◌, ◌≡◌, ℕ, Option, List, [], ◌∷◌, ◌++◌, length, All, sym, subst, ap, ap₂, ◌∙◌, arith}
+use Rattle.std.proofs.Common.{◌<◌, ◌≡◌, List, [], ◌∷◌, ◌++◌, length, All, sym, subst, ap, ◌∙◌, arith}
 use Rattle.std.proofs.lemmas.List.Elements.{All-push}
 use Rattle.st_prep.specs.EarlyChange.{words_after}
 use Rattle.st_prep.specs.Ranges.{IsPrepared}
-use Rattle.st_ring.specs.Levels.{prepared_at}
 use Rattle.st_ring.specs.declared.level.Level.{Level}
 use Rattle.st_segment.specs.Guesses.{guesses, table_behind}
 use Rattle.st_levels.specs.Levels.{LevelsView}
@@ -25,23 +24,21 @@ invariant_of-self g c =
     }
 
 pub returns-clause-ahead : goal.returns-clause-ahead
-returns-clause-ahead g c = λ ds n tick most t s f last are m some h free front now form numbers ticks alone.
+returns-clause-ahead g c = λ ds n tick t s f last m some h free front form numbers ticks.
     let v = c.args.self.now in
     let u = guesses (length v.ring) t s in
     let i = table_behind (length v.ring) t in
     let p = c.args.prepared.now in
     let filled = c.args.filled.now in
-    let state = c.args.state.now in
     let new : LevelsView = record { ring = c.push_prepared.new.self; plans = c.push.new.self; x = c.change.new.x } in
-    let ring : new.ring ≡ v.ring ++ pushed_level p filled state ∷ [] = c.push_prepared.ensures.levels
-    ∙ ap₂ (λ (r : List Level) (have : List (Option ℕ)). r ++ prepared_at p filled.row.p have ∷ [])
-    (ap (λ (w : LevelsView). w.ring) c.self.view_is) c.registers.ensures in
+    let ring : new.ring ≡ v.ring ++ pushed_level p filled ∷ [] = c.push_prepared.ensures.levels
+    ∙ ap (λ (w : LevelsView). w.ring ++ pushed_level p filled ∷ []) c.self.view_is in
     let plans : new.plans ≡ v.plans ++ planned c.args.front.now filled ∷ [] = c.push.ensures.rows
     ∙ ap (λ (w : LevelsView). w.plans ++ planned c.args.front.now filled ∷ []) c.self.view_is in
     let x : new.x ≡ words_after v.x p.index = c.change.ensures
     ∙ ap (λ (w : LevelsView). words_after w.x p.index) c.self.view_is in
-    push-ahead ds n tick t s f last v new (pushed_level p filled state) (planned c.args.front.now filled) p m some h free form
-    (pushed-level ds n tick most i u state last p c.args.front.now filled are c.requires.prepared front form numbers ticks now alone)
+    push-ahead ds n tick t s f last v new (pushed_level p filled) (planned c.args.front.now filled) p m some h free form
+    (pushed-level ds n tick i u last p c.args.front.now filled front form numbers ticks)
     ring plans x
 
 pub returns-clause-not_done : goal.returns-clause-not_done

@@ -4,14 +4,18 @@ use Rattle.std.proofs.lemmas.Bool.{cases_eq}
 use Rattle.std.proofs.lemmas.Option.{slice_get_within}
 use Rattle.st_levels.specs.declared.plans.Plan.{Plan}
 use Rattle.st_levels.proofs.Edits.{same-item}
-use Rattle.st_levels.proofs.RestLemmas.{AreOutside, closer, known-first, closer-first, ahead-rests}
+use Rattle.st_levels.proofs.RestLemmas.{AreOutside, closer, known-first, closer-first, ahead-rests, full-rests}
 use Rattle.st_levels.proofs.levels.Levels.rests_to.Goals as goal
 
 pub returns-then-len-eq0-clause-ahead : goal.returns-then-len-eq0-clause-ahead
 returns-then-len-eq0-clause-ahead g c = λ ds n tick later t s f last h is behind before.
-    ahead-rests c.args.now c.args.limit tick later is behind before ds n t s f last c.args.self.now
+    ahead-rests c.args.now c.args.limit tick later is behind before ds n t s f last c.args.self.now h
+
+pub returns-then-len-eq0-clause-full : goal.returns-then-len-eq0-clause-full
+returns-then-len-eq0-clause-full g c = λ ds n tick later t s f last h full is behind before.
+    full-rests c.args.now c.args.limit tick later is behind before ds n t s f last c.args.self.now.ring c.args.self.now.plans
     (λ k q at. let inside = slice_get_within c.args.self.now.plans k q at in absurd (omega (arith, inside, c.len.ensures.value, c.len.ensures.beside, c.if-len-eq0.true)))
-    h
+    h.levels full
 
 pub levels-init : goal.levels-init
 levels-init g c = (
@@ -48,8 +52,12 @@ returns-clause-done g c = c.levels.invariant.1
 
 pub returns-clause-ahead : goal.returns-clause-ahead
 returns-clause-ahead g c = λ ds n tick later t s f last h is behind before.
-    ahead-rests c.args.now c.levels.to tick later is behind before ds n t s f last c.args.self.now
+    ahead-rests c.args.now c.levels.to tick later is behind before ds n t s f last c.args.self.now h
+
+pub returns-clause-full : goal.returns-clause-full
+returns-clause-full g c = λ ds n tick later t s f last h full is behind before.
+    full-rests c.args.now c.levels.to tick later is behind before ds n t s f last c.args.self.now.ring c.args.self.now.plans
     (λ k q at.
     let inside = slice_get_within c.args.self.now.plans k q at in
     c.levels.invariant.2 k q (omega (arith, inside, c.len-k-end.ensures.value, c.len-k-end.ensures.beside, c.levels-test.false)) at)
-    h
+    h.levels full

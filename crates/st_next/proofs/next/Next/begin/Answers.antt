@@ -2,7 +2,7 @@ use Rattle.std.proofs.Common.{refl, sym, ◌∙◌, ap, arith}
 use Rattle.st_prep.specs.declared.entries.Fetching.TheVariants.{Next}
 use Rattle.st_rows.proofs.Within.{AreDelays-list}
 use Rattle.st_next.proofs.Steps.{own-goes}
-use Rattle.st_next.proofs.Asking.{known-words, known-early, known-place, own-asks, more-word, count-most, count-own}
+use Rattle.st_next.proofs.Asking.{known-words, known-early, known-place, own-above, own-asks, more-word, count-most, count-own}
 use Rattle.st_next.proofs.next.Next.begin.Goals as goal
 
 pub given-requires-clause-place : goal.given-requires-clause-place
@@ -18,6 +18,10 @@ ask_own-requires-clause-words c =
 pub ask_own-requires-clause-room : goal.ask_own-requires-clause-room
 ask_own-requires-clause-room c =
     known-early _ _ _ _ _ _ _ c.requires.unplanned c.requires.due c.requires.known (AreDelays-list c.args.delays.now c.shape.ensures) c.requires.front
+
+pub ask_own-requires-clause-storage : goal.ask_own-requires-clause-storage
+ask_own-requires-clause-storage c =
+    own-above _ _ _ _ _ _ _ c.requires.unplanned c.requires.due c.requires.known _ refl _ (sym c.in-Next-default-false.ensures.value ∙ ap (λ t. Next c.in-Next-default-false.word t) c.in-Next-default-false.target-test)
 
 pub ask_own-requires-clause-few : goal.ask_own-requires-clause-few
 ask_own-requires-clause-few c =

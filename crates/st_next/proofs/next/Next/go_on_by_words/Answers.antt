@@ -2,7 +2,7 @@ use Rattle.std.proofs.Common.{refl, sym, ◌∙◌, ap, arith}
 use Rattle.st_prep.specs.declared.entries.Fetching.TheVariants.{Next}
 use Rattle.st_rows.proofs.Within.{AreDelays-list}
 use Rattle.st_next.proofs.Steps.{own-goes, target-goes, target-waits, plan-goes}
-use Rattle.st_next.proofs.Asking.{known-words, known-early, known-place, known-seen, own-asks, target-asks, plan-asks, plan-late, more-word, more-side, count-most, count-own, count-target, count-plan}
+use Rattle.st_next.proofs.Asking.{known-words, known-early, known-place, known-seen, own-above, target-above, own-asks, target-asks, plan-asks, plan-late, more-word, more-side, count-most, count-own, count-target, count-plan}
 use Rattle.st_next.proofs.next.Next.go_on_by_words.Goals as goal
 
 pub given-requires-clause-place : goal.given-requires-clause-place
@@ -23,6 +23,10 @@ pub ask_target-requires-clause-room : goal.ask_target-requires-clause-room
 ask_target-requires-clause-room c =
     known-early _ _ _ _ _ _ _ c.requires.unplanned c.requires.due c.requires.known (AreDelays-list c.args.delays.now c.shape.ensures) c.requires.front
 
+pub ask_target-requires-clause-storage : goal.ask_target-requires-clause-storage
+ask_target-requires-clause-storage c =
+    target-above _ _ _ _ _ _ _ c.requires.unplanned c.requires.due c.requires.known _ refl _ (sym c.in-Next-default-true.ensures.value ∙ ap (λ t. Next c.in-Next-default-true.word t) c.in-Next-default-true.target-test)
+
 pub ask_target-requires-clause-few : goal.ask_target-requires-clause-few
 ask_target-requires-clause-few c =
     let most = count-most c.args.self.now c.requires.unplanned (known-words _ _ _ _ _ _ _ c.requires.unplanned c.requires.due c.requires.known) in
@@ -35,6 +39,10 @@ ask_own-requires-clause-words c =
 pub ask_own-requires-clause-room : goal.ask_own-requires-clause-room
 ask_own-requires-clause-room c =
     known-early _ _ _ _ _ _ _ c.requires.unplanned c.requires.due c.requires.known (AreDelays-list c.args.delays.now c.shape.ensures) c.requires.front
+
+pub ask_own-requires-clause-storage : goal.ask_own-requires-clause-storage
+ask_own-requires-clause-storage c =
+    own-above _ _ _ _ _ _ _ c.requires.unplanned c.requires.due c.requires.known _ refl _ (sym c.in-Next-default-false.ensures.value ∙ ap (λ t. Next c.in-Next-default-false.word t) c.in-Next-default-false.target-test)
 
 pub ask_own-requires-clause-few : goal.ask_own-requires-clause-few
 ask_own-requires-clause-few c =

@@ -9,6 +9,7 @@ invariant-words l = record {
   value : l.self.reads ++ operands_asked l.past l.p l.w l.left ≡ l.initial.self.reads ++ operands_asked l.past l.p l.fn.run.first l.fn.run.len;
   bus : l.self.bus ≡ l.initial.self.bus;
   few : length l.self.reads + l.left ≤ length l.initial.self.reads + l.fn.run.len;
+  above : 1 ≤ l.left → 32 ≤ l.w;
   inside : 1 ≤ l.left → l.w + l.left ≤ words_of_storage;
 }
 

@@ -10,6 +10,9 @@ use Rattle.st_rows.proofs.fetching.Fetching.read_on.Goals as goal
 pub overflow_add-w : goal.overflow_add-w
 overflow_add-w c = omega (arith, words_of_storage_is, c.words.invariant.inside (omega arith))
 
+pub read-requires-clause-storage : goal.read-requires-clause-storage
+read-requires-clause-storage c = c.words.invariant.above (omega arith)
+
 pub words-preserved : goal.words-preserved
 words-preserved c =
     let m = 2 ^ 64 - 512 - 256 * c.words.left in
@@ -23,5 +26,6 @@ words-preserved c =
           (subst (λ (s : Reading). IsReadingWithin (m + 256) s) (sym c.read.ensures.after)
           (read_word-within 255 c.args.delays.now are c.args.past.now (reading_of c.words.self) c.words.w c.args.p m c.words.invariant.room (omega arith)));
       few = omega (arith, c.words.invariant.few);
+      above = λ some. omega (arith, c.words.invariant.above (omega arith));
       inside = λ some. omega (arith, c.words.invariant.inside (omega arith));
     }

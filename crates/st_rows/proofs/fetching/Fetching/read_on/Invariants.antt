@@ -11,6 +11,7 @@ invariant-words l = record {
       ≡ read_words l.delays l.past (reading_of l.initial.self) l.p l.fn.run.first l.fn.run.len;
   room : IsReadingWithin (2 ^ 64 - 512 - 256 * l.left) (reading_of l.self);
   few : l.left ≤ 16;
+  above : 1 ≤ l.left → 32 ≤ l.w;
   inside : 1 ≤ l.left → l.w + l.left ≤ words_of_storage;
 }
 

@@ -7,6 +7,9 @@ use Rattle.st_rows.proofs.fetching.Fetching.words.Goals as goal
 pub overflow_add-w : goal.overflow_add-w
 overflow_add-w c = omega (arith, words_of_storage_is, c.words.invariant.inside (omega arith))
 
+pub word-requires-clause-storage : goal.word-requires-clause-storage
+word-requires-clause-storage c = c.words.invariant.above (omega arith)
+
 pub words-preserved : goal.words-preserved
 words-preserved c =
     let m = 2 ^ 64 - 512 - 256 * c.words.left in
@@ -17,5 +20,6 @@ words-preserved c =
           ∙ c.words.invariant.value;
       room = fetching-weaker (m + 256) _ c.word.new.self (omega arith) (rw c.word.ensures.after (fetch_word-within 255 c.args.delays.now are m (m + 256) (omega arith) c.args.past.now c.words.self c.words.w c.args.from before c.words.invariant.room (omega arith)));
       few = omega (arith, c.words.invariant.few);
+      above = λ some. omega (arith, c.words.invariant.above (omega arith));
       inside = λ some. omega (arith, c.words.invariant.inside (omega arith));
     }

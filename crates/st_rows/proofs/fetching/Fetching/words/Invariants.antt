@@ -10,6 +10,7 @@ invariant-words l = record {
   value : fetch_words l.delays l.past l.self l.from l.w l.left ≡ fetch_words l.delays l.past l.initial.self l.from l.fn.run.first l.fn.run.len;
   room : IsFetchingWithin (2 ^ 64 - 512 - 256 * l.left) l.self;
   few : l.left ≤ 16;
+  above : 1 ≤ l.left → 32 ≤ l.w;
   inside : 1 ≤ l.left → l.w + l.left ≤ words_of_storage;
 }
 

@@ -3,7 +3,7 @@ use Rattle.st_rows.specs.Ranges.{IsBusWithin}
 use Rattle.st_rows.specs.Rows.{addressed, tick_a, bus_a, tick_y, tick_p}
 use Rattle.st_rows.specs.declared.fetching.Fetching.{Fetching}
 use Rattle.st_rows.proofs.Within.{AreDelays-list, past-weaker, bus-weaker, fetching-weaker}
-use Rattle.st_rows.proofs.Stages.{fetched-within, side-within}
+use Rattle.st_rows.proofs.Stages.{side-above, fetched-within, side-within}
 use Rattle.st_rows.proofs.front.Front.form.Goals as goal
 
 pub address-a-requires-clause-room : goal.address-a-requires-clause-room
@@ -19,6 +19,9 @@ side-y-requires-clause-room c =
     rw c.requires.words
     (bus-weaker (c.args.self.now.c + 7 * 255 + 6) (2 ^ 64 - 512) _ (omega arith)
     (fetched-within 255 c.args.delays.now are c.args.self.now c.args.entry.now c.requires.entry c.requires.tight).bus)
+
+pub side-y-requires-clause-storage : goal.side-y-requires-clause-storage
+side-y-requires-clause-storage c = side-above c.args.entry.now.side _ c.requires.entry.side
 
 pub prepared_at-p-requires-clause-side : goal.prepared_at-p-requires-clause-side
 prepared_at-p-requires-clause-side c =

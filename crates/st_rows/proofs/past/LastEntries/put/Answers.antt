@@ -5,6 +5,7 @@ use Rattle.st_rows.specs.Entries.{has_words}
 use Rattle.st_fetch.specs.Queue.{window}
 use Rattle.st_fetch.proofs.Windows.{length-window}
 use Rattle.st_rows.proofs.Shifted.{bit-is, bits-shifted, window-put}
+use Rattle.st_rows.proofs.Writers.{unwritten-put}
 use Rattle.st_rows.proofs.past.LastEntries.put.Goals as goal
 
 pub invariant_of-self : goal.invariant_of-self
@@ -19,6 +20,11 @@ invariant_of-self c =
       writers =
           rw (c.from.ensures, bit-is c.any-writes.result, kept, is.writers, window-put q.head q.entries c.args.newest is.inside is.whole)
           (bits-shifted c.args.newest (window q.head 8 q.entries) (length-window 8 q.head 8 q.entries is.inside (omega arith) is.whole));
+      bounds = λ w above out.
+          let two = c.widened-self-inside.ensures w above out in
+          let one = c.widened-bounds.ensures w above two.1 in
+          rw (window-put q.head q.entries c.args.newest is.inside is.whole)
+          (unwritten-put w c.args.newest (window q.head 8 q.entries) one.0 two.0 (is.bounds w above one.1));
     }
 
 pub returns : goal.returns

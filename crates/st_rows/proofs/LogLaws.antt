@@ -1,0 +1,54 @@
+-- What a log of reads is good for, proved.
+use Rattle.std.proofs.Common.{◌<◌, List, ◌∷◌, ◌++◌, take, sym, ap, ◌∙◌, append_assoc, arith}
+use Rattle.std.proofs.lemmas.List.Elements.{All-append, All-weaker}
+use Rattle.st_rows.specs.Asked.{served}
+use Rattle.st_rows.specs.Notes.{note, logged, undone}
+use Rattle.st_rows.specs.LogLaws.{AcceptsRise, UndoneIsMadeBefore, FewAreUndone, LogsGoOn}
+use Rattle.st_rows.specs.declared.log.Made.{Made}
+use Rattle.st_rows.proofs.NoteLemmas.{opened-log, logged-falls, logged-append, logged-more, logged-early, length-logged, undone-take, undone-made, drop-early, take-more}
+
+pub accepts_rise : AcceptsRise
+accepts_rise = logged-falls
+
+pub undone_is_made_before : UndoneIsMadeBefore
+undone_is_made_before = λ ds t reads b log is few.
+    let notes = logged ds reads b ++ is.older in
+    ap (λ (l : List Made). undone t l (served ds reads b).banks.ticks) is.notes
+    ∙ undone-take 64 t notes (served ds reads b).banks.ticks (few is.older is.early)
+    ∙ undone-made ds t reads b is.older is.early
+
+pub few_are_undone : FewAreUndone
+few_are_undone = λ ds t first rest b older few free early.
+    let young = logged ds rest (served ds first b) in
+    let old = logged ds first b in
+    rw (logged-append ds first rest b, append_assoc young old older)
+    (drop-early 64 t young (old ++ older) (omega (arith, few, length-logged ds rest (served ds first b)))
+    (All-append (λ (m : Made). m.tick < t) old older
+    (All-weaker (λ (m : Made). m.tick < (served ds first b).free) (λ m. m.tick < t) (λ m early_one. omega (arith, early_one, free)) old (logged-early ds first b)) early))
+
+pub logs_go_on : LogsGoOn
+logs_go_on = record {
+  opened = opened-log;
+  made = λ ds now reads r b log is. record {
+    older = is.older;
+    early = is.early;
+    notes =
+        ap (λ (l : List Made). take 64 (note (served ds reads b) r ∷ l)) is.notes
+        ∙ take-more 63 (note (served ds reads b) r) (logged ds reads b ++ is.older)
+        ∙ ap (λ (l : List Made). take 64 (l ++ is.older)) (sym (logged-more ds reads r b));
+  };
+  later = λ ds now later reads b log behind is. record {
+    older = is.older;
+    early = All-weaker (λ (m : Made). m.tick < now) (λ m. m.tick < later) (λ m early_one. omega (arith, early_one, behind)) is.older is.early;
+    notes = is.notes;
+  };
+  left_behind = λ ds now first rest b log free is. record {
+    older = logged ds first b ++ is.older;
+    early = All-append (λ (m : Made). m.tick < now) (logged ds first b) is.older
+        (All-weaker (λ (m : Made). m.tick < (served ds first b).free) (λ m. m.tick < now) (λ m early_one. omega (arith, early_one, free)) (logged ds first b) (logged-early ds first b))
+        is.early;
+    notes = is.notes
+        ∙ ap (λ (l : List Made). take 64 (l ++ is.older)) (logged-append ds first rest b)
+        ∙ ap (take 64) (append_assoc (logged ds rest (served ds first b)) (logged ds first b) is.older);
+  };
+}
