@@ -46,7 +46,7 @@ def read_family(path):
         elif given:
             vectors[-1].job += job_line(line)
         else:
-            vectors[-1].written += line + b'\n'
+            vectors[-1].written += job_line(line) if line.startswith(b'@') else line + b'\n'
     return vectors
 
 
