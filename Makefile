@@ -1,7 +1,7 @@
 # `make` lists what can be made. PREFIX says where `make install` puts things, DESTDIR before it where a package is laid out.
 PREFIX = /usr/local
 DESTDIR =
-PROGRAMS = stretch chart explain
+PROGRAMS = stretch chart ledger
 # Where the proved programs stand: OUT/NAME/out/NAME, as the gate leaves them.
 OUT = crates
 
@@ -33,7 +33,7 @@ tools: proved
 bench: proved
 	bench/run
 
-# The proved programs stand, and none is older than the sources, definitions and proofs. explain is left out where it is none yet.
+# The proved programs stand, and none is older than the sources, definitions and proofs. ledger is left out where it is none yet.
 proved:
 	@for name in $(PROGRAMS); do \
 	    [ -d crates/$$name ] || continue; \
@@ -55,13 +55,15 @@ proved:
 # Everything lies in lib/stretch as in the repository, so a script finds its programs and pages there; bin/ has links to it. A
 # door's script starts the program that lies beside it and not .ci/start, which would look at the sources.
 install: proved
-	mkdir -p $(to)/bin $(home)/programs $(home)/tools $(doc) $(man) $(bash) $(zsh) $(fish)
+	mkdir -p $(to)/bin $(home)/programs $(home)/tools/explaining $(home)/model $(doc) $(man) $(bash) $(zsh) $(fish)
 	@set -e; for name in $(PROGRAMS); do \
 	    [ -d crates/$$name ] || continue; \
 	    cp $(OUT)/$$name/out/$$name $(home)/programs/$$name; \
+	    chmod 755 $(home)/programs/$$name; \
+	    [ -f $$name ] || continue; \
 	    sed 's|sh "$$here/[.]ci/start" '$$name'|"$$here/programs/'$$name'"|' $$name >$(home)/$$name; \
 	    if grep -q '[.]ci/start"' $(home)/$$name; then echo "$$name starts its program in a way that is not known here" >&2; exit 1; fi; \
-	    chmod 755 $(home)/$$name $(home)/programs/$$name; \
+	    chmod 755 $(home)/$$name; \
 	    link=stretch-$$name; [ $$name != stretch ] || link=stretch; \
 	    ln -sf ../lib/stretch/$$name $(to)/bin/$$link; \
 	done
@@ -73,13 +75,18 @@ install: proved
 	    echo ".so man1/stretch-tools.1" >$(man)/stretch-$$name.1; \
 	    ln -sf stretch $(bash)/stretch-$$name; \
 	done
-	cp VERSION $(home)
+	cp explain VERSION $(home)
+	cp tools/explaining/*.py $(home)/tools/explaining
+	cp model/*.py model/ledger $(home)/model
+	ln -sf ../lib/stretch/explain $(to)/bin/stretch-explain
 	cp -R docs/*.md docs/lessons docs/pictures README.md CHANGELOG.md examples $(doc)
 	ln -sfn ../../share/doc/stretch $(home)/docs
 	cp docs/stretch.1 docs/stretch-tools.1 $(man)
 	echo '.so man1/stretch.1' >$(man)/stretch-chart.1
+	echo '.so man1/stretch-tools.1' >$(man)/stretch-explain.1
 	cp tools/completions/stretch.bash $(bash)/stretch
 	ln -sf stretch $(bash)/stretch-chart
+	ln -sf stretch $(bash)/stretch-explain
 	cp tools/completions/_stretch $(zsh)/_stretch
 	cp tools/completions/stretch.fish $(fish)/stretch.fish
 
@@ -89,7 +96,8 @@ uninstall:
 	    name=$${script#tools/}; \
 	    [ ! -f $$script ] || rm -f $(to)/bin/stretch-$$name $(man)/stretch-$$name.1 $(bash)/stretch-$$name; \
 	done
-	rm -f $(man)/stretch.1 $(man)/stretch-tools.1 $(man)/stretch-chart.1 $(bash)/stretch $(bash)/stretch-chart
+	rm -f $(man)/stretch.1 $(man)/stretch-tools.1 $(man)/stretch-chart.1 $(man)/stretch-explain.1
+	rm -f $(bash)/stretch $(bash)/stretch-chart $(bash)/stretch-explain
 	rm -f $(zsh)/_stretch $(fish)/stretch.fish
 	rm -rf $(home) $(doc)
 
