@@ -49,6 +49,12 @@ def ledger_lines(words, read):
     return (f'{line}\n'.encode('latin-1') for line in ledger.ledger(program, levels)), 0
 
 
+def ledger_answer(words, read):
+    """The same as one piece."""
+    lines, status = ledger_lines(words, read)
+    return b''.join(lines), status
+
+
 def answer(words, read):
     """What is written and the exit status. `read` gives the job's bytes; it is called where a command wants them."""
     if words[:1] == ['soak']:
@@ -63,3 +69,6 @@ def answer(words, read):
         return COMMANDS[words[0]](job), 0
     except Refused as refused:
         return refused.line(), 1
+
+
+PROGRAMS = {'stretch': answer, 'ledger': ledger_answer}

@@ -4,12 +4,14 @@ from dataclasses import dataclass
 from pathlib import Path
 
 HOME = Path(__file__).resolve().parent.parent
+VECTORS = HOME / 'vectors'
 
 
 @dataclass
 class Vector:
     name: str
     words: list
+    program: str = 'stretch'
     job: bytes = b''
     status: int = 0
     written: bytes = b''
@@ -35,9 +37,11 @@ def job_line(line):
 def read_family(path):
     """The vectors of a file, one after another."""
     vectors, given = [], True
+    family = path.relative_to(VECTORS).with_suffix('')
+    program = 'stretch' if family.parent == Path() else str(family.parent)
     for line in path.read_bytes().split(b'\n')[:-1]:
         if line.startswith(b'= '):
-            vectors.append(Vector(f'{path.stem}/{line[2:].decode()}', ['run']))
+            vectors.append(Vector(f'{family}/{line[2:].decode()}', ['run'], program))
             given = True
         elif line[:2] in (b'$', b'$ '):
             vectors[-1].words = line[1:].decode().split()
@@ -51,10 +55,11 @@ def read_family(path):
 
 
 def families():
-    return sorted((HOME / 'vectors').glob('*.txt'))
+    """The files of vectors, those of ./stretch and those of the other programs, which stand in folders of their names."""
+    return sorted(VECTORS.glob('*.txt')) + sorted(VECTORS.glob('ledger/*.txt'))
 
 
 def examples():
     decks = sorted((HOME / 'examples').glob('*/deck.txt'))
-    return [Vector(f'examples/{deck.parent.name}', ['run'], deck.read_bytes(), 0,
+    return [Vector(f'examples/{deck.parent.name}', ['run'], 'stretch', deck.read_bytes(), 0,
                    deck.with_name('report.txt').read_bytes()) for deck in decks]
