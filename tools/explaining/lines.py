@@ -5,7 +5,8 @@ CAUSES = (                  # where a tick can go, in the order of time: a stage
     "restart", "instruction_turn", "instruction_bank", "instruction_storage", "address", "index_bank", "index_storage",
     "preparing", "operand_turn", "operand_bank", "operand_storage", "executing")
 PARTED = ("instruction", "index", "operand")        # stages whose ticks lines WAIT tell
-SEGMENT_REASONS = {"RUN": "start", "INTERRUPT": "interrupt", "MISSED": "wrong_guess", "CARD": "card"}
+REASONS = ("start", "serial", "store", "level", "forwarding", "bus", "prefetch", "order")
+SEGMENT_REASONS = {"RUN": "start", "INTERRUPT": "interrupt", "MISSED": "wrong_guess", "CARD": "card"}   # in place of `start`
 REACH = 512                 # no read waits, or keeps a bank busy, for so many ticks
 
 
@@ -271,7 +272,10 @@ class Ledger:
         self.row.level_wait = int(words[1])
 
     def take_because(self, words, line):
-        self.row.because = Because(words[1].lower(), number(words[3]), int(words[5]), number(words[7]))
+        reason = words[1].lower()
+        if reason not in REASONS:
+            raise ValueError(reason)
+        self.row.because = Because(reason, number(words[3]), int(words[5]), number(words[7]))
 
     # ---- the state, and the end
 
@@ -335,6 +339,8 @@ def pieces_of(row):
     for charge, waits in row.charges:
         parts = sorted(waits, key=lambda piece: piece.start) if charge.cause in PARTED else [charge]
         for piece in parts:
+            if piece.cause not in CAUSES:
+                raise Off("row %d: no such cause: %s" % (row.row, piece.cause))
             if piece.start != at or piece.end <= at:
                 raise Off("row %d: its charges leave a gap at tick %d" % (row.row, at))
             at = piece.end

@@ -1,7 +1,6 @@
 """The sums of a run, row after row (docs/explain.md): of causes, reasons, addresses, levels in use, banks and words."""
-from .lines import CAUSES, Off
+from .lines import CAUSES, REASONS, SEGMENT_REASONS, Off
 
-REASONS = ("start", "interrupt", "wrong_guess", "card", "serial", "store", "level", "forwarding", "bus", "prefetch", "order")
 KINDS = ("instruction", "index", "operand", "following")
 BANKS = 6
 
@@ -10,7 +9,7 @@ class Totals:
     def __init__(self, levels):
         self.rows = self.dropped = self.wrong_guesses = self.interrupts = self.ticks = 0
         self.by_cause = dict.fromkeys(CAUSES, 0)
-        self.by_reason = {reason: {"rows": 0, "ticks": 0, "late": 0} for reason in REASONS}
+        self.by_reason = {reason: {"rows": 0, "ticks": 0, "late": 0} for reason in (*SEGMENT_REASONS.values(), *REASONS[1:])}
         self.places = {}                                # by half-word address: [text, times, ticks by cause]
         self.level_wait_rows = self.level_wait_ticks = 0
         self.banks = [{"bank": k, "reads": 0, "busy": 0, "waited": 0} for k in range(BANKS)]
