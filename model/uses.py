@@ -79,7 +79,7 @@ def noting(bus, row):
 
 
 def uses_of(entry, a, p, front, behind):
-    """The words of an entry in the order of its reads; its ticks A and P, and the fronts before and behind it, are known."""
+    """The words of an entry in the order of its reads; a and p are ticks of its row."""
     asked = iter(behind.bus.asked)
 
     def taken(kind):

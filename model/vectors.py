@@ -55,7 +55,7 @@ def read_family(path):
 
 
 def families():
-    """The files of vectors, those of ./stretch and those of the other programs, which stand in folders of their names."""
+    """The files of vectors: those of ./stretch, and those of the ledger, which stand in a folder."""
     return sorted(VECTORS.glob('*.txt')) + sorted(VECTORS.glob('ledger/*.txt'))
 
 

@@ -3,8 +3,8 @@ from .as_text import opening
 from .lines import CAUSES, place
 
 COLUMNS = (
-    "row", "address", "text", "segment", "segment_reason", "a", "p", "r", "c", "cost", "ticks", "serial", "missed", "fault",
-    "because", "because_row", "level_wait", "reads", "held", "forwarded") + CAUSES
+    "row", "address", "text", "segment", "segment_reason", "a", "p", "r", "c", "cost", "ticks", "serial", "missed",
+    "fault", "because", "because_row", "level_wait", "reads", "held", "forwarded") + CAUSES
 HOWS = ("read", "held", "forwarded")
 
 
@@ -33,9 +33,9 @@ def cells_of(row, text, names):
     for piece in row.charges:
         spent[piece.cause] += piece.ticks
     hows = [use.how for use in row.uses if use.kind != "following"]
-    because = row.because
+    because, quoted = row.because, '"%s"' % text.strip(" ").replace('"', '""')
     return [
-        row.row, place(row.address), '"%s"' % text.strip(" ").replace('"', '""'), row.segment.number, opening(row.segment),
+        row.row, place(row.address), quoted, row.segment.number, opening(row.segment),
         row.a, row.p, row.r, row.c, row.cost, row.ticks, row.alone, int(row.missed),
         None if row.suppressed is None else names[row.suppressed], because and because.reason, because and because.row,
         row.level_wait, *(hows.count(how) for how in HOWS), *spent.values()]

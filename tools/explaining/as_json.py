@@ -1,4 +1,4 @@
-"""Everything as one object (docs/explain.md, "The object"). Segments and entries wait in files, since the totals come first."""
+"""Everything as one object (docs/explain.md, "The object"). Its lists wait in files, since the totals come first."""
 import json
 import tempfile
 
@@ -71,7 +71,7 @@ class Items:
 
 
 class State:
-    """The state after the rows so far, and the one before the first row shown: counter, whether interrupts are enabled, words."""
+    """The state after the rows so far, and the one before the first row shown."""
 
     def __init__(self):
         self.counter, self.enabled, self.words, self.shown = 0, False, {}, None
@@ -89,7 +89,8 @@ class State:
         return self.told(changed)
 
     def told(self, words):
-        return {"counter": place(self.counter), "enabled": self.enabled, "words": [[w, hexadecimal(n)] for w, n in words]}
+        spelled = [[word, hexadecimal(number)] for word, number in words]
+        return {"counter": place(self.counter), "enabled": self.enabled, "words": spelled}
 
     def show(self):
         """From here on rows are shown."""
@@ -103,8 +104,8 @@ class State:
 
 def segment_of(segment, text_of):
     return {
-        "segment": segment.number, "reason": segment.reason, "indicator": segment.indicator, "after_wait": segment.after_wait,
-        "start": segment.start, "end": segment.end,
+        "segment": segment.number, "reason": segment.reason, "indicator": segment.indicator,
+        "after_wait": segment.after_wait, "start": segment.start, "end": segment.end,
         "dropped": [ahead_of(entry, text_of) for entry in segment.dropped], "begun": ahead_of(segment.begun, text_of),
     }
 
@@ -123,12 +124,12 @@ def entry_of(row, text, names, state):
     early = row.index[0] if row.index else None
     stored = [(w - 16, before, after) for w, before, after in row.words if 16 <= w < 32 and w - 16 != early]
     return {
-        "row": row.row, "segment": row.segment.number, "address": place(row.address), "text": text.strip(" "), "card": row.card,
-        "a": row.a, "p": row.p, "r": row.r, "c": row.c, "cost": row.cost,
+        "row": row.row, "segment": row.segment.number, "address": place(row.address), "text": text.strip(" "),
+        "card": row.card, "a": row.a, "p": row.p, "r": row.r, "c": row.c, "cost": row.cost,
         "serial": row.alone, "table": row.table, "missed": row.missed,
         "fault": None if row.suppressed is None else names[row.suppressed],
         "charges": [piece_of(piece) for piece in row.charges],
-        "because": because and {"reason": because.reason, "row": because.row, "tick": because.tick, "late": because.late},
+        "because": because and {name: getattr(because, name) for name in ("reason", "row", "tick", "late")},
         "level_wait": row.level_wait,
         "uses": [use_of(use) for use in row.uses], "writes": row.writes,
         "index": change_of(row.index), "stored_index": [change_of(one) for one in stored], "state": state,
@@ -148,8 +149,8 @@ def use_of(use):
     told = {"kind": use.kind, "word": use.word, "how": use.how}
     read = use.read
     if read:
-        told.update(bank=read.bank, want=read.want, turn=read.turn, bank_free=read.free, accept=read.accept, answer=read.answer,
-                    made=read.made)
+        told.update(bank=read.bank, want=read.want, turn=read.turn, bank_free=read.free,
+                    accept=read.accept, answer=read.answer, made=read.made)
     elif use.how == "held":
         told.update(row=use.row, answer=use.tick)
     elif use.how == "forwarded":

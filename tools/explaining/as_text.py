@@ -59,7 +59,8 @@ class Text:
     def end(self, sums, ledger, other, at_once, deck):
         last = self.asked.last
         if self.asked.is_cut and sums.rows > last:
-            self.put(["", "rows %d to %d are not shown: ./explain text %d %d" % (last + 1, sums.rows, last + 1, sums.rows)])
+            rest = last + 1, sums.rows
+            self.put(["", "rows %d to %d are not shown: ./explain text %d %d" % (rest + rest)])
         self.put(totals(sums, self.start.levels, other, at_once, set(self.start.delays) != {1}))
 
     def put(self, lines):

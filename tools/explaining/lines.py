@@ -1,12 +1,13 @@
 """The lines of a ledger (docs/ledger.md) as rows and segments, one row after another: no memory grows with the run."""
 from dataclasses import dataclass, field
 
-CAUSES = (                  # where a tick can go, in the order of time: a stage of the ledger, and why it is waited there
+CAUSES = (                  # where a tick can go, in the order of time: a stage, and what is waited for in it
     "restart", "instruction_turn", "instruction_bank", "instruction_storage", "address", "index_bank", "index_storage",
     "preparing", "operand_turn", "operand_bank", "operand_storage", "executing")
 PARTED = ("instruction", "index", "operand")        # stages whose ticks lines WAIT tell
 REASONS = ("start", "serial", "store", "level", "forwarding", "bus", "prefetch", "order")
-SEGMENT_REASONS = {"RUN": "start", "INTERRUPT": "interrupt", "MISSED": "wrong_guess", "CARD": "card"}   # in place of `start`
+# Of the first row of a segment, in place of `start`, by the words of the lines.
+SEGMENT_REASONS = {"RUN": "start", "INTERRUPT": "interrupt", "MISSED": "wrong_guess", "CARD": "card"}
 REACH = 512                 # no read waits, or keeps a bank busy, for so many ticks
 
 
@@ -42,8 +43,9 @@ class Use:
 
 @dataclass(slots=True)
 class Piece:
-    """The ticks behind `start`, up to and with `end`, with their cause. Of a wait also the word that is waited for, the
-    read that is on its way, was accepted, or stood first in its turn, as (row, word, bank), and that read's kind or holder."""
+    """The ticks behind `start`, up to and with `end`, with their cause. Of a wait also the word that is waited for, and the
+    read that is on its way, was accepted, or stood first in its turn, as (row, word, bank); of the second its kind, of the
+    third the read that kept its bank busy, as (row, word, kind)."""
     start: int
     end: int
     cause: str
@@ -319,8 +321,8 @@ class Ledger:
 LINES = {
     "LEVELS": Ledger.take_levels, "DELAYS": Ledger.take_delays, "IC": Ledger.take_counter, "EN": Ledger.take_enabled,
     "WORD": Ledger.take_word, "SEGMENT": Ledger.take_segment, "ROW": Ledger.take_row, "MISSED": Ledger.take_missed,
-    "ALONE": Ledger.take_alone, "SUPPRESSED": Ledger.take_suppressed, "LAID": Ledger.take_laid, "CODE": Ledger.take_code,
-    "USE": Ledger.take_use, "WRITES": Ledger.take_writes, "INDEX": Ledger.take_index, "CHARGE": Ledger.take_charge,
+    "ALONE": Ledger.take_alone, "SUPPRESSED": Ledger.take_suppressed, "LAID": Ledger.take_laid,
+    "CODE": Ledger.take_code, "USE": Ledger.take_use, "WRITES": Ledger.take_writes, "INDEX": Ledger.take_index, "CHARGE": Ledger.take_charge,
     "WAIT": Ledger.take_wait, "LEVEL": Ledger.take_level, "BECAUSE": Ledger.take_because, "DROP": Ledger.take_drop,
     "BEGUN": Ledger.take_begun, "PRT": Ledger.take_print, "INT": Ledger.take_interrupt, "END": Ledger.take_end,
     "DONE": Ledger.take_done, "TICKS": Ledger.take_ticks, "SUM": Ledger.take_sum,

@@ -1,4 +1,4 @@
-"""The text of an entry: its card, where its half-words are still as that laid them, else the instruction spelled out."""
+"""The text of an entry: its card, where its half-words are still those, else the instruction spelled out."""
 import functools
 import os
 import sys

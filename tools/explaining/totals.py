@@ -9,7 +9,8 @@ class Totals:
     def __init__(self, levels):
         self.rows = self.dropped = self.wrong_guesses = self.interrupts = self.ticks = 0
         self.by_cause = dict.fromkeys(CAUSES, 0)
-        self.by_reason = {reason: {"rows": 0, "ticks": 0, "late": 0} for reason in (*SEGMENT_REASONS.values(), *REASONS[1:])}
+        reasons = [*SEGMENT_REASONS.values(), *REASONS[1:]]
+        self.by_reason = {reason: {"rows": 0, "ticks": 0, "late": 0} for reason in reasons}
         self.places = {}                                # by half-word address: [text, times, ticks by cause]
         self.level_wait_rows = self.level_wait_ticks = 0
         self.banks = [{"bank": k, "reads": 0, "busy": 0, "waited": 0} for k in range(BANKS)]
@@ -68,7 +69,7 @@ class Totals:
                 self.answers.append((read.bank, read.answer))
 
     def close(self, end):
-        """All is added: what reads take behind the last tick does not count. The sums must be those of the run's end."""
+        """All is added: what reads take behind the last tick does not count. The sums have to be those of the end."""
         for bank, tick in self.answers:
             self.banks[bank]["busy"] -= tick - self.ticks
         self.by_levels = self.standing.ticks_by_number(self.ticks)
