@@ -34,27 +34,6 @@ def soak(words):
     return text(report(assembler.assemble(deckmaker.made_deck(number, cards)), [f'SOAK {number} {cards}']))
 
 
-def ledger_lines(words, read):
-    """The lines that the program `ledger` writes, one after another, and the exit status. Follows docs/ledger.md."""
-    if len(words) > 1 or words and not (len(words[0]) == 1 and '1' <= words[0] <= '8'):
-        return [], NO_COMMAND
-    job = read()
-    if len(job) > JOB:
-        return [], TOO_LONG
-    try:
-        program = assembler.assemble(job)
-    except Refused as refused:
-        return [refused.line()], 1
-    levels = int(words[0]) if words else 4
-    return (f'{line}\n'.encode('latin-1') for line in ledger.ledger(program, levels)), 0
-
-
-def ledger_answer(words, read):
-    """The same as one piece."""
-    lines, status = ledger_lines(words, read)
-    return b''.join(lines), status
-
-
 def answer(words, read):
     """What is written and the exit status. `read` gives the job's bytes; it is called where a command wants them."""
     if words[:1] == ['soak']:
@@ -62,13 +41,31 @@ def answer(words, read):
         return (b'', NO_COMMAND) if written is None else (written, 0)
     if len(words) != 1 or words[0] not in COMMANDS:
         return b'', NO_COMMAND
+    return answer_of(COMMANDS[words[0]], read)
+
+
+def answer_of(command, read):
     job = read()
     if len(job) > JOB:
         return b'', TOO_LONG
     try:
-        return COMMANDS[words[0]](job), 0
+        return command(job), 0
     except Refused as refused:
         return refused.line(), 1
+
+
+def ledger_lines(words, read):
+    """The same of the program `ledger` (docs/ledger.md), but that what is written comes line by line."""
+    if len(words) > 1 or words and not (len(words[0]) == 1 and '1' <= words[0] <= '8'):
+        return [], NO_COMMAND
+    levels = int(words[0]) if words else 4
+    written, status = answer_of(lambda job: ledger.ledger(assembler.assemble(job), levels), read)
+    return ([written] if status else (text([line]) for line in written)), status
+
+
+def ledger_answer(words, read):
+    lines, status = ledger_lines(words, read)
+    return b''.join(lines), status
 
 
 PROGRAMS = {'stretch': answer, 'ledger': ledger_answer}

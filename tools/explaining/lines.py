@@ -43,9 +43,9 @@ class Use:
 
 @dataclass(slots=True)
 class Piece:
-    """The ticks behind `start`, up to and with `end`, with their cause. Of a wait also the word that is waited for, and the
-    read that is on its way, was accepted, or stood first in its turn, as (row, word, bank); of the second its kind, of the
-    third the read that kept its bank busy, as (row, word, kind)."""
+    """The ticks behind `start`, up to and with `end`, with their cause. Of a wait also the word that is waited for, and
+    the read that is on its way, was accepted, or stood first in its turn, as (row, word, bank); of the second its kind,
+    of the third the read that kept its bank busy, as (row, word, kind)."""
     start: int
     end: int
     cause: str
@@ -322,10 +322,11 @@ LINES = {
     "LEVELS": Ledger.take_levels, "DELAYS": Ledger.take_delays, "IC": Ledger.take_counter, "EN": Ledger.take_enabled,
     "WORD": Ledger.take_word, "SEGMENT": Ledger.take_segment, "ROW": Ledger.take_row, "MISSED": Ledger.take_missed,
     "ALONE": Ledger.take_alone, "SUPPRESSED": Ledger.take_suppressed, "LAID": Ledger.take_laid,
-    "CODE": Ledger.take_code, "USE": Ledger.take_use, "WRITES": Ledger.take_writes, "INDEX": Ledger.take_index, "CHARGE": Ledger.take_charge,
-    "WAIT": Ledger.take_wait, "LEVEL": Ledger.take_level, "BECAUSE": Ledger.take_because, "DROP": Ledger.take_drop,
-    "BEGUN": Ledger.take_begun, "PRT": Ledger.take_print, "INT": Ledger.take_interrupt, "END": Ledger.take_end,
-    "DONE": Ledger.take_done, "TICKS": Ledger.take_ticks, "SUM": Ledger.take_sum,
+    "CODE": Ledger.take_code, "USE": Ledger.take_use, "WRITES": Ledger.take_writes, "INDEX": Ledger.take_index,
+    "CHARGE": Ledger.take_charge, "WAIT": Ledger.take_wait, "LEVEL": Ledger.take_level,
+    "BECAUSE": Ledger.take_because, "DROP": Ledger.take_drop, "BEGUN": Ledger.take_begun, "PRT": Ledger.take_print,
+    "INT": Ledger.take_interrupt, "END": Ledger.take_end, "DONE": Ledger.take_done, "TICKS": Ledger.take_ticks,
+    "SUM": Ledger.take_sum,
 }
 
 

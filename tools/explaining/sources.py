@@ -5,7 +5,7 @@ import tempfile
 
 from .lines import Off, place
 
-PROVED = False      # whether the program `ledger` of crates/ writes all lines; until then they are those of model/ledger
+PROVED = False      # whether the program `ledger` of crates/ writes all lines; else they are those of model/ledger
 HOME = os.path.join(os.path.dirname(os.path.realpath(__file__)), "..", "..")
 MOST_LEVELS = 8
 OWN = 4             # the levels of the machine of `run`
@@ -63,7 +63,7 @@ def started(command, job):
 
 
 def lines_of(process):
-    """What a program writes, line by line. Where it refuses the job, or writes nothing, Stopped has all that it wrote."""
+    """What a program writes, line by line. Where it refuses the job, or writes nothing, Stopped has what it wrote."""
     first = process.stdout.readline()
     if not first or first.startswith(b"CARD "):
         rest = process.stdout.read()
