@@ -200,13 +200,13 @@ export class Timetable {
       for (const charge of entry.charges) {
         bars.push(this.piece(charge.from, charge.to, y + 16, 4, `f-${charge.cause}`, { 'data-cause': charge.cause }));
       }
-      if (entry.missed) bars.push(s('text', { class: 'event', x: this.x(entry.c) + 6, y: y + 14 }, 'guessed wrongly'));
+      if (entry.missed && this.x(entry.c) >= this.app.left) bars.push(s('text', { class: 'event', x: this.x(entry.c) + 6, y: y + 14 }, 'guessed wrongly'));
     }
     const { left } = this.app;
     const here = this.app.isLevel(this.run, entry);
     const marked = this.app.card !== null && entry.card === this.app.card;
     if (here || marked) labels.push(s('rect', { class: here ? 'here' : 'marked', x: 0, y, width: left - 4, height: LINE }));
-    const room = left > 200 ? 26 : 11;
+    const room = left > 200 ? 26 : 9;
     const text = (entry.text || '').replace(/\s+/g, ' ').slice(0, room);
     if (left > 200) labels.push(s('text', { x: 40, y: y + 15, 'text-anchor': 'end' }, entry.dropped ? 'drop' : String(entry.row)));
     const x = left > 200 ? 96 : 52;

@@ -58,7 +58,7 @@ const SERIAL = new Map([
   ['table', 'it is the instruction of an interrupt table'],
   ['execute', 'it executes another one (EX)'],
   ['register', 'it uses a register as a word'],
-  ['operation', 'such an operation'],
+  ['operation', 'by its operation'],
 ]);
 
 export function aloneText(serial) {
@@ -91,7 +91,7 @@ export function nextWaits(run, entry, t) {
     const own = entry.uses.filter((use) => use.kind === 'instruction').map((use) => use.word);
     const writer = run.levels(t).find((level) => level.writes?.some((written) => own.includes(written)));
     if (writer) return `waits until ${writer.address} has stored into its words`;
-    if (entry.serial) return `waits for all before it: ${aloneText(entry.serial)}`;
+    if (entry.serial) return `waits for all before it: it is ${aloneText(entry.serial)}`;
     const before = run.before(entry);
     if (before?.serial && (before.c === undefined || before.c > t)) return `waits for ${before.address}, which is ${aloneText(before.serial)}`;
     return 'waits for reads that came before its own';
