@@ -5,7 +5,10 @@ import tempfile
 
 from .lines import Off, place
 
-PROVED = False      # whether the program `ledger` of crates/ writes all lines; else they are those of model/ledger
+# What the program `ledger` of crates/ writes: None as long as there is none, the kinds of its lines, or ALL of them.
+# All other lines are those of model/ledger.
+ALL = "all"
+WRITES = None
 HOME = os.path.join(os.path.dirname(os.path.realpath(__file__)), "..", "..")
 MOST_LEVELS = 8
 OWN = 4             # the levels of the machine of `run`
@@ -21,20 +24,31 @@ class Stopped(Exception):
 
 
 class Programs:
-    """The programs that are asked: `stretch` answers as ./stretch does, `ledger` writes the lines."""
+    """The programs that are asked. `stretch` answers as ./stretch does; LEDGER names one that writes all lines."""
 
     def __init__(self, stretch):
         self.stretch = stretch
-        self.ledger = os.environ.get("LEDGER") or None
+        self.named = os.environ.get("LEDGER") or None
+        self.writes = ALL if self.named else WRITES
+
+    def lines(self, levels, job):
+        """The lines of the ledger of a job on a machine of so many levels."""
+        words = [str(levels)]
+        if self.writes == ALL:
+            return lines_of(self.start_ledger(words, job))
+        lines = lines_of(started([os.path.join(HOME, "model", "ledger")] + words, job))
+        if self.writes is None:
+            return lines
+        return compared(lines, told(self.start_ledger(words, job)), self.writes)
+
+    def ticks(self, levels, job):
+        """The ticks of a run, by its ledger."""
+        lines = self.lines(levels, job) if self.writes is None else lines_of(self.start_ledger([str(levels)], job))
+        return [int(line[6:]) for line in lines if line.startswith("TICKS ")][-1]
 
     def start_ledger(self, words, job):
-        if self.ledger:
-            command = [self.ledger]
-        elif not PROVED:
-            command = [os.path.join(HOME, "model", "ledger")]
-        elif os.access(os.path.join(HOME, "programs", "ledger"), os.X_OK):      # where it is installed
-            command = [os.path.join(HOME, "programs", "ledger")]
-        else:
+        command = [self.named or os.path.join(HOME, "programs", "ledger")]      # where it is installed
+        if not os.access(command[0], os.X_OK):
             command = ["sh", os.path.join(HOME, ".ci", "start"), "ledger"]
         return started(command + words, job)
 
@@ -42,11 +56,6 @@ class Programs:
         if self.stretch is None:
             raise Stopped(NO_PROGRAM)
         return started([self.stretch] + words, job)
-
-    @property
-    def is_checked(self):
-        """Whether the rows have to be compared with those of ./stretch."""
-        return not PROVED and not self.ledger
 
 
 def started(command, job):
@@ -72,13 +81,32 @@ def lines_of(process):
     return told(process, first)
 
 
-def told(process, first):
-    yield first[:-1].decode("latin-1")
+def told(process, first=b""):
+    if first:
+        yield first[:-1].decode("latin-1")
     for line in process.stdout:
         yield line[:-1].decode("latin-1")
     status = process.wait()
     if status:
         raise Stopped(status)
+
+
+def compared(lines, others, kinds):
+    """Lines; those of some kinds have to be the lines of another program, one after another."""
+    for line in lines:
+        if kind_of(line) in kinds:
+            other = next(others, "nothing")
+            if line != other:
+                raise Off("model/ledger says '%s' where the program says '%s'" % (line, other))
+        yield line
+    for other in others:
+        raise Off("model/ledger does not say '%s'" % other)
+
+
+def kind_of(line):
+    """The first word; of sums of waits two."""
+    words = line.split(" ")
+    return "SUM WAIT" if words[0] == "SUM" and len(words) == 4 else words[0]
 
 
 def output(process):
@@ -117,23 +145,20 @@ class Deck:
 WISHES = ("TRACE", "CHART", "TIME", "SNAP", "DUMP", "BACK", "LIST")
 
 
-class Proved:
-    """The rows of the report of ./stretch, one after another, beside those of a ledger."""
+class Report:
+    """The rows of the report of ./stretch, one after another, to be compared with those of a ledger."""
 
     def __init__(self, programs, deck):
         job = deck.without(*WISHES) + b"/CHART\n/TIME\n"
         self.process = programs.start(["run"], job)
-        self.lines = (line[:-1].decode("latin-1") for line in self.process.stdout)
-
-    def next(self):
-        return next((line for line in self.lines if line.split(" ")[0] in ("ROW", "DROP", "TICKS", "CARD")), "nothing")
+        self.lines = (line for line in told(self.process) if kind_of(line) in ("ROW", "DROP", "TICKS", "CARD"))
 
     def compare(self, wanted):
-        found = self.next()
+        found = next(self.lines, "nothing")
         if found != wanted:
             raise Off("model/ledger says '%s' where ./stretch says '%s'" % (wanted, found))
 
-    def add(self, row):
+    def compare_row(self, row):
         self.compare("ROW %d %s P %d R %d C %d" % (row.row, place(row.address), row.p, row.r, row.c))
         if row.ends:
             for entry in reversed(row.segment.dropped):
@@ -141,20 +166,11 @@ class Proved:
 
     def close(self, ticks):
         self.compare("TICKS %d" % ticks)
-        self.process.stdout.read()
-        self.process.wait()
+        for _ in self.lines:
+            pass
 
 
 # ---- other machines
-
-def ticks_of(programs, levels, job):
-    """The ticks of a run on a machine of so many levels, by its ledger."""
-    ticks = None
-    for line in lines_of(programs.start_ledger([str(levels)], job)):
-        if line.startswith("TICKS "):
-            ticks = int(line[6:])
-    return ticks
-
 
 def swept(programs, job):
     """The ticks of a run with an empty reader on machines of one to eight levels."""
@@ -170,8 +186,8 @@ def other_machines(programs, deck, levels, delays, ticks):
     slow = set(delays) != {1}
     if deck.has_reader_cards:
         numbers = range(1, MOST_LEVELS + 1)
-        on_levels = [ticks if n == levels else ticks_of(programs, n, deck.job) for n in numbers]
-        return on_levels, ticks_of(programs, levels, at_once) if slow else ticks
+        on_levels = [ticks if n == levels else programs.ticks(n, deck.job) for n in numbers]
+        return on_levels, programs.ticks(levels, at_once) if slow else ticks
     on_levels = swept(programs, deck.job)
     if on_levels[levels - 1] != ticks:
         raise Off("the ledger has %d ticks, and ./stretch sweep %d" % (ticks, on_levels[levels - 1]))
