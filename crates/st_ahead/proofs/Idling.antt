@@ -14,7 +14,7 @@ use Rattle.st_ahead.specs.Idle.{after_ticks, IsIdle, AreIdle}
 use Rattle.st_ahead.specs.Inside.{standing, IsInside}
 use Rattle.st_ahead.specs.Look.{LookView, IsLook}
 use Rattle.st_ahead.specs.declared.events.Settled.TheVariants.{Goes}
-use Rattle.st_ahead.proofs.Standing.{overlap, left_over}
+use Rattle.st_ahead.proofs.Standing.{overlap, left_over, same-fields}
 
 -- ---- no tick
 
@@ -55,24 +55,23 @@ module _ (ds : List ℕ) (n : ℕ) (s : Machine) (t : Option ℕ) (f : Front) (d
 
 -- ---- what the machine keeps
 
--- the tick `last` is the one before the next
-over-calm : (n : ℕ) (ds : List ℕ) (s : Machine) (t : Option ℕ) (now k last : ℕ) (v : LookView)
-    → IsInside (standing n ds s t None now false false false v) false v → 1 ≤ k → now + k ≤ 2 ^ 63 → last + 1 ≡ now + k
-    → last < (row ds n (oldest_front v.levels.plans v.front) (entry t s)).c
-    → IsLook ds n last (last + 1) t s (oldest_front v.levels.plans v.front) v
-    → IsInside (standing n ds s t None (now + k) false false false v) false v
+-- k ticks are passed over
+over-calm : (n : ℕ) (ds : List ℕ) (s : Machine) (t : Option ℕ) (now k : ℕ) (v w : LookView)
+    → IsInside (standing n ds s t None now false false false v) false v → 1 ≤ now → now + k ≤ 2 ^ 63
+    → now + k - 1 < (row ds n (oldest_front v.levels.plans v.front) (entry t s)).c
+    → IsLook ds n (now + k - 1) (now + k) t s (oldest_front v.levels.plans v.front) w
+    → oldest_front w.levels.plans w.front ≡ oldest_front v.levels.plans v.front
+    → IsInside (standing n ds s t None (now + k) false false false w) false w
     × AreIdle k (standing n ds s t None now false false false v)
-    × (standing n ds s t None (now + k) false false false v ≡ after_ticks k (standing n ds s t None now false false false v))
+    × (standing n ds s t None (now + k) false false false w ≡ after_ticks k (standing n ds s t None now false false false v))
 unfolding seen
-over-calm n ds s t now k last v is some early next late look =
+over-calm n ds s t now k v w is some early late look front =
     let f = oldest_front v.levels.plans v.front in
-    let quiet = is.quiet refl in
-    let before : last ≡ now + k - 1 = omega arith in
-    let here = subst (λ (x : ℕ). IsLook ds n last x t s f v) next look in (
+    let quiet = is.quiet refl in (
       record {
         some = is.some;
         few = is.few;
-        looking = subst (λ (x : ℕ). IsLook ds n x (now + k) t s f v) before here;
+        looking = subst (λ (g : Front). IsLook ds n (now + k - 1) (now + k) t s g w) (sym front) look;
         indicator = is.indicator;
         in_time = early;
         fresh_owed = λ e. absurd (cc e);
@@ -81,28 +80,33 @@ over-calm n ds s t now k last v is some early next late look =
         done_now = λ e. absurd (cc e);
         none_taken = λ e. absurd (cc e);
         quiet = λ e. quiet;
-        unstarted = λ e first. absurd (omega (arith, first));
+        unstarted = λ e first. absurd (omega (arith, first, some));
+        near = λ e. absurd (cc e);
       },
-      are-idle ds n s t f quiet.0 quiet.1 k now (omega arith),
-      sym (after-idle ds n s t f quiet.0 quiet.1 k now (omega arith)),
+      are-idle ds n s t f quiet.0 quiet.1 k now (omega (arith, late)),
+      same-fields ds n s s t None None _ _ (now + k) false false None None refl refl front refl
+          ∙ sym (after-idle ds n s t f quiet.0 quiet.1 k now (omega (arith, late))),
     )
 
-pub passed-over : (n : ℕ) (ds : List ℕ) (s : Machine) (t b : Option ℕ) (now to : ℕ) (owed ended fresh : Bool) (v : LookView)
-    → IsInside (standing n ds s t b now owed ended fresh v) fresh v → owed ≡ false → now < to → to ≤ 2 ^ 63
-    → (let f = oldest_front v.levels.plans v.front in IsLook ds n (to - 1) (to - 1 + 1) t s f v × (to - 1 < (row ds n f (entry t s)).c))
-    → IsInside (standing n ds s t b to owed ended fresh v) fresh v
+pub passed-over : (n : ℕ) (ds : List ℕ) (s : Machine) (t b : Option ℕ) (now to : ℕ) (owed ended fresh : Bool) (v w : LookView)
+    → IsInside (standing n ds s t b now owed ended fresh v) fresh v → owed ≡ false → 1 ≤ now → now ≤ to → to ≤ 2 ^ 63
+    → (let f = oldest_front v.levels.plans v.front in IsLook ds n (to - 1) to t s f w × (to - 1 < (row ds n f (entry t s)).c))
+    → oldest_front w.levels.plans w.front ≡ oldest_front v.levels.plans v.front
+    → IsInside (standing n ds s t b to owed ended fresh w) fresh w
     × AreIdle (to - now) (standing n ds s t b now owed ended fresh v)
-    × (standing n ds s t b to owed ended fresh v ≡ after_ticks (to - now) (standing n ds s t b now owed ended fresh v))
-passed-over n ds s t b now to true ended fresh v is e later early rests = absurd (cc e)
-passed-over n ds s t b now to false true fresh v is e later early rests = absurd (cc (is.ended_owed refl))
-passed-over n ds s t b now to false false true v is e later early rests = absurd (cc (is.fresh_owed refl))
-passed-over n ds s t (Some h) now to false false false v is e later early rests = absurd (cc (is.behind_fresh refl))
-passed-over n ds s t None now to false false false v is e later early rests =
-    let same : now + (to - now) ≡ to = omega arith in
-    let all = over-calm n ds s t now (to - now) (to - 1) v is (omega arith) (omega arith) (omega arith) rests.1 rests.0 in (
-      subst (λ (x : ℕ). IsInside (standing n ds s t None x false false false v) false v) same all.0,
+    × (standing n ds s t b to owed ended fresh w ≡ after_ticks (to - now) (standing n ds s t b now owed ended fresh v))
+passed-over n ds s t b now to true ended fresh v w is e some later early rests front = absurd (cc e)
+passed-over n ds s t b now to false true fresh v w is e some later early rests front = absurd (cc (is.ended_owed refl))
+passed-over n ds s t b now to false false true v w is e some later early rests front = absurd (cc (is.fresh_owed refl))
+passed-over n ds s t (Some h) now to false false false v w is e some later early rests front = absurd (cc (is.behind_fresh refl))
+passed-over n ds s t None now to false false false v w is e some later early rests front =
+    let same : to ≡ now + (to - now) = omega (arith, later) in
+    let f = oldest_front v.levels.plans v.front in
+    let look = subst (λ (x : ℕ). IsLook ds n (x - 1) x t s f w) same rests.0 in
+    let all = over-calm n ds s t now (to - now) v w is some (omega (arith, early, later)) (omega (arith, rests.1, later)) look front in (
+      subst (λ (x : ℕ). IsInside (standing n ds s t None x false false false w) false w) (sym same) all.0,
       all.1,
-      ap (λ (x : ℕ). standing n ds s t None x false false false v) (sym same) ∙ all.2,
+      ap (λ (x : ℕ). standing n ds s t None x false false false w) same ∙ all.2,
     )
 
 -- ---- what idle ticks leave of any machine

@@ -122,10 +122,10 @@ impl<const N: usize> Machine<N> {
         if now == 0 {
             return 0;
         }
-        let rests_to = self.look.rests_to(now, limit);
-        if rests_to <= now {
+        if limit <= now {
             return 0;
         }
+        let rests_to = self.look.pass_to(limit, &self.state, &self.delays);
         self.now = rests_to;
         rests_to - now
     }

@@ -25,12 +25,12 @@ module _ (ds : List ℕ) where
   served-append [] ys b = refl
   served-append (x ∷ xs) ys b = served-append xs ys (after_one ds b x)
 
-  served-word : (o : Option ℕ) (w want : ℕ) (b : Bus) → served ds (word_asked o w want) b ≡ requested_if o ds b w want
+  pub served-word : (o : Option ℕ) (w want : ℕ) (b : Bus) → served ds (word_asked o w want) b ≡ requested_if o ds b w want
   unfolding served
   served-word (Some t) w want b = refl
   served-word None w want b = refl
 
-  served-words : (past : List Past) (from : ℕ) (s : Fetching) (w n : ℕ)
+  pub served-words : (past : List Past) (from : ℕ) (s : Fetching) (w n : ℕ)
       → served ds (words_asked ds past s from w n) s.bus ≡ (fetch_words ds past s from w n).bus
   unfolding words_asked fetch_words fetch_word requested
   served-words past from s w zero = served-none s.bus

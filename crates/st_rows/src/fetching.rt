@@ -35,11 +35,10 @@ impl Fetching {
         }
     }
 
-    /// No word is fetched yet.
-    pub fn restart(&mut self, bus: &Bus)
-        ensures { self.new ≡ record { bus = bus.now; answered = 0; awaited = 0 } }
+    /// No word is fetched yet of an entry behind the last one.
+    pub fn restart(&mut self)
+        ensures { self.new ≡ record { bus = self.old.bus; answered = 0; awaited = 0 } }
     {
-        self.bus = *bus;
         self.answered = 0;
         self.awaited = 0;
     }
