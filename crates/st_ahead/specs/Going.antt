@@ -46,6 +46,10 @@ pub record Reaches (ds : List ℕ) (n last : ℕ) (s : Machine) (v : LookView) :
   pub front : Front
   pub goes : GoesUpTo ds n last table s front v
 
+-- the next entry is not prepared before the tick `due` and up to the tick `last`, as far as it is planned
+abbrev pub WaitsFor : ℕ → ℕ → LookView → Type 0
+WaitsFor due last v = v.next.planned ≡ true → v.next.formed.p < due → v.next.formed.p ≤ last → ⊥
+
 -- the oldest entry is done at the tick `due`, `last` at the latest, and all ticks before it are made
 pub record IsDueAt (ds : List ℕ) (n last due : ℕ) (t : Option ℕ) (s : Machine) (f : Front) (v : LookView) : Type 0 where
   pub soon : due ≤ last

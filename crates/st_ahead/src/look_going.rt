@@ -1,5 +1,5 @@
 //! What runs ahead goes on, from one entry that is prepared to the next one, up to a completion.
-ghost use Rattle.std.specs.Prelude.{◌≡◌, ℕ, ◌+◌, ◌-◌, ◌<◌, ◌≤◌, ◌^◌, true, false, max, if◌then◌else◌, Option, None, Some};
+ghost use Rattle.std.specs.Prelude.{◌≡◌, ℕ, ◌+◌, ◌-◌, ◌<◌, ◌≤◌, ◌^◌, true, false, nat_le, if◌then◌else◌, Option, None, Some};
 ghost use Rattle.st_rows.specs.declared.front.Front.{Front as FrontOf};
 ghost use Rattle.st_levels.specs.Levels.{due_of};
 
@@ -14,7 +14,8 @@ use st_segment::guesses_leave_the_rest;
 use st_state::State;
 
 impl<const N: usize> Look<N> {
-    ghost use Rattle.st_ahead.specs.Going.{IsGoing, Goes, GoesUpTo, Reaches, HasGone};
+    ghost use Rattle.st_ahead.specs.Look.{count};
+    ghost use Rattle.st_ahead.specs.Going.{IsGoing, Goes, GoesUpTo, Reaches, HasGone, WaitsFor};
 
     // All that is prepared before the oldest level is done, and up to the tick `last`, below 2^63, becomes levels, whose slots are empty. The result is the
     // tick at which the oldest one is done, if that is `last` at the latest; else nothing more happens up to `last`.
@@ -29,29 +30,43 @@ impl<const N: usize> Look<N> {
     {
         delays.shape();
         'entries: loop {
-            let due = self.levels.due();
+            let due = self.due();
             self.plan_before(due, last, state, delays);
-            if self.is_next_before(due, last) {
-                let p = self.next.formed.p;
-                self.push(p, state, delays);
-            } else if due <= last {
-                return Some(due);
-            } else {
-                return None;
+            if !self.is_next_before(due, last) {
+                return stop_at(due, last);
             }
+            let p = self.next_prepared();
+            self.push(p, state, delays);
+            self.shape();
         }
+    }
+
+    // The tick at which the oldest level is done, 2^64 - 1 where there is none.
+    #[inline(always)]
+    fn due(&self) -> u64
+        ensures { result ≡ due_of self.now.levels.plans }
+    {
+        self.levels.due()
     }
 
     // Whether the next entry is planned, and prepared before the tick `due` and up to the tick `last`.
     #[inline(always)]
     fn is_next_before(&self, due: u64, last: u64) -> bool
         ensures yes { result ≡ true → (self.now.next.planned ≡ true) × (self.now.next.formed.p < due) × (self.now.next.formed.p ≤ last) }
-        ensures no { result ≡ false → self.now.next.planned ≡ true → self.now.next.formed.p < due → self.now.next.formed.p ≤ last → ⊥ }
+        ensures no { result ≡ false → WaitsFor due last self.now }
     {
         if !self.next.planned {
             return false;
         }
         self.next.formed.p < due && self.next.formed.p <= last
+    }
+
+    // When it is prepared, where it is planned.
+    #[inline(always)]
+    fn next_prepared(&self) -> u64
+        ensures { result ≡ self.now.next.formed.p }
+    {
+        self.next.formed.p
     }
 
     // The next entry is planned, which it is as soon as its words are known; the oldest level is done at the tick `due`.
@@ -95,9 +110,10 @@ impl<const N: usize> Look<N> {
         requires going { Goes delays.now N now (now + 1) state.now self.old }
         requires planned { self.old.next.planned ≡ true }
         requires due { self.old.next.formed.p ≡ now }
-        ensures { (t : Option ℕ) (f : FrontOf) →
+        ensures going { (t : Option ℕ) (f : FrontOf) →
             IsGoing delays.now N now (now + 1) t state.now f self.old →
             IsGoing delays.now N now now t state.now f self.new }
+        ensures count { count self.new ≡ count self.old + 1 }
     {
         planned_entries_become_levels();
         guesses_leave_the_rest();
@@ -120,6 +136,14 @@ impl<const N: usize> Look<N> {
         let place = place_behind(&self.next.prepared);
         self.next.restart(place);
     }
+}
+
+// The tick `due`, if it is `last` at the latest.
+#[inline(always)]
+fn stop_at(due: u64, last: u64) -> Option<u64>
+    ensures { result ≡ (if nat_le due last then Some due else None) }
+{
+    if due <= last { Some(due) } else { None }
 }
 
 // The place behind an entry, by the counter that it is guessed to leave.

@@ -7,7 +7,6 @@ ghost use Rattle.st_segment.specs.Entries.{entry};
 use crate::look::Look;
 use crate::look_laws::looks_are_levels;
 use st_banks::Delays;
-use st_segment::entries_are_in_range;
 use st_state::State;
 
 impl<const N: usize> Look<N> {
@@ -25,6 +24,8 @@ impl<const N: usize> Look<N> {
             IsLook delays.now N now now t state.now f self.old →
             IsLook delays.now N now (now + 1) t state.now f self.new }
     {
+        looks_are_levels();
+        self.shape();
         delays.shape();
         self.go_to(now, state, delays);
         self.fill(state, now);
@@ -39,19 +40,19 @@ impl<const N: usize> Look<N> {
         requires start { 1 ≤ limit }
         requires going { Reaches delays.now N (limit - 1) state.now self.old }
         ensures limit { result ≤ limit }
-        ensures { (t : Option ℕ) (f : FrontOf) (now : ℕ) → IsLook delays.now N (now - 1) now t state.now f self.old → 1 ≤ now → now < limit →
+        ensures gone { (t : Option ℕ) (f : FrontOf) (now : ℕ) → IsLook delays.now N (now - 1) now t state.now f self.old → 1 ≤ now → now < limit →
             (now ≤ result)
             × IsLook delays.now N (result - 1) result t state.now f self.new
             × (result - 1 < (row delays.now N f (entry t state.now)).c) }
     {
         looks_are_levels();
-        entries_are_in_range();
         self.shape();
         delays.shape();
         let last = limit - 1;
         let gone = self.go_to(last, state, delays);
         let to = reached(gone, limit);
         self.fill(state, to - 1);
+        self.shape();
         to
     }
 }

@@ -117,6 +117,7 @@ impl<const N: usize> Machine<N> {
         ensures idle { AreIdle result self.old }
         ensures after { self.new ≡ after_ticks result self.old }
     {
+        levels_are_the_entries_ahead();
         self.delays.shape();
         let now = self.now;
         if now == 0 {

@@ -144,7 +144,7 @@ few-word : (o : Option ℕ) (w want : ℕ) → length (word_asked o w want) ≤ 
 few-word (Some t) w want = omega arith
 few-word None w want = omega arith
 
-few-words : (ds : List ℕ) (past : List Past) (from : ℕ) (s : Fetching) (w n : ℕ) → length (words_asked ds past s from w n) ≤ n
+pub few-words : (ds : List ℕ) (past : List Past) (from : ℕ) (s : Fetching) (w n : ℕ) → length (words_asked ds past s from w n) ≤ n
 unfolding words_asked
 few-words ds past from s w zero = omega arith
 few-words ds past from s w (suc n) =
@@ -155,12 +155,12 @@ few-data : (late : Bool) (w tick : ℕ) → length {A = Read} (if late then [] e
 few-data true w tick = omega arith
 few-data false w tick = omega arith
 
-few-side : (past : List Past) (side : Option ℕ) (a : ℕ) → length (side_asked past side a) ≤ side_count side
+pub few-side : (past : List Past) (side : Option ℕ) (a : ℕ) → length (side_asked past side a) ≤ side_count side
 unfolding side_asked
 few-side past None a = omega arith
 few-side past (Some w) a = few-data (is_forwarded past w a) w a
 
-few-operands : (past : List Past) (p w n : ℕ) → length (operands_asked past p w n) ≤ n
+pub few-operands : (past : List Past) (p w n : ℕ) → length (operands_asked past p w n) ≤ n
 unfolding operands_asked
 few-operands past p w zero = omega arith
 few-operands past p w (suc n) = simp length-append (omega (arith, few-data (is_forwarded past w p) w p, few-operands past p (w + 1) n))
@@ -169,7 +169,7 @@ few-inside : (inside : Bool) (o : Option ℕ) (w p : ℕ) → length (if inside 
 few-inside true o w p = few-word o w p
 few-inside false o w p = omega arith
 
-few-following : (follows : Bool) (ds : List ℕ) (b : Bus) (w p : ℕ)
+pub few-following : (follows : Bool) (ds : List ℕ) (b : Bus) (w p : ℕ)
     → length (if follows then inside_asked b w p ++ inside_asked (request_inside ds b w p) (w + 1) p else []) ≤ 2
 few-following false ds b w p = omega arith
 few-following true ds b w p =

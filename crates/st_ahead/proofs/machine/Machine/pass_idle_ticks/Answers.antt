@@ -1,9 +1,9 @@
-use Rattle.std.proofs.Common.{◌≡◌, ◌-◌, ◌≤◌, ◌^◌, false, sym, subst, arith}
-use Rattle.st_rows.proofs.Within.{AreDelays-list}
+use Rattle.std.proofs.Common.{◌≡◌, ◌-◌, ◌<◌, ◌≤◌, ◌^◌, false, sym, subst, arith}
 use Rattle.st_levels.specs.Levels.{oldest_front}
 use Rattle.st_ahead.specs.Overlap.{Overlap}
 use Rattle.st_ahead.specs.Idle.{after_ticks, AreIdle}
 use Rattle.st_ahead.specs.Inside.{standing}
+use Rattle.st_ahead.proofs.Settling.{look-runs}
 use Rattle.st_ahead.proofs.Standing.{idle}
 use Rattle.st_ahead.proofs.Idling.{after-none, passed-over}
 use Rattle.st_ahead.proofs.machine.Machine.pass_idle_ticks.Goals as goal
@@ -11,50 +11,77 @@ use Rattle.st_ahead.proofs.machine.Machine.pass_idle_ticks.Goals as goal
 pub returns-then-now-eq0-clause-after : goal.returns-then-now-eq0-clause-after
 returns-then-now-eq0-clause-after g c = after-none c.args.self.now
 
-pub returns-then-rests_to-now-clause-after : goal.returns-then-rests_to-now-clause-after
-returns-then-rests_to-now-clause-after g c = after-none c.args.self.now
+pub returns-then-limit-now-clause-after : goal.returns-then-limit-now-clause-after
+returns-then-limit-now-clause-after g c = after-none c.args.self.now
+
+pub pass_to-rests_to-requires : goal.pass_to-rests_to-requires
+pass_to-rests_to-requires g c =
+    let n = g.row.N in
+    let i = c.self.inside in
+    let f = oldest_front i.look.levels.plans i.look.front in
+    let owes = subst (λ (m : Overlap). m.owed ≡ false) (sym c.self.view_is) c.requires.settled in
+    let at = idle n i.delays i.state i.taken i.behind i.now i.owed i.ended i.fresh i.look c.self.invariant owes in (
+      omega arith,
+      (c.self.invariant.some, (c.self.invariant.few, (c.requires.limit, (omega (arith, c.if-limit-now.false), record {
+        table = i.taken;
+        front = f;
+        goes = record {
+          tick = i.now - 1;
+          going = look-runs i.delays n i.now i.taken i.state f i.look at.look;
+          soon = omega (arith, c.if-limit-now.false);
+        };
+      })))),
+    )
+
+pub overflow_sub-result : goal.overflow_sub-result
+overflow_sub-result g c =
+    let n = g.row.N in
+    let i = c.self.inside in
+    let f = oldest_front i.look.levels.plans i.look.front in
+    let owes = subst (λ (m : Overlap). m.owed ≡ false) (sym c.self.view_is) c.requires.settled in
+    let at = idle n i.delays i.state i.taken i.behind i.now i.owed i.ended i.fresh i.look c.self.invariant owes in
+    (c.pass_to-rests_to.ensures.gone i.taken f i.now at.look (omega (arith, c.if-now-eq0.false)) (omega (arith, c.if-limit-now.false))).0
 
 pub invariant_of-self : goal.invariant_of-self
 invariant_of-self g c =
     let n = g.row.N in
     let i = c.self.inside in
-    let to = c.rests_to-rests_to.result in
+    let to = c.pass_to-rests_to.result in
+    let w = c.pass_to-rests_to.new.self in
     let f = oldest_front i.look.levels.plans i.look.front in
     let owes = subst (λ (m : Overlap). m.owed ≡ false) (sym c.self.view_is) c.requires.settled in
     let at = idle n i.delays i.state i.taken i.behind i.now i.owed i.ended i.fresh i.look c.self.invariant owes in
-    let early : to ≤ 2 ^ 63 = omega (arith, c.rests_to-rests_to.ensures.limit, c.requires.limit) in
-    let rests = c.rests_to-rests_to.ensures.rests i.delays (i.now - 1) (to - 1) i.taken i.state f c.self.invariant.some c.self.invariant.few
-    (AreDelays-list i.delays c.shape.ensures) at.look (omega (arith, c.if-now-eq0.false)) c.if-rests_to-now.false (omega (arith, c.if-rests_to-now.false))
-    (omega (arith, c.if-rests_to-now.false)) in
-    let all = passed-over n i.delays i.state i.taken i.behind i.now to i.owed i.ended i.fresh i.look c.self.invariant owes c.if-rests_to-now.false early rests in
-    all.0
+    let gone = c.pass_to-rests_to.ensures.gone i.taken f i.now at.look (omega (arith, c.if-now-eq0.false)) (omega (arith, c.if-limit-now.false)) in
+    let front = c.levels_are_the_entries_ahead.ensures.oldest i.delays n (to - 1) i.taken i.state f w.front w.levels gone.1.ahead in
+    (passed-over n i.delays i.state i.taken i.behind i.now to i.owed i.ended i.fresh i.look w c.self.invariant owes (omega (arith, c.if-now-eq0.false)) gone.0
+    (omega (arith, c.pass_to-rests_to.ensures.limit, c.requires.limit)) (gone.1, gone.2) front).0
 
 pub returns-clause-idle : goal.returns-clause-idle
 returns-clause-idle g c =
     let n = g.row.N in
     let i = c.self.inside in
-    let to = c.rests_to-rests_to.result in
+    let to = c.pass_to-rests_to.result in
+    let w = c.pass_to-rests_to.new.self in
     let f = oldest_front i.look.levels.plans i.look.front in
     let owes = subst (λ (m : Overlap). m.owed ≡ false) (sym c.self.view_is) c.requires.settled in
     let at = idle n i.delays i.state i.taken i.behind i.now i.owed i.ended i.fresh i.look c.self.invariant owes in
-    let early : to ≤ 2 ^ 63 = omega (arith, c.rests_to-rests_to.ensures.limit, c.requires.limit) in
-    let rests = c.rests_to-rests_to.ensures.rests i.delays (i.now - 1) (to - 1) i.taken i.state f c.self.invariant.some c.self.invariant.few
-    (AreDelays-list i.delays c.shape.ensures) at.look (omega (arith, c.if-now-eq0.false)) c.if-rests_to-now.false (omega (arith, c.if-rests_to-now.false))
-    (omega (arith, c.if-rests_to-now.false)) in
-    let all = passed-over n i.delays i.state i.taken i.behind i.now to i.owed i.ended i.fresh i.look c.self.invariant owes c.if-rests_to-now.false early rests in
-    subst (λ (m : Overlap). AreIdle (to - i.now) m) c.self.view_is all.1
+    let gone = c.pass_to-rests_to.ensures.gone i.taken f i.now at.look (omega (arith, c.if-now-eq0.false)) (omega (arith, c.if-limit-now.false)) in
+    let front = c.levels_are_the_entries_ahead.ensures.oldest i.delays n (to - 1) i.taken i.state f w.front w.levels gone.1.ahead in
+    subst (λ (m : Overlap). AreIdle (to - i.now) m) c.self.view_is
+    (passed-over n i.delays i.state i.taken i.behind i.now to i.owed i.ended i.fresh i.look w c.self.invariant owes (omega (arith, c.if-now-eq0.false)) gone.0
+    (omega (arith, c.pass_to-rests_to.ensures.limit, c.requires.limit)) (gone.1, gone.2) front).1
 
 pub returns-clause-after : goal.returns-clause-after
 returns-clause-after g c =
     let n = g.row.N in
     let i = c.self.inside in
-    let to = c.rests_to-rests_to.result in
+    let to = c.pass_to-rests_to.result in
+    let w = c.pass_to-rests_to.new.self in
     let f = oldest_front i.look.levels.plans i.look.front in
     let owes = subst (λ (m : Overlap). m.owed ≡ false) (sym c.self.view_is) c.requires.settled in
     let at = idle n i.delays i.state i.taken i.behind i.now i.owed i.ended i.fresh i.look c.self.invariant owes in
-    let early : to ≤ 2 ^ 63 = omega (arith, c.rests_to-rests_to.ensures.limit, c.requires.limit) in
-    let rests = c.rests_to-rests_to.ensures.rests i.delays (i.now - 1) (to - 1) i.taken i.state f c.self.invariant.some c.self.invariant.few
-    (AreDelays-list i.delays c.shape.ensures) at.look (omega (arith, c.if-now-eq0.false)) c.if-rests_to-now.false (omega (arith, c.if-rests_to-now.false))
-    (omega (arith, c.if-rests_to-now.false)) in
-    let all = passed-over n i.delays i.state i.taken i.behind i.now to i.owed i.ended i.fresh i.look c.self.invariant owes c.if-rests_to-now.false early rests in
-    subst (λ (m : Overlap). standing n i.delays i.state i.taken i.behind to i.owed i.ended i.fresh i.look ≡ after_ticks (to - i.now) m) c.self.view_is all.2
+    let gone = c.pass_to-rests_to.ensures.gone i.taken f i.now at.look (omega (arith, c.if-now-eq0.false)) (omega (arith, c.if-limit-now.false)) in
+    let front = c.levels_are_the_entries_ahead.ensures.oldest i.delays n (to - 1) i.taken i.state f w.front w.levels gone.1.ahead in
+    subst (λ (m : Overlap). standing n i.delays i.state i.taken i.behind to i.owed i.ended i.fresh w ≡ after_ticks (to - i.now) m) c.self.view_is
+    (passed-over n i.delays i.state i.taken i.behind i.now to i.owed i.ended i.fresh i.look w c.self.invariant owes (omega (arith, c.if-now-eq0.false)) gone.0
+    (omega (arith, c.pass_to-rests_to.ensures.limit, c.requires.limit)) (gone.1, gone.2) front).2
