@@ -17,3 +17,4 @@ pub mod Cards
 pub mod Views
 pub mod Resting
 pub mod Idling
+pub mod Passing
