@@ -104,7 +104,7 @@ passed-over n ds s t None now to false false false v is e later early rests =
     let all = over-calm n ds s t now (to - now) (to - 1) v is (omega arith) (omega arith) (omega arith) rests.1 rests.0 in (
       subst (λ (x : ℕ). IsInside (standing n ds s t None x false false false v) false v) same all.0,
       subst (λ (x : ℕ). ArePassed 0 (to - now) (standing n ds s t None now false false false v) (standing n ds s t None x false false false v))
-      same all.1,
+          same all.1,
     )
 
 -- ---- what idle ticks leave of any machine

@@ -216,3 +216,7 @@ passed-now (suc k) count m new are =
     let rest = passed-now k count (settled (ticked m)) new
     (record { each = λ i before. are.each (suc i) (omega (arith, before)); after = are.after }) in
     omega (arith, next, rest)
+
+pub goes-now : (m t u : Overlap) → t ≡ ticked m → u ≡ passed t → u.now ≡ m.now + 1
+goes-now m t u after goes_on =
+    ap (λ (x : Overlap). x.now) (goes_on ∙ ap {A = Overlap} passed after) ∙ ap (λ (x : ℕ). x + 1) (ticked-now m)
