@@ -17,3 +17,4 @@ pub mod Served
 pub mod Cards
 pub mod Views
 pub mod Idling
+pub mod Passing

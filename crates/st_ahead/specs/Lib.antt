@@ -5,4 +5,4 @@ pub mod Look
 pub mod Ticked
 pub mod Inside
 pub mod Going
-pub mod Idle
+pub mod RunTo

@@ -11,6 +11,7 @@ mod look_shape;
 mod look_steps;
 mod look_tick;
 mod machine;
+mod running;
 #[cfg(test)]
 mod tests;
 

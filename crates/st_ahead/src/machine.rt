@@ -47,7 +47,7 @@ impl<const N: usize> Machine<N> {
     ghost use Rattle.st_exec.specs.Transfer.{read_in as read_in_of, words_from};
     ghost use Rattle.st_ahead.specs.Overlap.{last_tick as last_tick_of};
     ghost use Rattle.st_ahead.specs.Shown.{AreLevelsOf, index_of, shown};
-    ghost use Rattle.st_ahead.specs.Idle.{AreIdle, after_ticks};
+    ghost use Rattle.st_ahead.specs.RunTo.{ArePassed};
 
     /// A machine before its first tick; the state is neither enabled nor waiting.
     pub fn new(state: State, delays: Delays) -> Machine<N>
@@ -108,14 +108,13 @@ impl<const N: usize> Machine<N> {
         })
     }
 
-    /// Passes over ticks at which nothing happens, as so many calls of `tick` and `settle` would, up to the tick `limit`, at most 2^63, which is not
-    /// made. The result is how many there are; more may follow. No settle is owed.
-    pub fn pass_idle_ticks(&mut self, limit: u64) -> u64
+    // Passes over ticks at which nothing happens, as so many calls of `tick` and `settle` would, up to the tick `limit`, at most 2^63, which is not
+    // made. The result is how many there are; more may follow. No settle is owed.
+    pub(crate) fn pass_idle_ticks(&mut self, limit: u64) -> u64
         requires settled { self.old.owed ≡ false }
         requires limit { limit ≤ 2 ^ 63 }
         ensures limit { result ≤ limit - self.old.now }
-        ensures idle { AreIdle result self.old }
-        ensures after { self.new ≡ after_ticks result self.old }
+        ensures idle { ArePassed 0 result self.old self.new }
     {
         levels_are_the_entries_ahead();
         self.delays.shape();
@@ -177,7 +176,7 @@ impl<const N: usize> Machine<N> {
     }
 
     // Whether nothing else comes behind the last tick than that it goes on.
-    fn goes_on(&self) -> bool
+    pub(crate) fn goes_on(&self) -> bool
         ensures yes { result ≡ true → (interrupt_due_of self.entry.now ≡ None)
             × (rests self.entry.now.state ≡ false) × (self.entry.now.behind ≡ None) }
         ensures no { result ≡ false → (is_some self.entry.now.behind || is_some (interrupt_due_of self.entry.now)
@@ -194,7 +193,7 @@ impl<const N: usize> Machine<N> {
     }
 
     // Where no entry was done, no interrupt is due, the machine is not at rest, and no branch was missed.
-    fn quiet(&self)
+    pub(crate) fn quiet(&self)
         ensures { self.entry.now.closing ≡ None → (interrupt_due_of self.entry.now ≡ None)
             × (rests self.entry.now.state ≡ false) × (self.entry.now.behind ≡ None) }
     {
@@ -450,6 +449,13 @@ impl<const N: usize> Machine<N> {
                 self.level(7),
             ],
         }
+    }
+
+    // The number of the tick that comes next, or is not settled yet.
+    pub(crate) fn next_tick(&self) -> u64
+        ensures { result ≡ self.entry.now.now }
+    {
+        self.now
     }
 
     // The number of the tick that was made last, 0 before the first one.

@@ -1,18 +1,18 @@
 use Rattle.std.proofs.Common.{◌≡◌, ◌-◌, ◌<◌, ◌≤◌, ◌^◌, false, sym, subst, arith}
 use Rattle.st_levels.specs.Levels.{oldest_front}
 use Rattle.st_ahead.specs.Overlap.{Overlap}
-use Rattle.st_ahead.specs.Idle.{after_ticks, AreIdle}
+use Rattle.st_ahead.specs.RunTo.{ArePassed}
 use Rattle.st_ahead.specs.Inside.{standing}
 use Rattle.st_ahead.proofs.Settling.{look-runs}
 use Rattle.st_ahead.proofs.Standing.{idle}
-use Rattle.st_ahead.proofs.Idling.{after-none, passed-over}
+use Rattle.st_ahead.proofs.Idling.{passed-none, passed-over}
 use Rattle.st_ahead.proofs.machine.Machine.pass_idle_ticks.Goals as goal
 
-pub returns-then-now-eq0-clause-after : goal.returns-then-now-eq0-clause-after
-returns-then-now-eq0-clause-after g c = after-none c.args.self.now
+pub returns-then-now-eq0-clause-idle : goal.returns-then-now-eq0-clause-idle
+returns-then-now-eq0-clause-idle g c = passed-none 0 c.args.self.now
 
-pub returns-then-limit-now-clause-after : goal.returns-then-limit-now-clause-after
-returns-then-limit-now-clause-after g c = after-none c.args.self.now
+pub returns-then-limit-now-clause-idle : goal.returns-then-limit-now-clause-idle
+returns-then-limit-now-clause-idle g c = passed-none 0 c.args.self.now
 
 pub pass_to-rests_to-requires : goal.pass_to-rests_to-requires
 pass_to-rests_to-requires g c =
@@ -67,21 +67,6 @@ returns-clause-idle g c =
     let at = idle n i.delays i.state i.taken i.behind i.now i.owed i.ended i.fresh i.look c.self.invariant owes in
     let gone = c.pass_to-rests_to.ensures.gone i.taken f i.now at.look (omega (arith, c.if-now-eq0.false)) (omega (arith, c.if-limit-now.false)) in
     let front = c.levels_are_the_entries_ahead.ensures.oldest i.delays n (to - 1) i.taken i.state f w.front w.levels gone.1.ahead in
-    subst (λ (m : Overlap). AreIdle (to - i.now) m) c.self.view_is
+    subst (λ (m : Overlap). ArePassed 0 (to - i.now) m (standing n i.delays i.state i.taken i.behind to i.owed i.ended i.fresh w)) c.self.view_is
     (passed-over n i.delays i.state i.taken i.behind i.now to i.owed i.ended i.fresh i.look w c.self.invariant owes (omega (arith, c.if-now-eq0.false)) gone.0
     (omega (arith, c.pass_to-rests_to.ensures.limit, c.requires.limit)) (gone.1, gone.2) front).1
-
-pub returns-clause-after : goal.returns-clause-after
-returns-clause-after g c =
-    let n = g.row.N in
-    let i = c.self.inside in
-    let to = c.pass_to-rests_to.result in
-    let w = c.pass_to-rests_to.new.self in
-    let f = oldest_front i.look.levels.plans i.look.front in
-    let owes = subst (λ (m : Overlap). m.owed ≡ false) (sym c.self.view_is) c.requires.settled in
-    let at = idle n i.delays i.state i.taken i.behind i.now i.owed i.ended i.fresh i.look c.self.invariant owes in
-    let gone = c.pass_to-rests_to.ensures.gone i.taken f i.now at.look (omega (arith, c.if-now-eq0.false)) (omega (arith, c.if-limit-now.false)) in
-    let front = c.levels_are_the_entries_ahead.ensures.oldest i.delays n (to - 1) i.taken i.state f w.front w.levels gone.1.ahead in
-    subst (λ (m : Overlap). standing n i.delays i.state i.taken i.behind to i.owed i.ended i.fresh w ≡ after_ticks (to - i.now) m) c.self.view_is
-    (passed-over n i.delays i.state i.taken i.behind i.now to i.owed i.ended i.fresh i.look w c.self.invariant owes (omega (arith, c.if-now-eq0.false)) gone.0
-    (omega (arith, c.pass_to-rests_to.ensures.limit, c.requires.limit)) (gone.1, gone.2) front).2
