@@ -135,15 +135,16 @@ waits-late due last now p waits before early = omega (arith, by-contra)
     by-contra : p ≤ now → ⊥
     by-contra low = waits (omega (arith, low, before)) (omega (arith, low, early))
 
-pub gone-due : (ds : List ℕ) (n tick last due : ℕ) (t : Option ℕ) (s : Machine) (f : Front) (v : LookView) → tick ≤ last → last < 2 ^ 63
-    → due ≡ due_of v.levels.plans → due ≤ last → WaitsFor due last v → IsGoing ds n tick due t s f v → HasGone ds n last t s f v (Some due)
-gone-due ds n tick last due t s f v soon early is_due before waits is =
+gone-due : (ds : List ℕ) (n since tick last due : ℕ) (t : Option ℕ) (s : Machine) (f : Front) (v : LookView) → since ≤ tick → tick ≤ last → last < 2 ^ 63
+    → due ≡ due_of v.levels.plans → due ≤ last → WaitsFor due last v → IsGoing ds n tick due t s f v → HasGone ds n since last t s f v (Some due)
+gone-due ds n since tick last due t s f v behind soon early is_due before waits is =
     let some = due-some ds n tick t s f v.front v.levels.ring v.levels.plans is.ahead.levels (omega (arith, is_due, before, early)) in
     let c = due-row ds n tick t s f v.front v.levels.ring v.levels.plans is.ahead.levels some in
     let first = done-later ds n t s f is.machine is.indicator in
     let at : due - 1 + 1 ≡ due = omega (arith, is_due, c, first) in
     let late : tick < due = due-late ds n tick t s f v.front v.levels.ring v.levels.plans is.ahead.levels is.not_done some due is_due in
     record {
+      later = omega (arith, behind, late);
       soon = before;
       some = some;
       row_is = sym c ∙ sym is_due;
@@ -153,45 +154,25 @@ gone-due ds n tick last due t s f v soon early is_due before waits is =
           (λ planned. waits-late due last (due - 1) v.next.formed.p (waits planned) (omega (arith, at)) (omega (arith, before))) is);
     }
 
-pub gone-far : (ds : List ℕ) (n tick last due : ℕ) (t : Option ℕ) (s : Machine) (f : Front) (v : LookView) → tick ≤ last
-    → due ≡ due_of v.levels.plans → last < due → WaitsFor due last v → IsGoing ds n tick due t s f v → HasGone ds n last t s f v None
-gone-far ds n tick last due t s f v soon is_due before waits is =
+gone-far : (ds : List ℕ) (n since tick last due : ℕ) (t : Option ℕ) (s : Machine) (f : Front) (v : LookView) → tick ≤ last
+    → due ≡ due_of v.levels.plans → last < due → WaitsFor due last v → IsGoing ds n tick due t s f v → HasGone ds n since last t s f v None
+gone-far ds n since tick last due t s f v soon is_due before waits is =
     going-gone ds n tick due last t s f v soon (omega (arith, is_due, before)) (omega (arith, before))
     (λ planned. waits-late due last last v.next.formed.p (waits planned) before (omega arith)) is
 
-pub gone-by : (b : Bool) (ds : List ℕ) (n tick last due : ℕ) (t : Option ℕ) (s : Machine) (f : Front) (v : LookView) → nat_le due last ≡ b → tick ≤ last
+pub gone-by : (b : Bool) (ds : List ℕ) (n since tick last due : ℕ) (t : Option ℕ) (s : Machine) (f : Front) (v : LookView) → nat_le due last ≡ b → since ≤ tick → tick ≤ last
     → last < 2 ^ 63 → due ≡ due_of v.levels.plans → WaitsFor due last v → IsGoing ds n tick due t s f v
-    → HasGone ds n last t s f v (if b then Some due else None)
-gone-by true ds n tick last due t s f v e soon early is_due waits is =
-    gone-due ds n tick last due t s f v soon early is_due (leb-true due last e) waits is
-gone-by false ds n tick last due t s f v e soon early is_due waits is =
-    gone-far ds n tick last due t s f v soon is_due (leb-false due last e) waits is
+    → HasGone ds n since last t s f v (if b then Some due else None)
+gone-by true ds n since tick last due t s f v e behind soon early is_due waits is =
+    gone-due ds n since tick last due t s f v behind soon early is_due (leb-true due last e) waits is
+gone-by false ds n since tick last due t s f v e behind soon early is_due waits is =
+    gone-far ds n since tick last due t s f v soon is_due (leb-false due last e) waits is
 
 -- where it was not done by then, all ticks up to `last` are passed
-pub gone-on : (o : Option ℕ) (ds : List ℕ) (n last : ℕ) (t : Option ℕ) (s : Machine) (f : Front) (v : LookView) → last < (row ds n f (entry t s)).c
-    → HasGone ds n last t s f v o → IsOutlook ds n last (last + 1) t s f v
-gone-on None ds n last t s f v late h = h
-gone-on (Some due) ds n last t s f v late h = absurd (omega (arith, late, h.soon, h.row_is))
-
--- the tick that is made next
-pub gone-to : (o : Option ℕ) (ds : List ℕ) (n now limit to : ℕ) (t : Option ℕ) (s : Machine) (f : Front) (v : LookView) → 1 ≤ limit → now < limit → 1 ≤ now
-    → now - 1 < (row ds n f (entry t s)).c → IfSome o (λ due. to ≡ due) → (o ≡ None → to ≡ limit) → HasGone ds n (limit - 1) t s f v o
-    → (now ≤ to) × (to ≤ limit) × IsOutlook ds n (to - 1) to t s f v
-gone-to None ds n now limit to t s f v some before first late same far h =
-    let at : to ≡ limit = far refl in
-    let next : limit - 1 + 1 ≡ limit = omega (arith, some) in
-    rw at (omega (arith, before), omega arith, subst (λ (x : ℕ). IsOutlook ds n (limit - 1) x t s f v) next h)
-gone-to (Some due) ds n now limit to t s f v some before first late same far h =
-    let at : to ≡ due = same in
-    rw at (omega (arith, late, h.row_is, first), omega (arith, h.soon), h.look)
-
--- it lies within the way
-pub gone-within : (o : Option ℕ) (ds : List ℕ) (n limit to : ℕ) (t : Option ℕ) (s : Machine) (f : Front) (v : LookView) → 1 ≤ limit
-    → IfSome o (λ due. to ≡ due) → (o ≡ None → to ≡ limit) → HasGone ds n (limit - 1) t s f v o → (1 ≤ to) × (to ≤ limit)
-gone-within None ds n limit to t s f v some same far h = let at : to ≡ limit = far refl in (omega (arith, at, some), omega (arith, at))
-gone-within (Some due) ds n limit to t s f v some same far h =
-    let at : to ≡ due = same in
-    (omega (arith, at, h.row_is, done-later ds n t s f h.look.machine h.look.indicator), omega (arith, at, h.soon))
+pub gone-on : (o : Option ℕ) (ds : List ℕ) (n since last : ℕ) (t : Option ℕ) (s : Machine) (f : Front) (v : LookView) → last < (row ds n f (entry t s)).c
+    → HasGone ds n since last t s f v o → IsOutlook ds n last (last + 1) t s f v
+gone-on None ds n since last t s f v late h = h
+gone-on (Some due) ds n since last t s f v late h = absurd (omega (arith, late, h.soon, h.row_is))
 
 -- ---- with slots filled
 

@@ -51,64 +51,12 @@ module _ (ds : List ℕ) (n : ℕ) (s : Machine) (t : Option ℕ) (f : Front) (d
       let same : now + 1 + k ≡ now + suc k = omega arith in
       ap (after_ticks k) (next-tick now (omega arith)) ∙ after-idle k (now + 1) (omega arith) ∙ ap calm same
 
-  are-idle : (k now : ℕ) → now + k ≤ (row ds n f (entry t s)).c → ArePassed 0 k (calm now) (calm (now + k))
+  pub are-idle : (k now : ℕ) → now + k ≤ (row ds n f (entry t s)).c → ArePassed 0 k (calm now) (calm (now + k))
   are-idle k now late = record {
     each =
         λ i before. subst (IsPassed 0) (sym (after-idle i now (omega (arith, before)))) (idle-tick (now + i) (omega (arith, before)));
     after = sym (after-idle k now late);
   }
-
--- ---- what the machine keeps
-
--- k ticks are passed over
-over-calm : (n : ℕ) (ds : List ℕ) (s : Machine) (t : Option ℕ) (now k : ℕ) (v w : LookView)
-    → IsInside (standing n ds s t None now false false false v) false v → 1 ≤ now → now + k ≤ 2 ^ 63
-    → now + k - 1 < (row ds n (oldest_front v.levels.plans v.front) (entry t s)).c
-    → IsLook ds n (now + k - 1) (now + k) t s (oldest_front v.levels.plans v.front) w
-    → oldest_front w.levels.plans w.front ≡ oldest_front v.levels.plans v.front
-    → IsInside (standing n ds s t None (now + k) false false false w) false w
-    × ArePassed 0 k (standing n ds s t None now false false false v) (standing n ds s t None (now + k) false false false w)
-unfolding seen
-over-calm n ds s t now k v w is some early late look front =
-    let f = oldest_front v.levels.plans v.front in
-    let quiet = is.quiet refl in (
-      record {
-        some = is.some;
-        few = is.few;
-        looking = subst (λ (g : Front). IsLook ds n (now + k - 1) (now + k) t s g w) (sym front) look;
-        indicator = is.indicator;
-        in_time = early;
-        fresh_owed = λ e. absurd (cc e);
-        ended_owed = λ e. absurd (cc e);
-        behind_fresh = λ e. refl;
-        done_now = λ e. absurd (cc e);
-        none_taken = λ e. absurd (cc e);
-        quiet = λ e. quiet;
-        unstarted = λ e first. absurd (omega (arith, first, some));
-        near = λ e. absurd (cc e);
-      },
-      subst (λ (g : Front). ArePassed 0 k (standing n ds s t None now false false false v) (overlap ds n s t None g (now + k) false false None)) (sym front)
-          (are-idle ds n s t f quiet.0 quiet.1 k now (omega (arith, late))),
-    )
-
-pub passed-over : (n : ℕ) (ds : List ℕ) (s : Machine) (t b : Option ℕ) (now to : ℕ) (owed ended fresh : Bool) (v w : LookView)
-    → IsInside (standing n ds s t b now owed ended fresh v) fresh v → owed ≡ false → 1 ≤ now → now ≤ to → to ≤ 2 ^ 63
-    → (let f = oldest_front v.levels.plans v.front in IsLook ds n (to - 1) to t s f w × (to - 1 < (row ds n f (entry t s)).c))
-    → oldest_front w.levels.plans w.front ≡ oldest_front v.levels.plans v.front
-    → IsInside (standing n ds s t b to owed ended fresh w) fresh w
-    × ArePassed 0 (to - now) (standing n ds s t b now owed ended fresh v) (standing n ds s t b to owed ended fresh w)
-passed-over n ds s t b now to true ended fresh v w is e some later early rests front = absurd (cc e)
-passed-over n ds s t b now to false true fresh v w is e some later early rests front = absurd (cc (is.ended_owed refl))
-passed-over n ds s t b now to false false true v w is e some later early rests front = absurd (cc (is.fresh_owed refl))
-passed-over n ds s t (Some h) now to false false false v w is e some later early rests front = absurd (cc (is.behind_fresh refl))
-passed-over n ds s t None now to false false false v w is e some later early rests front =
-    let same : to ≡ now + (to - now) = omega (arith, later) in
-    let f = oldest_front v.levels.plans v.front in
-    let look = subst (λ (x : ℕ). IsLook ds n (x - 1) x t s f w) same rests.0 in
-    let all = over-calm n ds s t now (to - now) v w is some (omega (arith, early, later)) (omega (arith, rests.1, later)) look front in (
-      subst (λ (x : ℕ). IsInside (standing n ds s t None x false false false w) false w) (sym same) all.0,
-      subst (λ (x : ℕ). ArePassed 0 (to - now) (standing n ds s t None now false false false v) (standing n ds s t None x false false false w)) (sym same) all.1,
-    )
 
 -- ---- what idle ticks leave of any machine
 

@@ -35,7 +35,7 @@ use Rattle.st_next.specs.Progress.{IsNext, IsPlanned, Rests, reads_so_far}
 use Rattle.st_next.specs.declared.next.Next.{Next}
 use Rattle.st_next.proofs.Resting.{address-late, rest-left}
 use Rattle.st_next.proofs.Steps.{planned-is}
-use Rattle.st_ahead.specs.Look.{LookView, IsLook, IsNextIf, count, is_open, asked_ahead}
+use Rattle.st_ahead.specs.Look.{LookView, IsOutlook, IsNextIf, count, is_open, asked_ahead}
 use Rattle.st_ahead.proofs.Further.{bus-ahead}
 
 -- no words
@@ -164,7 +164,7 @@ some-by zero e = absurd (cc e)
 some-by (suc k) e = omega arith
 
 pub look-later : (ds : List ℕ) (n tick now : ℕ) (t : Option ℕ) (s : Machine) (f : Front) (v : LookView) → AreOrdered ds n
-    → now ≤ tick + 1 → IsLook ds n tick now t s f v → All (λ q. (f.c < q.c) × (q.c ≤ v.front.c)) v.levels.plans
+    → now ≤ tick + 1 → IsOutlook ds n tick now t s f v → All (λ q. (f.c < q.c) × (q.c ≤ v.front.c)) v.levels.plans
     → IsLater ds n now v.front (entry (table_behind (count v) t) (guesses (count v) t s)) v.next
 look-later ds n tick now t s f v ordered soon is order = by-open (is_open v) refl is.next
   where
@@ -331,7 +331,7 @@ few-ahead ds n tick now t s f last (level ∷ second ∷ levels) (q ∷ qs) more
     }
 
 pub banks-left : (ds : List ℕ) (n tick now : ℕ) (t : Option ℕ) (s : Machine) (f : Front) (v : LookView) → AreOrdered ds n → AreDelays 255 ds
-    → now ≤ tick + 1 → count v ≤ n → 1 ≤ count v → IsLook ds n tick now t s f v
+    → now ≤ tick + 1 → count v ≤ n → 1 ≤ count v → IsOutlook ds n tick now t s f v
     → All (λ q. (f.c < q.c) × (q.c ≤ v.front.c)) v.levels.plans → f.bus.free ≤ now
     → IsEntry (entry (table_behind (count v) t) (guesses (count v) t s))
     → (made_before ds now (asked ds n f (entry t s)

@@ -18,3 +18,5 @@ pub mod Cards
 pub mod Views
 pub mod Idling
 pub mod Passing
+pub mod Runs
+pub mod Stopping

@@ -76,7 +76,7 @@ told number address p r c = record { number = number; address = address; p = p; 
 pub opened-front : (t : Option ℕ) (s : Machine) (f : Front) (v : LookView) → IsOpened t s f v → oldest_front v.levels.plans v.front ≡ f
 opened-front t s f v is = subst (λ (plans : List Plan). oldest_front plans v.front ≡ f) (sym is.plans) is.front
 
-after-c : (ds : List ℕ) (n : ℕ) (f : Front) (e : Entry) → (after ds n f e).c ≡ (row ds n f e).c
+pub after-c : (ds : List ℕ) (n : ℕ) (f : Front) (e : Entry) → (after ds n f e).c ≡ (row ds n f e).c
 unfolding row after
 after-c ds n f e = refl
 
@@ -263,7 +263,7 @@ done-tick n ds s u t None now false false false v w done is e early by front ban
 
 -- ---- what is told of an entry that is done
 
-same-row : (number address p r c number' address' p' r' : ℕ) → number ≡ number' → address ≡ address' → p ≡ p' → r ≡ r'
+pub same-row : (number address p r c number' address' p' r' : ℕ) → number ≡ number' → address ≡ address' → p ≡ p' → r ≡ r'
     → told number address p r c ≡ told number' address' p' r' c
 same-row number address p r c number' address' p' r' a b d e = rw (a, b, d, e) refl
 
@@ -286,7 +286,7 @@ row-tick n ds s u t None now false false false v w done is e by number = row-cal
 
 -- ---- the banks
 
-same-answers : (x y : LastAnswers) → x.ticks ≡ y.ticks → x ≡ y
+pub same-answers : (x y : LastAnswers) → x.ticks ≡ y.ticks → x ≡ y
 same-answers x y h = ap (λ (ticks : List ℕ). from-ticks ticks) h
   where
     from-ticks : List ℕ → LastAnswers

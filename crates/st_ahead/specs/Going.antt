@@ -34,33 +34,36 @@ pub record Goes (ds : List ℕ) (n now rest : ℕ) (s : Machine) (v : LookView) 
   pub front : Front
   pub going : IsGoing ds n now rest table s front v
 
--- it goes on so from some tick, `last` at the latest
-pub record GoesUpTo (ds : List ℕ) (n last : ℕ) (t : Option ℕ) (s : Machine) (f : Front) (v : LookView) : Type 0 where
+-- it goes on so from some tick, `since` at the earliest and `last` at the latest
+pub record GoesUpTo (ds : List ℕ) (n since last : ℕ) (t : Option ℕ) (s : Machine) (f : Front) (v : LookView) : Type 0 where
   pub tick : ℕ
   pub going : IsGoing ds n tick tick t s f v
+  pub behind : since ≤ tick
   pub soon : tick ≤ last
 
 -- there is such a front, and t
 pub record Reaches (ds : List ℕ) (n last : ℕ) (s : Machine) (v : LookView) : Type 0 where
   pub table : Option ℕ
   pub front : Front
-  pub goes : GoesUpTo ds n last table s front v
+  pub since : ℕ
+  pub goes : GoesUpTo ds n since last table s front v
 
 -- the next entry is not prepared before the tick `due` and up to the tick `last`, as far as it is planned
 abbrev pub WaitsFor : ℕ → ℕ → LookView → Type 0
 WaitsFor due last v = v.next.planned ≡ true → v.next.formed.p < due → v.next.formed.p ≤ last → ⊥
 
--- the oldest entry is done at the tick `due`, `last` at the latest, and all ticks before it are made
-pub record IsDueAt (ds : List ℕ) (n last due : ℕ) (t : Option ℕ) (s : Machine) (f : Front) (v : LookView) : Type 0 where
+-- the oldest entry is done at the tick `due`, behind the tick `since` and `last` at the latest, and all ticks before it are made
+pub record IsDueAt (ds : List ℕ) (n since last due : ℕ) (t : Option ℕ) (s : Machine) (f : Front) (v : LookView) : Type 0 where
+  pub later : since < due
   pub soon : due ≤ last
   pub some : 1 ≤ count v
   pub row_is : (row ds n f (entry t s)).c ≡ due
   pub look : IsOutlook ds n (due - 1) due t s f v
 
 -- what runs ahead goes on up to the completion of the oldest entry, or up to the tick `last`
-abbrev pub HasGone : List ℕ → ℕ → ℕ → Option ℕ → Machine → Front → LookView → Option ℕ → Type 0
-HasGone ds n last t s f v (Some due) = IsDueAt ds n last due t s f v
-HasGone ds n last t s f v None = IsOutlook ds n last (last + 1) t s f v
+abbrev pub HasGone : List ℕ → ℕ → ℕ → ℕ → Option ℕ → Machine → Front → LookView → Option ℕ → Type 0
+HasGone ds n since last t s f v (Some due) = IsDueAt ds n since last due t s f v
+HasGone ds n since last t s f v None = IsOutlook ds n last (last + 1) t s f v
 
 -- the next entry becomes a level at this tick, its P: no level is done alone, and there is room for one more; where it is done alone, all entries before it
 -- are done

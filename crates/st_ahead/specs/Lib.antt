@@ -6,3 +6,4 @@ pub mod Ticked
 pub mod Inside
 pub mod Going
 pub mod RunTo
+pub mod Running

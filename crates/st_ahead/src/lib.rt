@@ -7,11 +7,11 @@ mod going_laws;
 mod look;
 mod look_going;
 mod look_laws;
+mod look_run;
 mod look_shape;
 mod look_steps;
 mod look_tick;
 mod machine;
-mod running;
 #[cfg(test)]
 mod tests;
 

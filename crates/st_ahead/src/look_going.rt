@@ -25,8 +25,8 @@ impl<const N: usize> Look<N> {
         requires few { N ≤ 8 }
         requires early { last < 2 ^ 63 }
         requires going { Reaches delays.now N last state.now self.old }
-        ensures { (t : Option ℕ) (f : FrontOf) → GoesUpTo delays.now N last t state.now f self.old →
-            HasGone delays.now N last t state.now f self.new result }
+        ensures { (t : Option ℕ) (f : FrontOf) (since : ℕ) → GoesUpTo delays.now N since last t state.now f self.old →
+            HasGone delays.now N since last t state.now f self.new result }
     {
         delays.shape();
         'entries: loop {

@@ -8,7 +8,7 @@ use Rattle.st_ahead.proofs.look.Look.go_to.Given as goal
 abbrev pub invariant-entries : goal.invariant-entries
 invariant-entries g l = record {
   going : Reaches l.delays g.row.N l.last l.state l.self;
-  each : (t : Option ℕ) (f : Front) → GoesUpTo l.delays g.row.N l.last t l.state f l.fn.self → GoesUpTo l.delays g.row.N l.last t l.state f l.self;
+  each : (t : Option ℕ) (f : Front) (since : ℕ) → GoesUpTo l.delays g.row.N since l.last t l.state f l.fn.self → GoesUpTo l.delays g.row.N since l.last t l.state f l.self;
 }
 
 abbrev pub decreases-entries : goal.decreases-entries

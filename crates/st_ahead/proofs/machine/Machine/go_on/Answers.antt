@@ -28,7 +28,8 @@ go_on-requires g c =
             record {
               table = i.taken;
               front = f;
-              goes = record { tick = i.now; going = look-goes i.delays g.row.N i.now i.taken i.state f i.look both.0; soon = omega arith };
+              since = i.now;
+              goes = record { tick = i.now; going = look-goes i.delays g.row.N i.now i.taken i.state f i.look both.0; behind = omega arith; soon = omega arith };
             },
           ),
         ),

@@ -11,6 +11,7 @@ use Rattle.st_ahead.specs.Calls.{is_done, row_done, ticked}
 use Rattle.st_ahead.specs.Look.{count}
 use Rattle.st_ahead.specs.Ticked.{IsTicked}
 use Rattle.st_ahead.specs.Inside.{standing}
+use Rattle.st_ahead.proofs.Gone.{outlook-of}
 use Rattle.st_ahead.proofs.Standing.{idle, not-first, passed-tick, done-tick, guess-seen, row-tick, banks-at, some-due, told}
 use Rattle.st_ahead.proofs.TickCases.{unprepared}
 use Rattle.st_ahead.proofs.machine.Machine.tick.Goals as goal
@@ -97,7 +98,7 @@ invariant_of-self-2 g c =
     (c.entries_are_in_range.ensures.ranges i.taken i.state m t) at.look.oldest levels by.due) in
     let next = not-first i.now v.levels.ring at.look.prepared some in
     let left = c.the_banks_are_left.ensures i.delays n (i.now - 1) i.now i.taken i.state f v
-    c.self.invariant.some c.self.invariant.few are next most some at.look by.due in
+    c.self.invariant.some c.self.invariant.few are next most some (outlook-of i.delays n (i.now - 1) i.now i.taken i.state f v at.look) by.due in
     let banks = banks-at n i.delays i.state i.taken i.now v left.0 in
     let guessed = guess-seen i.taken i.state u (is_missed (plan i.state i.taken) i.state) done.missed refl by.state by.told.missed
     (c.steps_are_guesses.ensures.right i.taken i.state m t) (c.steps_are_guesses.ensures.missed i.taken i.state m t) in
@@ -129,7 +130,7 @@ returns-clause-event g c =
     (c.entries_are_in_range.ensures.ranges i.taken i.state m t) at.look.oldest levels by.due) in
     let next = not-first i.now v.levels.ring at.look.prepared some in
     let left = c.the_banks_are_left.ensures i.delays n (i.now - 1) i.now i.taken i.state f v
-    c.self.invariant.some c.self.invariant.few are next most some at.look by.due in
+    c.self.invariant.some c.self.invariant.few are next most some (outlook-of i.delays n (i.now - 1) i.now i.taken i.state f v at.look) by.due in
     let banks = banks-at n i.delays i.state i.taken i.now v left.0 in
     let guessed = guess-seen i.taken i.state u (is_missed (plan i.state i.taken) i.state) done.missed refl by.state by.told.missed
     (c.steps_are_guesses.ensures.right i.taken i.state m t) (c.steps_are_guesses.ensures.missed i.taken i.state m t) in
@@ -163,7 +164,7 @@ returns-clause-after g c =
     (c.entries_are_in_range.ensures.ranges i.taken i.state m t) at.look.oldest levels by.due) in
     let next = not-first i.now v.levels.ring at.look.prepared some in
     let left = c.the_banks_are_left.ensures i.delays n (i.now - 1) i.now i.taken i.state f v
-    c.self.invariant.some c.self.invariant.few are next most some at.look by.due in
+    c.self.invariant.some c.self.invariant.few are next most some (outlook-of i.delays n (i.now - 1) i.now i.taken i.state f v at.look) by.due in
     let banks = banks-at n i.delays i.state i.taken i.now v left.0 in
     let guessed = guess-seen i.taken i.state u (is_missed (plan i.state i.taken) i.state) done.missed refl by.state by.told.missed
     (c.steps_are_guesses.ensures.right i.taken i.state m t) (c.steps_are_guesses.ensures.missed i.taken i.state m t) in
