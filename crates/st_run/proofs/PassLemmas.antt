@@ -2,8 +2,9 @@
 use Rattle.std.specs.Prelude.{All, IfSome, is_some, nat_le}
 use Rattle.std.proofs.Common.{◌≡◌, ◌≢◌, ℕ, zero, suc, ◌+◌, ◌-◌, ◌<◌, ◌≤◌, ◌^◌, ◌||◌, Bool, true, false, List, [], ◌∷◌, ◌++◌, Option, None, Some, refl, sym, ◌∙◌, ap, subst, arith, append_assoc}
 use Rattle.std.proofs.lemmas.Bool.Decides.{nat_tests}
-use Rattle.std.proofs.lemmas.List.Elements.{All-append}
+use Rattle.std.proofs.lemmas.List.Elements.{All-nil, All-cons, All-append}
 use Rattle.st_state.specs.Machine.{Machine}
+use Rattle.st_state.specs.Orders.{is_due}
 use Rattle.st_exec.specs.Step.{rests}
 use Rattle.st_card.specs.declared.control_cards.Signal.{Signal}
 use Rattle.st_ahead.specs.Overlap.{Overlap, oldest_row, interrupt_due}
@@ -18,7 +19,7 @@ use Rattle.st_run.specs.Told.{Done, Told, told}
 use Rattle.st_run.specs.Between.{IsQuiet, signal_due}
 use Rattle.st_run.specs.Leaving.{IsDecided, nothing_decided}
 use Rattle.st_run.specs.Together.{Together, IsBefore, scene_of, standing_of, moment_of, at_tick}
-use Rattle.st_run.specs.Telling.{IsDone, AreLeftOut, IsLeft, IsRun, AreInTime, rest_of}
+use Rattle.st_run.specs.Telling.{Waiting, whats, IsDone, AreLeftOut, IsLeft, IsRun, AreInTime, rest_of}
 use Rattle.st_run.specs.Ticking.{AreMade, AreMadeUpTo, at_completion, last_for}
 use Rattle.st_run.specs.declared.turn.Turn.TheVariants as turns
 use Rattle.st_run.proofs.ToldLemmas.{once}
@@ -61,7 +62,7 @@ goes-quiet : (m : Overlap) (count : ℕ) → answer m ≡ Goes → may_come coun
 unfolding answer
 goes-quiet m count goes none =
     let by = goes-by (interrupt_due m) m.behind (rests m.state) m goes in
-    let three = both-none (nat_le count m.state.done) _ _ none in
+    let three = both-none (nat_le count m.state.done) (is_due m.state.done m.state.reader) (is_due m.state.done m.state.printer) none in
     record { reader = three.1; printer = three.2; awake = by.0; open_still = by.1 }
 
 fewer : (count done : ℕ) → nat_le count done ≡ false → done < count
@@ -103,7 +104,7 @@ module _ (left tick : ℕ) (t : Together) (before : IsBefore t) (in_time : AreIn
   one-left =
       go-leaves left tick [] t behind before (rising-none (o.now - 1)) in_time (row_done o) None refl made
 
-  pub one-told : (rest : List Told) → told (timed_from o.delays o.levels left (moment_of behind) []) ≡ rest
+  pub one-told : (rest : List Told) → told (timed_from behind.machine.delays behind.machine.levels left (moment_of behind) []) ≡ rest
       → rest_told left tick t ≡ told_row (row_done o) ∷ rest
   unfolding completed
   one-told rest same =
@@ -128,7 +129,9 @@ module _ (left tick : ℕ) (t : Together) (before : IsBefore t) (in_time : AreIn
     quiet = goes-quiet m count (subst {A = Overlap} (λ x. answer x ≡ Goes) ticked-is passes.goes) none
 
     below : m.state.done < count
-    below = fewer count m.state.done (both-none (nat_le count m.state.done) _ _ none).0
+    below =
+        fewer count m.state.done
+        (both-none (nat_le count m.state.done) (is_due m.state.done m.state.reader) (is_due m.state.done m.state.printer) none).0
 
     some : left ≢ 0
     some zero_left = omega (arith, zero_left, below, few, one-done)
@@ -160,7 +163,7 @@ module _ (left tick : ℕ) (t : Together) (before : IsBefore t) (in_time : AreIn
       rows = told_row (row_done o) ∷ [];
       left_now = left - 1;
       tick_now = (row_done o).c;
-      are = (tt, tt);
+      are = All-cons (λ (x : Told). IsDone x.what) (told_row (row_done o)) [] tt (All-nil (λ (x : Told). IsDone x.what));
       before = keeps.stands.0;
       in_time = subst {A = List Told} AreInTime rest-is keeps.in_time;
       tells =
@@ -185,7 +188,7 @@ tick-passed count left tick t before in_time few signals passes = by (is_done t.
           rows = [];
           left_now = left;
           tick_now = tick;
-          are = tt;
+          are = All-nil (λ (x : Told). IsDone x.what);
           before = tick-before t (o.now + 1) before (tick-early o o o.now before.early refl late);
           in_time = in_time;
           tells = refl;
@@ -204,7 +207,7 @@ all-passed zero count left tick t new before in_time few signals are =
       rows = [];
       left_now = left;
       tick_now = tick;
-      are = tt;
+      are = All-nil (λ (x : Told). IsDone x.what);
       before = before;
       in_time = in_time;
       tells = refl;
@@ -240,7 +243,7 @@ pub record PassedUpTo (left tick : ℕ) (t new : Together) (row : Row) : Type 0 
   pub are : All (λ x. IsDone x.what) rows
   pub number : left_now + row.number ≡ left + t.machine.state.done + 1
   pub more : t.machine.state.done + 1 ≤ row.number
-  pub left : IsLeft left_now [] row.c new
+  pub leaves : IsLeft left_now [] row.c new
   pub tells : (rest : List Told) → told (timed_from new.machine.delays new.machine.levels left_now (moment_of new) []) ≡ rest
       → rest_told left tick t ≡ rows ++ told_row row ∷ rest
 
@@ -261,7 +264,7 @@ module _ (count left tick : ℕ) (t new : Together) (before : IsBefore t) (in_ti
         are = all.are;
         number = omega (arith, all.number, ap (λ (r : Row). r.number) row_is);
         more = omega (arith, all.number, ap (λ (r : Row). r.number) row_is, all.fewer);
-        left =
+        leaves =
             subst {A = Row} (λ r. IsLeft all.left_now [] r.c new) (sym row_is)
             (subst {A = Together} (λ u. IsLeft all.left_now [] (row_done stop.before).c u) (sym is)
             (one-left all.left_now all.tick_now here all.before all.in_time stop.done));
@@ -281,3 +284,47 @@ module _ (count left tick : ℕ) (t new : Together) (before : IsBefore t) (in_ti
       let far = oldest-in_time left tick [] t before in_time in
       let late = oldest-in_time all.left_now all.tick_now [] (record t { machine = new.machine }) all.before all.in_time in
       omega (arith, far, late, before.early, all.before.early, all.now)
+
+-- ---- of a run where nothing waits and no snapshot is to come
+
+pub record AreAhead (left tick : ℕ) (t : Together) : Type 0 where
+  pub before : IsBefore t
+  pub in_time : AreInTime (rest_told left tick t)
+
+pub ahead-is : (left tick : ℕ) (snaps : List ℕ) (w : Waiting) (t : Together) → IsRun turns.Before left tick snaps w t
+    → ((s : Machine) → whats w s ≡ []) → snaps ≡ [] → AreAhead left tick t
+ahead-is left tick snaps w t is quiet none = record {
+  before = is.stands.0;
+  in_time =
+      subst {A = List ℕ} (λ xs. AreInTime (told (timed_behind t.machine.delays t.machine.levels left (standing_of tick t) xs))) none
+      (subst {A = List Told} AreInTime (rest-quiet turns.Before left tick snaps w t quiet) is.in_time);
+}
+
+pub far-row : (count left tick : ℕ) (t new : Together) → AreAhead left tick t → count ≤ t.machine.state.done + left + 1
+    → ((d : ℕ) → d < count → signal_due d t.signals ≡ false) → (row : Row) → AreMadeUpTo count (Some row) t new → PassedUpTo left tick t new row
+far-row count left tick t new is few signals row made = passed-row count left tick t new is.before is.in_time few signals row made
+
+pub far-none : (count left tick : ℕ) (t new : Together) → AreAhead left tick t → count ≤ t.machine.state.done + left + 1
+    → ((d : ℕ) → d < count → signal_due d t.signals ≡ false) → AreMadeUpTo count None t new → ⊥
+far-none count left tick t new is few signals made = passed-none count left tick t new is.before is.in_time few signals made
+
+module _ (left tick : ℕ) (snaps : List ℕ) (t new : Together) (row : Row) (far : PassedUpTo left tick t new row) (k : ℕ) (same : far.left_now ≡ k)
+    (none : snaps ≡ []) where
+  pub far-left : IsLeft k snaps row.c new
+  far-left =
+      subst {A = List ℕ} (λ xs. IsLeft k xs row.c new) (sym none) (subst {A = ℕ} (λ x. IsLeft x [] row.c new) same far.leaves)
+
+  pub far-told : (rest : List Told)
+      → told (timed_from new.machine.delays new.machine.levels k (moment_of new) snaps) ≡ rest
+      → AreLeftOut (told_row row)
+      (told (timed_behind t.machine.delays t.machine.levels left (standing_of tick t) snaps)) rest
+  far-told rest tells = record {
+    rows = far.rows;
+    are = far.are;
+    is = tt;
+    rest =
+        ap {A = List ℕ} (λ xs. told (timed_behind t.machine.delays t.machine.levels left (standing_of tick t) xs)) none
+        ∙ far.tells rest
+        (ap {A = ℕ} (λ x. told (timed_from new.machine.delays new.machine.levels x (moment_of new) [])) same
+        ∙ ap {A = List ℕ} (λ xs. told (timed_from new.machine.delays new.machine.levels k (moment_of new) xs)) (sym none) ∙ tells);
+  }

@@ -9,6 +9,7 @@ use Rattle.st_ahead.specs.Overlap.{Overlap, seen, oldest_row, interrupt_due}
 use Rattle.st_ahead.specs.Calls.{is_done, completed, row_done, ticked, settled, passed}
 use Rattle.st_ahead.specs.RunTo.{after_ticks, IsPassed, ArePassed, RunsTo}
 use Rattle.st_ahead.specs.declared.events.Row.{Row}
+use Rattle.st_ahead.proofs.Idling.{zero-comes}
 use Rattle.st_card.specs.declared.control_cards.Signal.{Signal}
 use Rattle.st_run.specs.Together.{Together, IsBefore}
 use Rattle.st_run.specs.Ticking.{IsReady, at_completion, AreTicked, AreMade, last_for}
@@ -92,7 +93,7 @@ idle-passes o zero at new h early idle =
     let same : at ≡ at + 0 = omega arith in (idle.after ∙ ap {A = ℕ} (λ x. record o { now = x }) same, omega arith)
 idle-passes o (suc k) at new h early idle =
     let first : IsPassed 0 (record o { now = at }) = idle.each 0 (omega arith) in
-    let late : is_done (record o { now = at }) ≡ false = not-done (is_done (record o { now = at })) (λ done. cc (first.nothing done)) in
+    let late : is_done (record o { now = at }) ≡ false = not-done (is_done (record o { now = at })) (λ done. zero-comes (ticked (record o { now = at })) (first.nothing done)) in
     let next : settled (ticked (record o { now = at })) ≡ record o { now = at + 1 } = tick-passes o (record o { now = at }) at h refl late in
     let later : ArePassed 0 k (record o { now = at + 1 }) new = record {
       each = λ i before. subst (λ (m : Overlap). IsPassed 0 (after_ticks i m)) next (idle.each (suc i) (omega (arith, before)));

@@ -94,7 +94,7 @@ fn go_far<const N: usize>(run: &mut Progress<N>) -> Told
         (standing_of run.old.tick run.old.driven) run.old.snaps.now))
         (rest_of run.new.turn run.new.left run.new.tick run.new.snaps.now run.new.waiting run.new.driven) }
 {
-    let done = done_in(run.driven.machine.state());
+    let done = done_of(&run.driven);
     let count = count_of(&run.driven, done, run.left);
     let Some(row) = run_many(&mut run.driven, count) else {
         return at_once(&run.driven, run.tick, What::Shown(0));
@@ -249,10 +249,17 @@ fn at_once<const N: usize>(driven: &Driven<N>, tick: u64, what: What) -> Told
     ensures { result ≡ record { done = driven.now.machine.state.done; tick = tick; what = what } }
 {
     Told {
-        done: done_in(driven.machine.state()),
+        done: done_of(driven),
         tick,
         what,
     }
+}
+
+// The number of instructions that a machine has done.
+fn done_of<const N: usize>(driven: &Driven<N>) -> u64
+    ensures { result ≡ driven.now.machine.state.done }
+{
+    done_in(driven.machine.state())
 }
 
 // The number of instructions done.

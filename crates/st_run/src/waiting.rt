@@ -45,7 +45,16 @@ impl Waiting {
     pub fn is_empty(&self) -> bool
         ensures { result ≡ true → (s : Machine) → whats_of self.now s ≡ [] }
     {
-        self.drops.is_empty() && self.text.is_none() && self.taken.is_none()
+        if self.drops.len() > 0 {
+            return false;
+        }
+        if self.text.is_some() {
+            return false;
+        }
+        if self.taken.is_some() {
+            return false;
+        }
+        true
     }
 
     /// What is told next, and no longer waits: the youngest entry that is dropped, the text, which is then the one that was

@@ -22,7 +22,7 @@ run_until-requires g c =
           (
             done-in_time run.left run.tick run.snaps.now run.driven stands.0 in_time,
             subst {A = Option ℕ} (λ o. IfSome o (λ x. run.driven.machine.now - 1 ≤ x)) (sym c.first_of-snap.ensures)
-            (first-late run.driven.machine.now run.snaps.now stands.1),
+                (first-late run.driven.machine.now run.snaps.now stands.1),
           ),
         ),
       ),
