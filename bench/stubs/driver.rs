@@ -41,9 +41,16 @@ pub fn main() {
 #[inline(never)]
 fn tell<const N: usize>(state: State, delays: Delays, budget: u64) {
     let mut run: Run<N> = Run::new(state, delays, &[], Hopper::empty(), &[], budget);
-    let (mut told, mut tick, mut rows, mut last) = (0u64, 0, 0u64, 0u64);
-    while let Some(next) = run.next() {
+    let (mut told, mut tick, mut rows, mut last, mut done) = (0u64, 0, 0u64, 0u64, 0);
+    loop {
+        if let Some(counted) = run.pass_entries() {
+            told += counted.done - done;
+            done = counted.done;
+            tick = counted.tick;
+        }
+        let Some(next) = run.next() else { break };
         told += 1;
+        done = next.done;
         tick = next.tick;
         if let What::Done { address, p, r } = next.what {
             rows = rows.wrapping_mul(31).wrapping_add(p * 3 + r * 5 + tick * 7 + u64::from(address));

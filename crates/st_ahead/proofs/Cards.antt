@@ -15,7 +15,7 @@ use Rattle.st_exec.proofs.Unchanged.{stored-other}
 use Rattle.st_rows.specs.Rows.{opening}
 use Rattle.st_rows.specs.declared.front.Front.{Front}
 use Rattle.st_ahead.specs.Look.{LookView, IsOpened}
-use Rattle.st_ahead.specs.Inside.{standing, IsBetween, IsInside}
+use Rattle.st_ahead.specs.Inside.{answers_before, standing, IsBetween, IsInside}
 
 -- ---- states that agree below storage
 
@@ -79,7 +79,7 @@ card-opened s u f v alike o = record {
   plans = o.plans;
   index = o.index ∙ sym (index-below s u alike);
   front = o.front;
-  port = o.port;
+  log = o.log;
   place = o.place ∙ ap (λ h. place-at h) (sym alike.ic);
   own = o.own;
   target = o.target;
@@ -103,7 +103,7 @@ card-calm n ds s u None b now true true true v is ends done alike =
       some = is.some;
       few = is.few;
       looking = record {
-        opened = card-opened s u (opening v.port.bus.banks v.front.c) v alike between.opened;
+        opened = card-opened s u (opening (answers_before now v) v.front.c) v alike between.opened;
         banks = between.banks;
         later = between.later;
         soon = between.soon;
@@ -117,6 +117,7 @@ card-calm n ds s u None b now true true true v is ends done alike =
       none_taken = λ e. refl;
       quiet = λ e. absurd (cc e);
       unstarted = λ e. absurd (cc e);
+      near = λ e. is.near refl;
     }
 
 pub card-inside : (n : ℕ) (ds : List ℕ) (s u : Machine) (t b : Option ℕ) (now : ℕ) (owed over fresh : Bool) (v : LookView) (order : Option Order) (card : List ℕ)

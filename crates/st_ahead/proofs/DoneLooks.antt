@@ -8,11 +8,17 @@ use Rattle.st_prep.specs.Fetch.{place_of}
 use Rattle.st_prep.specs.Plan.{plan}
 use Rattle.st_exec.specs.Completion.{executed, guess}
 use Rattle.st_rows.specs.Asked.{Read, asked}
+use Rattle.st_rows.specs.Notes.{IsLogged}
 use Rattle.st_rows.specs.Ranges.{AreDelays}
-use Rattle.st_rows.specs.Rows.{row, after, tick_c, wanted_from}
+use Rattle.st_rows.specs.Rows.{row, after, wanted_from}
 use Rattle.st_rows.specs.declared.entry.Entry.{Entry}
 use Rattle.st_rows.specs.declared.fetching.Fetching.{Fetching}
+use Rattle.st_rows.specs.declared.bus.Bus.{Bus}
 use Rattle.st_rows.specs.declared.front.Front.{Front}
+use Rattle.st_rows.specs.declared.log.Made.{Made}
+use Rattle.st_rows.proofs.LogLaws.{logs_go_on}
+use Rattle.st_rows.proofs.MadeLemmas.{free-served}
+use Rattle.st_rows.proofs.Served.{served-asked}
 use Rattle.st_rows.proofs.Tight.{tight-after}
 use Rattle.st_ring.specs.declared.level.Level.{Level}
 use Rattle.st_segment.specs.Ahead.{front_behind}
@@ -21,17 +27,13 @@ use Rattle.st_segment.specs.Guesses.{guesses, table_behind}
 use Rattle.st_segment.proofs.EntryRanges.{entry-ranges}
 use Rattle.st_segment.proofs.GuessLemmas.{guess-machine, behind-none}
 use Rattle.st_segment.proofs.StepLemmas.{guess-alone}
-use Rattle.st_way.specs.Way.{IsOnTheWay}
-use Rattle.st_way.proofs.Wanted.{way-done}
 use Rattle.st_levels.specs.Levels.{LevelsView, AreLevels, AreAhead, AreFull}
 use Rattle.st_levels.specs.declared.plans.Plan.{Plan}
 use Rattle.st_levels.proofs.LevelLemmas.{levels-front}
 use Rattle.st_levels.proofs.OrderLemmas.{after-c}
-use Rattle.st_next.specs.Going.{known_count}
 use Rattle.st_next.specs.Progress.{IsNext, Rests, Waits, reads_so_far}
 use Rattle.st_next.specs.declared.next.Next.{Next}
-use Rattle.st_ahead.specs.Look.{LookView, IsLook, IsNextIf, is_open, count, asked_ahead}
-use Rattle.st_ahead.specs.Going.{IsGoing}
+use Rattle.st_ahead.specs.Look.{LookView, IsLook, IsOutlook, IsNextIf, is_open, count, asked_ahead}
 use Rattle.st_ahead.proofs.Openings.{first-none, so-far}
 use Rattle.st_ahead.proofs.LevelTicks.{done-later, behind-soon, same-count, prepared-still, done-after}
 
@@ -66,12 +68,12 @@ next-same ds n now t s v levels same h =
     let P : ℕ → Type 0 = λ k. NextAt ((k == 0) || not v.front.serial) ds n now (table_behind k t) (guesses k t s) v.front v.next in
     next-if (is_open w) ds n now t s w (subst P (sym same) (next-at (is_open v) ds n now t s v h))
 
--- ---- at a tick at which no entry is done, or once it is
+-- ---- slots are filled
 
-pub look-filled : (ds : List ℕ) (n tick now : ℕ) (t : Option ℕ) (s : Machine) (f : Front) (v : LookView) (levels : LevelsView)
-    → IsLook ds n tick now t s f v → AreAhead ds n now t s f v.front levels → AreFull ds n now t s f levels.ring → now < (row ds n f (entry t s)).c
-    → IsLook ds n now now t s f (record v { levels = levels })
-look-filled ds n tick now t s f v levels h ahead full late =
+pub look-filled : (ds : List ℕ) (n tick now next : ℕ) (t : Option ℕ) (s : Machine) (f : Front) (v : LookView) (levels : LevelsView)
+    → IsOutlook ds n tick next t s f v → AreAhead ds n now t s f v.front levels → AreFull ds n now t s f levels.ring → All (λ q. now < q.c) levels.plans
+    → IsLook ds n now next t s f (record v { levels = levels })
+look-filled ds n tick now next t s f v levels h ahead full late =
     let same : length levels.ring ≡ count v =
     same-count ds n tick now t s f v.front v.levels.ring levels.ring v.levels.plans levels.plans h.machine h.indicator h.ahead.levels ahead.levels in
     record {
@@ -79,18 +81,15 @@ look-filled ds n tick now t s f v levels h ahead full late =
       indicator = h.indicator;
       ahead = ahead;
       full = full;
-      prepared = prepared-still ds n tick now now t s f v.front v.levels.ring levels.ring v.levels.plans levels.plans h.ahead.levels ahead.levels same h.prepared;
-      not_done = done-after ds n now now t s f v.front levels.ring levels.plans h.machine h.indicator ahead.levels late;
+      prepared = prepared-still ds n tick now next t s f v.front v.levels.ring levels.ring v.levels.plans levels.plans h.ahead.levels ahead.levels same h.prepared;
+      not_done = late;
       oldest = h.oldest;
       tight = h.tight;
       start = h.start;
-      early = subst (λ k. v.front.c ≤ now + 9 + 16576 * k) (sym same) h.early;
-      next = next-same ds n now t s v levels same h.next;
+      early = subst (λ k. v.front.c ≤ next + 9 + 16576 * k) (sym same) h.early;
+      next = next-same ds n next t s v levels same h.next;
       late = h.late;
-      way = subst (λ k. IsOnTheWay ds now (asked_ahead ds n k t s f ++ reads_so_far ds v.front v.next) f.bus v.port) (sym same) h.way;
-      room = h.room;
-      near = h.near;
-      free = h.free;
+      logged = subst (λ k. IsLogged ds f.bus.free (asked_ahead ds n k t s f ++ reads_so_far ds v.front v.next) f.bus v.log) (sym same) h.logged;
     }
 
 -- without levels there is nothing to fill
@@ -100,33 +99,6 @@ unfolding AreLevels
 nothing-filled ds n a b t s f last [] [] empty h = (h, All-nil (λ (q : Plan). b < q.c))
 nothing-filled ds n a b t s f last [] (q ∷ qs) empty h = absurd h
 nothing-filled ds n a b t s f last (level ∷ levels) plans empty h = absurd (omega (arith, empty))
-
--- the same while it goes on
-pub going-filled : (ds : List ℕ) (n now rest : ℕ) (t : Option ℕ) (s : Machine) (f : Front) (v : LookView) (levels : LevelsView)
-    → IsGoing ds n now rest t s f v → AreAhead ds n now t s f v.front levels → levels.plans ≡ v.levels.plans
-    → IsGoing ds n now rest t s f (record v { levels = levels })
-going-filled ds n now rest t s f v levels h ahead plans =
-    let same : length levels.ring ≡ count v =
-    same-count ds n now now t s f v.front v.levels.ring levels.ring v.levels.plans levels.plans h.machine h.indicator h.ahead.levels ahead.levels in
-    let before = All-weaker (λ (level : Level). level.p ≤ now) (λ level. level.p < now + 1) (λ level p. omega (arith, p)) v.levels.ring h.prepared in
-    let after_ = prepared-still ds n now now (now + 1) t s f v.front v.levels.ring levels.ring v.levels.plans levels.plans h.ahead.levels ahead.levels same before in
-    record {
-      machine = h.machine;
-      indicator = h.indicator;
-      ahead = ahead;
-      prepared = All-weaker (λ (level : Level). level.p < now + 1) (λ level. level.p ≤ now) (λ level p. omega (arith, p)) levels.ring after_;
-      not_done = subst (λ (rows : List Plan). All (λ (q : Plan). now < q.c) rows) (sym plans) h.not_done;
-      oldest = h.oldest;
-      tight = h.tight;
-      start = h.start;
-      early = subst (λ k. v.front.c ≤ now + 9 + 16576 * k) (sym same) h.early;
-      next = next-same ds n rest t s v levels same h.next;
-      late = h.late;
-      way = subst (λ k. IsOnTheWay ds now (asked_ahead ds n k t s f ++ reads_so_far ds v.front v.next) f.bus v.port) (sym same) h.way;
-      room = h.room;
-      near = h.near;
-      free = h.free;
-    }
 
 full-without : (ds : List ℕ) (n tick : ℕ) (t : Option ℕ) (s : Machine) (f : Front) (ring : List Level) → length ring ≡ 0 → AreFull ds n tick t s f ring
 unfolding AreFull
@@ -150,10 +122,7 @@ look-without ds n tick now t s f v empty h =
       early = h.early;
       next = h.next;
       late = h.late;
-      way = h.way;
-      room = h.room;
-      near = h.near;
-      free = h.free;
+      logged = h.logged;
     }
 
 -- ---- once the oldest entry is done
@@ -175,10 +144,9 @@ late-same : (b : Bool) (now : ℕ) (u : Machine) (v : LookView) → (v.next.plan
 late-same true now u v h = h
 late-same false now u v h = h
 
-room-same : (b : Bool) (u : Machine) (v : LookView) → length v.port.reads + 5 ≤ 40 + known_count v.next
-    → length v.port.reads + 5 ≤ 40 + known_count (next_behind u v b)
-room-same true u v h = h
-room-same false u v h = h
+words-same : (b : Bool) (u : Machine) (v : LookView) → (next_behind u v b).words ≡ v.next.words
+words-same true u v = refl
+words-same false u v = refl
 
 -- of an entry that nothing is known of
 wanted-alone : (f : Front) → f.serial ≡ true → f.c ≤ wanted_from f
@@ -271,16 +239,21 @@ oldest-open ds n tick t s f last (level ∷ levels) (q ∷ qs) one h each =
     let later : tick < q.c = All-head (λ (r : Plan). tick < r.c) q qs each in
     omega arith
 
--- its reads are left behind
+-- its reads are left behind, and noted before those that are left
+logged-behind : (ds : List ℕ) (n : ℕ) (f : Front) (e : Entry) (rest : List Read) (log : List Made) → IsLogged ds f.bus.free (asked ds n f e ++ rest) f.bus log
+    → IsLogged ds (after ds n f e).bus.free rest (after ds n f e).bus log
+logged-behind ds n f e rest log h =
+    let bus = served-asked ds n f e in
+    let rises : f.bus.free ≤ (after ds n f e).bus.free = subst (λ (b : Bus). f.bus.free ≤ b.free) bus (free-served ds (asked ds n f e) f.bus) in
+    subst (λ (b : Bus). IsLogged ds (after ds n f e).bus.free rest b log) bus
+    (logs_go_on.left_behind ds (after ds n f e).bus.free (asked ds n f e) rest f.bus log (omega (arith, ap (λ (b : Bus). b.free) bus))
+    (logs_go_on.later ds f.bus.free (after ds n f e).bus.free (asked ds n f e ++ rest) f.bus log rises h))
+
 asked-behind : (ds : List ℕ) (n k : ℕ) (t : Option ℕ) (s : Machine) (f : Front) (more : List Read)
     → asked_ahead ds n (suc k) t s f ++ more ≡ asked ds n f (entry t s) ++ (asked_ahead ds n k None (guess t s) (after ds n f (entry t s)) ++ more)
 unfolding asked_ahead
 asked-behind ds n k t s f more =
     append_assoc (asked ds n f (entry t s)) (asked_ahead ds n k None (guess t s) (after ds n f (entry t s))) more
-
-row-done : (ds : List ℕ) (n : ℕ) (f : Front) (e : Entry) → (row ds n f e).c ≡ tick_c ds n f e
-unfolding row
-row-done ds n f e = refl
 
 after-serial : (ds : List ℕ) (n : ℕ) (t : Option ℕ) (s : Machine) (f : Front) → (after ds n f (entry t s)).serial ≡ (plan s t).serial
 unfolding after entry
@@ -292,12 +265,11 @@ front-left ds n zero t s f last none_left h = h
 front-left ds n (suc k) t s f last none_left h = absurd (omega (arith, none_left))
 
 pub look-done : (ds : List ℕ) (n tick now : ℕ) (t : Option ℕ) (s u : Machine) (f : Front) (v : LookView) (levels : LevelsView) (b : Bool)
-    → AreDelays 255 ds → IsLook ds n tick now t s f v → 1 ≤ count v → (row ds n f (entry t s)).c ≡ now
+    → AreDelays 255 ds → IsOutlook ds n tick now t s f v → 1 ≤ count v → (row ds n f (entry t s)).c ≡ now
     → AreAhead ds n tick None (guess t s) (after ds n f (entry t s)) v.front levels
-    → (AreFull ds n tick t s f v.levels.ring → AreFull ds n tick None (guess t s) (after ds n f (entry t s)) levels.ring)
     → b ≡ is_alone v levels → u ≡ executed t s
-    → IsLook ds n tick now None (guess t s) (after ds n f (entry t s)) (record v { levels = levels; next = next_behind u v b })
-look-done ds n tick now t s u f v levels b are h some due ahead full e done =
+    → IsOutlook ds n tick now None (guess t s) (after ds n f (entry t s)) (record v { levels = levels; next = next_behind u v b })
+look-done ds n tick now t s u f v levels b are h some due ahead e done =
     let entry_ = entry t s in
     let s' = guess t s in
     let f' = after ds n f entry_ in
@@ -311,16 +283,14 @@ look-done ds n tick now t s u f v levels b are h some due ahead full e done =
     let late : now < (row ds n f' (entry None s')).c = omega (arith, c, done-later ds n None s' f' machine tt) in
     let later = oldest-open ds n tick t s f v.front v.levels.ring v.levels.plans some h.ahead.levels h.not_done in
     let reads : List Read = reads_so_far ds v.front v.next in
-    let way : IsOnTheWay ds now (asked_ahead ds n (suc (length levels.ring)) t s f ++ reads) f.bus v.port =
-    subst (λ k. IsOnTheWay ds now (asked_ahead ds n k t s f ++ reads) f.bus v.port) left.0 h.way in
-    let split = subst (λ (all : List Read). IsOnTheWay ds now all f.bus v.port) (asked-behind ds n (length levels.ring) t s f reads) way in
-    let rest = way-done 255 ds are n f entry_ range h.oldest now (asked_ahead ds n (length levels.ring) None s' f' ++ reads) v.port
-    (omega (arith, due, row-done ds n f entry_)) split in
+    let log : IsLogged ds f.bus.free (asked_ahead ds n (suc (length levels.ring)) t s f ++ reads) f.bus v.log =
+    subst (λ k. IsLogged ds f.bus.free (asked_ahead ds n k t s f ++ reads) f.bus v.log) left.0 h.logged in
+    let split = subst (λ (all : List Read). IsLogged ds f.bus.free all f.bus v.log) (asked-behind ds n (length levels.ring) t s f reads) log in
+    let rest = logged-behind ds n f entry_ (asked_ahead ds n (length levels.ring) None s' f' ++ reads) v.log split in
     record {
       machine = machine;
       indicator = tt;
       ahead = ahead;
-      full = full h.full;
       prepared = left.1;
       not_done = done-after ds n tick tick None s' f' v.front levels.ring levels.plans machine tt ahead.levels (omega (arith, late, later, due));
       oldest = tight;
@@ -334,30 +304,27 @@ look-done ds n tick now t s u f v levels b are h some due ahead full e done =
           ∙ sym (ap (λ (g : Front). g.serial) (front-left ds n (length levels.ring) None s' f' v.front none_left last)) ∙ alone in
           ap (λ (x : Machine). place_of x None) (done ∙ sym (guess-alone t s serial).1));
       late = late-same b now u v h.late;
-      way = subst (λ (more : List Read). IsOnTheWay ds now (asked_ahead ds n (length levels.ring) None s' f' ++ more) f'.bus v.port) (sym (reads-same b ds u v)) rest;
-      room = room-same b u v h.room;
-      near = h.near;
-      free = omega (arith, h.free, due, done-later ds n t s f h.machine h.indicator);
+      logged = subst (λ (more : List Read). IsLogged ds f'.bus.free (asked_ahead ds n (length levels.ring) None s' f' ++ more) f'.bus v.log) (sym (reads-same b ds u v)) rest;
     }
 
 -- the same where it is seen through the whole, and whatever is said of whether the next entry is behind one that is done alone
 pub all-done : (ds : List ℕ) (n tick now : ℕ) (t : Option ℕ) (s u : Machine) (f : Front) (v old : LookView) (levels : LevelsView) (b : Bool)
-    → v ≡ old → AreDelays 255 ds → IsLook ds n tick now t s f old → 0 < count old → (row ds n f (entry t s)).c ≡ now
+    → v ≡ old → AreDelays 255 ds → IsOutlook ds n tick now t s f old → 0 < count old → (row ds n f (entry t s)).c ≡ now
     → AreAhead ds n tick None (guess t s) (after ds n f (entry t s)) v.front levels
-    → (AreFull ds n tick t s f v.levels.ring → AreFull ds n tick None (guess t s) (after ds n f (entry t s)) levels.ring)
     → is_alone v levels ≡ b → u ≡ executed t s
     → let w = record v { levels = levels; next = next_behind u v b } in
-    IsLook ds n tick now None (guess t s) (after ds n f (entry t s)) w × (w.port ≡ old.port)
-all-done ds n tick now t s u f v old levels b is are h some due ahead full e done = (
-  look-done ds n tick now t s u f v levels b are (subst (λ (w : LookView). IsLook ds n tick now t s f w) (sym is) h)
-      (subst (λ (w : LookView). 1 ≤ count w) (sym is) some) due ahead full (sym e) done,
-  ap (λ (w : LookView). w.port) is,
+    IsOutlook ds n tick now None (guess t s) (after ds n f (entry t s)) w × (w.log ≡ old.log) × (w.next.words ≡ old.next.words)
+all-done ds n tick now t s u f v old levels b is are h some due ahead e done = (
+  look-done ds n tick now t s u f v levels b are (subst (λ (w : LookView). IsOutlook ds n tick now t s f w) (sym is) h)
+      (subst (λ (w : LookView). 1 ≤ count w) (sym is) some) due ahead (sym e) done,
+  ap (λ (w : LookView). w.log) is,
+  words-same b u v ∙ ap (λ (w : LookView). w.next.words) is,
 )
 
 pub ahead-through : (ds : List ℕ) (n tick now : ℕ) (t : Option ℕ) (s : Machine) (f : Front) (v old : LookView) → v ≡ old
-    → IsLook ds n tick now t s f old → AreAhead ds n tick t s f v.front v.levels
+    → IsOutlook ds n tick now t s f old → AreAhead ds n tick t s f v.front v.levels
 ahead-through ds n tick now t s f v old is h =
-    let look = subst (λ (w : LookView). IsLook ds n tick now t s f w) (sym is) h in
+    let look = subst (λ (w : LookView). IsOutlook ds n tick now t s f w) (sym is) h in
     look.ahead
 
 pub alone-if : (a b : Bool) → a ≡ true → (a && b) ≡ b
@@ -368,11 +335,13 @@ pub alone-not : (a b : Bool) → a ≡ false → (a && b) ≡ false
 alone-not true b e = absurd (cc e)
 alone-not false b e = refl
 
-pub all-filled : (ds : List ℕ) (n tick now : ℕ) (t : Option ℕ) (s : Machine) (f : Front) (v old : LookView) (levels : LevelsView)
-    → v ≡ old → IsLook ds n tick now t s f old → AreAhead ds n now t s f v.front levels → AreFull ds n now t s f levels.ring
-    → now < (row ds n f (entry t s)).c
-    → let w = record v { levels = levels } in IsLook ds n now now t s f w × (w.port ≡ old.port)
-all-filled ds n tick now t s f v old levels is h ahead full late = (
-  look-filled ds n tick now t s f v levels (subst (λ (w : LookView). IsLook ds n tick now t s f w) (sym is) h) ahead full late,
-  ap (λ (w : LookView). w.port) is,
+pub all-filled : (ds : List ℕ) (n tick now next : ℕ) (t : Option ℕ) (s : Machine) (f : Front) (v old : LookView) (levels : LevelsView)
+    → v ≡ old → IsOutlook ds n tick next t s f old → AreAhead ds n now t s f v.front levels → AreFull ds n now t s f levels.ring
+    → levels.plans ≡ v.levels.plans → All (λ q. now < q.c) old.levels.plans
+    → let w = record v { levels = levels } in IsLook ds n now next t s f w × (w.log ≡ old.log) × (w.next ≡ old.next)
+all-filled ds n tick now next t s f v old levels is h ahead full plans late = (
+  look-filled ds n tick now next t s f v levels (subst (λ (w : LookView). IsOutlook ds n tick next t s f w) (sym is) h) ahead full
+      (subst (λ (rows : List Plan). All (λ q. now < q.c) rows) (sym (plans ∙ ap (λ (w : LookView). w.levels.plans) is)) late),
+  ap (λ (w : LookView). w.log) is,
+  ap (λ (w : LookView). w.next) is,
 )

@@ -5,7 +5,7 @@ use Rattle.std.proofs.lemmas.List.{append-nil, get_or-take}
 use Rattle.std.proofs.lemmas.List.Elements.{All-head}
 use Rattle.st_state.specs.Machine.{Machine}
 use Rattle.st_exec.specs.Completion.{guess}
-use Rattle.st_rows.specs.Asked.{Read, asked, fetches_asked, side_asked, served}
+use Rattle.st_rows.specs.Asked.{Read, fetches_asked, side_asked, formed_asked}
 use Rattle.st_rows.specs.Entries.{no_words}
 use Rattle.st_rows.specs.Ranges.{AreDelays, IsEntry}
 use Rattle.st_rows.specs.Rows.{row, after, prepared, addressed, done_before, tick_a, bus_a, tick_p, tick_c}
@@ -13,17 +13,13 @@ use Rattle.st_rows.specs.declared.entry.Entry.{Entry}
 use Rattle.st_rows.specs.declared.entry.Run.{Run}
 use Rattle.st_rows.specs.declared.front.Front.{Front}
 use Rattle.st_rows.specs.declared.past.Past.{Past}
-use Rattle.st_rows.proofs.Served.{served-append, served-asked}
+use Rattle.st_rows.proofs.MadeLemmas.{before-cases}
 use Rattle.st_ring.specs.declared.level.Level.{Level}
 use Rattle.st_segment.specs.Entries.{entry}
 use Rattle.st_segment.specs.Guesses.{guesses, table_behind}
 use Rattle.st_segment.specs.Alone.{RunAhead}
 use Rattle.st_segment.proofs.EntryRanges.{entry-ranges}
 use Rattle.st_segment.proofs.GuessLemmas.{behind-none, behind-indicator}
-use Rattle.st_port.proofs.Made.{before-cases}
-use Rattle.st_way.specs.Parts.{formed_asked}
-use Rattle.st_way.specs.Way.{IsOnTheWay}
-use Rattle.st_way.proofs.Wanted.{way-prepared}
 use Rattle.st_levels.specs.Levels.{AreLevels}
 use Rattle.st_levels.specs.declared.plans.Plan.{Plan}
 use Rattle.st_next.specs.Known.{IsBefore}
@@ -60,35 +56,9 @@ pub after-p : (ds : List ℕ) (n : ℕ) (f : Front) (e : Entry) → (after ds n 
 unfolding after
 after-p ds n f e = refl
 
--- ---- levels: the reads of them, and what the last front keeps of them
+-- ---- what the last front keeps of the levels
 
 module _ (ds : List ℕ) (n tick : ℕ) where
-  served-ahead : (t : Option ℕ) (s : Machine) (f last : Front) (ring : List Level) (plans : List Plan)
-      → AreLevels ds n tick t s f last ring plans → served ds (asked_ahead ds n (length ring) t s f) f.bus ≡ last.bus
-  unfolding AreLevels asked_ahead served
-  served-ahead t s f last [] [] h = ap (λ (g : Front). g.bus) (sym h)
-  served-ahead t s f last [] (q ∷ qs) h = absurd h
-  served-ahead t s f last (level ∷ levels) [] h = absurd h
-  served-ahead t s f last (level ∷ levels) (q ∷ qs) h =
-      let rest = asked_ahead ds n (length levels) None (guess t s) (after ds n f (entry t s)) in
-      served-append ds (asked ds n f (entry t s)) rest f.bus
-      ∙ ap (served ds rest) (served-asked ds n f (entry t s))
-      ∙ served-ahead None (guess t s) (after ds n f (entry t s)) last levels qs h.1
-
-  pub asked-more : (t k : Option ℕ) (s u : Machine) (f last : Front) (ring : List Level) (plans : List Plan)
-      → k ≡ table_behind (length ring) t → u ≡ guesses (length ring) t s → AreLevels ds n tick t s f last ring plans
-      → asked_ahead ds n (suc (length ring)) t s f ≡ asked_ahead ds n (length ring) t s f ++ asked ds n last (entry k u)
-  unfolding AreLevels asked_ahead guesses
-  asked-more t k s u f last [] [] table state h =
-      append-nil (asked ds n f (entry t s)) ∙ ap₂ (λ g e. asked ds n g e) (sym h) (sym (ap₂ entry table state))
-  asked-more t k s u f last [] (q ∷ qs) table state h = absurd h
-  asked-more t k s u f last (level ∷ levels) [] table state h = absurd h
-  asked-more t k s u f last (level ∷ levels) (q ∷ qs) table state h =
-      let first = asked ds n f (entry t s) in
-      ap (λ reads. first ++ reads)
-      (asked-more None k (guess t s) u (after ds n f (entry t s)) last levels qs (table ∙ sym (behind-none (length levels))) state h.1)
-      ∙ sym (append_assoc first (asked_ahead ds n (length levels) None (guess t s) (after ds n f (entry t s))) (asked ds n last (entry k u)))
-
   -- an older entry lies behind all levels
   past-behind : (j : ℕ) (d : Past) (t : Option ℕ) (s : Machine) (f last : Front) (ring : List Level) (plans : List Plan)
       → AreLevels ds n tick t s f last ring plans → length ring + j < 8 → get_or last.past (length ring + j) d ≡ get_or f.past j d
@@ -162,10 +132,6 @@ becomes-level ds n now t s f v some most are few early is planned due run before
     let indicator = behind-indicator (count v) t is.indicator in
     let range : IsEntry e = entry-ranges k u before.machine indicator in
     let p : tick_p ds n v.front e ≡ now = sym all.tick ∙ due in
-    let reads = reads-formed ds n k u v.front v.next all planned in
-    let way = subst (λ (l : List Read). IsOnTheWay ds now (asked_ahead ds n (count v) t s f ++ l) f.bus v.port) reads is.way in
-    let made = way-prepared 255 ds are n v.front e range is.tight now (asked_ahead ds n (count v) t s f) f.bus v.port
-    (served-ahead ds n now t s f v.front v.levels.ring v.levels.plans is.ahead.levels) (omega (arith, p)) way in
     let late : 1 ≤ count v → now < v.front.c = going-late ds n now (now + 1) (λ g x r. done-behind ds n g x r) t s f v is in
     record {
       run = run;
@@ -185,7 +151,6 @@ becomes-level ds n now t s f v some most are few early is planned due run before
           let before_p : done_before n v.front.past < tick_p ds n v.front e = levels-behind ds n v.front e in
           omega (arith, c, before_p, p));
       early = omega (arith, is.early, few, most, early);
-      made = made.0;
     }
   where
     no-levels : (j at c : ℕ) → (1 ≤ j → at < c) → c < at → j ≡ 0

@@ -1,7 +1,8 @@
 -- Ticks at which nothing happens, passed over at once.
-use Rattle.std.specs.Prelude.{is_none, if◌then◌else◌}
-use Rattle.std.proofs.Common.{◌≡◌, ℕ, zero, suc, ◌+◌, ◌-◌, ◌<◌, ◌≤◌, ◌^◌, Bool, true, false, List, Option, None, Some, refl, sym, subst, ◌∙◌, ap, arith}
+use Rattle.std.specs.Prelude.{is_none, nat_le, if◌then◌else◌}
+use Rattle.std.proofs.Common.{◌≡◌, ℕ, zero, suc, ◌+◌, ◌-◌, ◌<◌, ◌≤◌, ◌^◌, ◌||◌, Bool, true, false, List, Option, None, Some, refl, sym, subst, ◌∙◌, ap, arith}
 use Rattle.std.proofs.lemmas.Bool.{ne_eqb}
+use Rattle.std.proofs.lemmas.Bool.Decides.{nat_tests}
 use Rattle.st_state.specs.Machine.{Machine}
 use Rattle.st_exec.specs.Step.{interrupt, rests}
 use Rattle.st_rows.specs.Rows.{row}
@@ -10,7 +11,7 @@ use Rattle.st_segment.specs.Entries.{entry}
 use Rattle.st_levels.specs.Levels.{oldest_front}
 use Rattle.st_ahead.specs.Overlap.{Overlap, seen, oldest_row, interrupt_due}
 use Rattle.st_ahead.specs.Calls.{is_done, completed, ticked, passed, settled_by, answer_by, settled, answer}
-use Rattle.st_ahead.specs.Idle.{after_ticks, IsIdle, AreIdle}
+use Rattle.st_ahead.specs.RunTo.{after_ticks, may_come, IsPassed, ArePassed}
 use Rattle.st_ahead.specs.Inside.{standing, IsInside}
 use Rattle.st_ahead.specs.Look.{LookView, IsLook}
 use Rattle.st_ahead.specs.declared.events.Settled.TheVariants.{Goes}
@@ -18,9 +19,9 @@ use Rattle.st_ahead.proofs.Standing.{overlap, left_over}
 
 -- ---- no tick
 
-pub after-none : (m : Overlap) → m ≡ after_ticks 0 m
+pub passed-none : (count : ℕ) (m : Overlap) → ArePassed count 0 m m
 unfolding after_ticks
-after-none m = refl
+passed-none count m = record { each = λ i before. absurd (omega (arith, before)); after = refl }
 
 -- ---- a machine between two ticks, of which no interrupt is due and which is not at rest
 
@@ -40,8 +41,8 @@ module _ (ds : List ℕ) (n : ℕ) (s : Machine) (t : Option ℕ) (f : Front) (d
   unfolding ticked settled
   next-tick now late = rw (not-done now late, due, awake) refl
 
-  idle-tick : (now : ℕ) → now < (row ds n f (entry t s)).c → IsIdle (calm now)
-  idle-tick now late = record { passed = not-done now late; goes = goes-on now late }
+  idle-tick : (now : ℕ) → now < (row ds n f (entry t s)).c → IsPassed 0 (calm now)
+  idle-tick now late = record { goes = goes-on now late; nothing = λ done. absurd (cc (sym (not-done now late) ∙ done)) }
 
   after-idle : (k now : ℕ) → now + k ≤ (row ds n f (entry t s)).c → after_ticks k (calm now) ≡ calm (now + k)
   unfolding after_ticks
@@ -50,60 +51,12 @@ module _ (ds : List ℕ) (n : ℕ) (s : Machine) (t : Option ℕ) (f : Front) (d
       let same : now + 1 + k ≡ now + suc k = omega arith in
       ap (after_ticks k) (next-tick now (omega arith)) ∙ after-idle k (now + 1) (omega arith) ∙ ap calm same
 
-  are-idle : (k now : ℕ) → now + k ≤ (row ds n f (entry t s)).c → AreIdle k (calm now)
-  are-idle k now late = λ i before. subst IsIdle (sym (after-idle i now (omega (arith, before)))) (idle-tick (now + i) (omega (arith, before)))
-
--- ---- what the machine keeps
-
--- the tick `last` is the one before the next
-over-calm : (n : ℕ) (ds : List ℕ) (s : Machine) (t : Option ℕ) (now k last : ℕ) (v : LookView)
-    → IsInside (standing n ds s t None now false false false v) false v → 1 ≤ k → now + k ≤ 2 ^ 63 → last + 1 ≡ now + k
-    → last < (row ds n (oldest_front v.levels.plans v.front) (entry t s)).c
-    → IsLook ds n last (last + 1) t s (oldest_front v.levels.plans v.front) v
-    → IsInside (standing n ds s t None (now + k) false false false v) false v
-    × AreIdle k (standing n ds s t None now false false false v)
-    × (standing n ds s t None (now + k) false false false v ≡ after_ticks k (standing n ds s t None now false false false v))
-unfolding seen
-over-calm n ds s t now k last v is some early next late look =
-    let f = oldest_front v.levels.plans v.front in
-    let quiet = is.quiet refl in
-    let before : last ≡ now + k - 1 = omega arith in
-    let here = subst (λ (x : ℕ). IsLook ds n last x t s f v) next look in (
-      record {
-        some = is.some;
-        few = is.few;
-        looking = subst (λ (x : ℕ). IsLook ds n x (now + k) t s f v) before here;
-        indicator = is.indicator;
-        in_time = early;
-        fresh_owed = λ e. absurd (cc e);
-        ended_owed = λ e. absurd (cc e);
-        behind_fresh = λ e. refl;
-        done_now = λ e. absurd (cc e);
-        none_taken = λ e. absurd (cc e);
-        quiet = λ e. quiet;
-        unstarted = λ e first. absurd (omega (arith, first));
-      },
-      are-idle ds n s t f quiet.0 quiet.1 k now (omega arith),
-      sym (after-idle ds n s t f quiet.0 quiet.1 k now (omega arith)),
-    )
-
-pub passed-over : (n : ℕ) (ds : List ℕ) (s : Machine) (t b : Option ℕ) (now to : ℕ) (owed ended fresh : Bool) (v : LookView)
-    → IsInside (standing n ds s t b now owed ended fresh v) fresh v → owed ≡ false → now < to → to ≤ 2 ^ 63
-    → (let f = oldest_front v.levels.plans v.front in IsLook ds n (to - 1) (to - 1 + 1) t s f v × (to - 1 < (row ds n f (entry t s)).c))
-    → IsInside (standing n ds s t b to owed ended fresh v) fresh v
-    × AreIdle (to - now) (standing n ds s t b now owed ended fresh v)
-    × (standing n ds s t b to owed ended fresh v ≡ after_ticks (to - now) (standing n ds s t b now owed ended fresh v))
-passed-over n ds s t b now to true ended fresh v is e later early rests = absurd (cc e)
-passed-over n ds s t b now to false true fresh v is e later early rests = absurd (cc (is.ended_owed refl))
-passed-over n ds s t b now to false false true v is e later early rests = absurd (cc (is.fresh_owed refl))
-passed-over n ds s t (Some h) now to false false false v is e later early rests = absurd (cc (is.behind_fresh refl))
-passed-over n ds s t None now to false false false v is e later early rests =
-    let same : now + (to - now) ≡ to = omega arith in
-    let all = over-calm n ds s t now (to - now) (to - 1) v is (omega arith) (omega arith) (omega arith) rests.1 rests.0 in (
-      subst (λ (x : ℕ). IsInside (standing n ds s t None x false false false v) false v) same all.0,
-      all.1,
-      ap (λ (x : ℕ). standing n ds s t None x false false false v) (sym same) ∙ all.2,
-    )
+  pub are-idle : (k now : ℕ) → now + k ≤ (row ds n f (entry t s)).c → ArePassed 0 k (calm now) (calm (now + k))
+  are-idle k now late = record {
+    each =
+        λ i before. subst (IsPassed 0) (sym (after-idle i now (omega (arith, before)))) (idle-tick (now + i) (omega (arith, before)));
+    after = sym (after-idle k now late);
+  }
 
 -- ---- what idle ticks leave of any machine
 
@@ -122,17 +75,36 @@ pub late-ticked : (m : Overlap) → is_done m ≡ false → ticked m ≡ record 
 unfolding ticked
 late-ticked m e = left_over (is_done m) (completed m) (record m { owed = true; closing = None }) e
 
-idle-step : (m : Overlap) → IsIdle m → settled (ticked m) ≡ passed m
-idle-step m is = goes-passed (ticked m) is.goes ∙ ap {A = Overlap} passed (late-ticked m is.passed)
+-- fewer than `count` are done where nothing may come
+pub first-none : (a b : Bool) → (a || b) ≡ false → a ≡ false
+first-none true b h = absurd (cc h)
+first-none false b h = refl
+
+pub less-than : (a b : ℕ) → nat_le a b ≡ false → b < a
+less-than a b test = grind (arith, nat_tests)
+
+-- where no instruction may be done, something always may
+pub zero-comes : (m : Overlap) → may_come 0 m ≡ false → ⊥
+zero-comes m none = let less = less-than 0 m.state.done (first-none (nat_le 0 m.state.done) _ none) in omega (arith, less)
+
+-- a tick at which no entry is done leaves the state
+idle-step : (m : Overlap) → IsPassed 0 m → settled (ticked m) ≡ passed m
+idle-step m is = idle-by (is_done m) refl
+  where
+    idle-by : (b : Bool) → is_done m ≡ b → settled (ticked m) ≡ passed m
+    idle-by true done = absurd (zero-comes (ticked m) (is.nothing done))
+    idle-by false late = goes-passed (ticked m) is.goes ∙ ap {A = Overlap} passed (late-ticked m late)
 
 -- no settle is owed, and the state stays
-pub idle-kept : (k : ℕ) (m : Overlap) → m.owed ≡ false → AreIdle k m
-    → ((after_ticks k m).owed ≡ false) × ((after_ticks k m).now ≡ m.now + k) × ((after_ticks k m).state ≡ m.state)
+pub idle-kept : (k : ℕ) (m new : Overlap) → m.owed ≡ false → ArePassed 0 k m new
+    → (new.owed ≡ false) × (new.now ≡ m.now + k) × (new.state ≡ m.state)
 unfolding after_ticks
-idle-kept zero m owes idle = (owes, omega arith, refl)
-idle-kept (suc k) m owes idle =
-    let next : settled (ticked m) ≡ passed m = idle-step m (idle 0 (omega arith)) in
-    let rest = idle-kept k (settled (ticked m)) (ap (λ (x : Overlap). x.owed) next) (λ i before. idle (suc i) (omega (arith, before))) in (
+idle-kept zero m new owes idle =
+    (ap (λ (x : Overlap). x.owed) idle.after ∙ owes, omega (arith, ap (λ (x : Overlap). x.now) idle.after), ap (λ (x : Overlap). x.state) idle.after)
+idle-kept (suc k) m new owes idle =
+    let next : settled (ticked m) ≡ passed m = idle-step m (idle.each 0 (omega arith)) in
+    let rest = idle-kept k (settled (ticked m)) new (ap (λ (x : Overlap). x.owed) next)
+    (record { each = λ i before. idle.each (suc i) (omega (arith, before)); after = idle.after }) in (
       rest.0,
       omega (arith, rest.1, ap (λ (x : Overlap). x.now) next),
       rest.2 ∙ ap (λ (x : Overlap). x.state) next,

@@ -1,26 +1,32 @@
 -- The entry that is prepared next is prepared at the tick or later, and what is not asked for yet is wanted then or later.
-use Rattle.std.specs.Prelude.{All, ◌==◌, if◌then◌else◌}
-use Rattle.std.proofs.Common.{◌≡◌, ℕ, zero, suc, ◌+◌, ◌<◌, ◌≤◌, ◌||◌, max, Bool, true, false, not, List, [], ◌∷◌, ◌++◌, append_assoc, length, Option, None, refl, sym, ◌∙◌, ap, ap₂, arith}
+use Rattle.std.specs.Prelude.{All, ◌==◌, if◌then◌else◌, IfSome}
+use Rattle.std.proofs.Common.{◌≡◌, ℕ, zero, suc, ◌+◌, ◌<◌, ◌≤◌, ◌||◌, max, Bool, true, false, not, List, [], ◌∷◌, ◌++◌, append_assoc, length, length-append, drop, Option, None, Some, refl, sym, subst, ◌∙◌, ap, ap₂, arith}
 use Rattle.std.proofs.lemmas.Bool.{lt-ltb, le-ltb}
 use Rattle.std.proofs.lemmas.List.{append-nil}
 use Rattle.std.proofs.lemmas.List.Elements.{All-append, All-weaker, All-head, All-tail}
-use Rattle.st_state.specs.Machine.{Machine}
+use Rattle.st_state.specs.Machine.{Machine, IsMachine}
 use Rattle.st_exec.specs.Completion.{guess}
-use Rattle.st_rows.specs.Asked.{Read, asked, fetches_asked, words_asked, side_asked, made_before}
-use Rattle.st_rows.specs.Rows.{row, after, wanted_from, tick_a, tick_p}
+use Rattle.st_rows.specs.Asked.{Read, asked, fetches_asked, words_asked, side_asked, side_count, runs_asked, operands_asked, following_asked, formed_asked, prepared_asked, data_of, served, made_before}
+use Rattle.st_rows.specs.Notes.{logged, undone, AreEarly, IsLogged}
+use Rattle.st_rows.specs.Ranges.{AreDelays, IsEntry, IsNear, IsTight}
+use Rattle.st_rows.specs.Rows.{row, after, fetch_words, wanted_from, tick_a, tick_p, operands}
+use Rattle.st_rows.specs.declared.bus.Bus.{Bus}
 use Rattle.st_rows.specs.declared.entry.Run.{Run}
+use Rattle.st_rows.specs.declared.fetching.Fetching.{Fetching}
 use Rattle.st_rows.specs.declared.entry.Entry.{Entry}
 use Rattle.st_rows.specs.declared.front.Front.{Front}
-use Rattle.st_port.specs.Parts.{data_of}
-use Rattle.st_port.proofs.Stages.{asked-parts}
+use Rattle.st_rows.specs.declared.log.Made.{Made}
+use Rattle.st_rows.proofs.LogLaws.{undone_is_made_before, few_are_undone, logs_go_on}
+use Rattle.st_rows.proofs.MadeLemmas.{made-more}
+use Rattle.st_rows.proofs.Parts.{asked-parts, two-parts, at-prepared, served-formed, free-formed}
+use Rattle.st_rows.proofs.Served.{made-bounds, served-append, served-asked, few-words, few-side, few-operands, few-following}
+use Rattle.st_rows.proofs.Tight.{tight-after}
 use Rattle.st_ring.specs.declared.level.Level.{Level}
 use Rattle.st_segment.specs.Entries.{entry}
 use Rattle.st_segment.specs.Guesses.{guesses, table_behind}
 use Rattle.st_segment.specs.Ahead.{ahead, reads_before}
-use Rattle.st_segment.proofs.GuessLemmas.{behind-none}
-use Rattle.st_way.specs.Parts.{prepared_asked}
-use Rattle.st_way.proofs.Wanted.{two-parts, at-prepared}
-use Rattle.st_way.proofs.Turned.{on-closing}
+use Rattle.st_segment.proofs.EntryRanges.{entry-ranges}
+use Rattle.st_segment.proofs.GuessLemmas.{guess-machine, behind-none}
 use Rattle.st_levels.specs.Levels.{AreLevels}
 use Rattle.st_levels.specs.declared.plans.Plan.{Plan}
 use Rattle.st_levels.proofs.LevelLemmas.{levels-beside}
@@ -29,7 +35,8 @@ use Rattle.st_next.specs.Progress.{IsNext, IsPlanned, Rests, reads_so_far}
 use Rattle.st_next.specs.declared.next.Next.{Next}
 use Rattle.st_next.proofs.Resting.{address-late, rest-left}
 use Rattle.st_next.proofs.Steps.{planned-is}
-use Rattle.st_ahead.specs.Look.{LookView, IsLook, IsNextIf, count, is_open, asked_ahead}
+use Rattle.st_ahead.specs.Look.{LookView, IsOutlook, IsNextIf, count, is_open, asked_ahead}
+use Rattle.st_ahead.proofs.Further.{bus-ahead}
 
 -- no words
 abbrev none : Run
@@ -157,7 +164,7 @@ some-by zero e = absurd (cc e)
 some-by (suc k) e = omega arith
 
 pub look-later : (ds : List ℕ) (n tick now : ℕ) (t : Option ℕ) (s : Machine) (f : Front) (v : LookView) → AreOrdered ds n
-    → now ≤ tick + 1 → IsLook ds n tick now t s f v → All (λ q. (f.c < q.c) × (q.c ≤ v.front.c)) v.levels.plans
+    → now ≤ tick + 1 → IsOutlook ds n tick now t s f v → All (λ q. (f.c < q.c) × (q.c ≤ v.front.c)) v.levels.plans
     → IsLater ds n now v.front (entry (table_behind (count v) t) (guesses (count v) t s)) v.next
 look-later ds n tick now t s f v ordered soon is order = by-open (is_open v) refl is.next
   where
@@ -217,23 +224,150 @@ oldest-prepared ds n tick now t s f last (level ∷ levels) (q ∷ qs) h each so
     let is : level.p ≡ (row ds n f (entry t s)).p = h.0.p in
     omega arith
 
-pub banks-left : (ds : List ℕ) (n tick now : ℕ) (t : Option ℕ) (s : Machine) (f : Front) (v : LookView) → AreOrdered ds n
-    → now ≤ tick + 1 → count v ≤ n → 1 ≤ count v → IsLook ds n tick now t s f v
+-- ---- at most 39 reads are accepted at the tick at which the oldest level is done, or later
+
+few-prepared : (ds : List ℕ) (n : ℕ) (f : Front) (e : Entry) → IsEntry e → length (prepared_asked ds n f e) ≤ 34
+unfolding following_asked
+few-prepared ds n f e range =
+    let p = tick_p ds n f e in
+    simp length-append
+    (omega (
+      arith,
+      few-operands f.past p e.reads.one.first e.reads.one.len,
+      few-operands f.past p e.reads.two.first e.reads.two.len,
+      few-following e.follows ds (operands ds n f e).bus (e.own.first + e.own.len) p,
+      range.one_few,
+      range.two_few,
+    ))
+
+few-so-far : (ds : List ℕ) (f : Front) (next : Next) → length (reads_so_far ds f next) ≤ next.own.len + next.target.len + 1
+unfolding fetches_asked
+few-so-far ds f next =
+    let start : Fetching = record { bus = f.bus; answered = 0; awaited = 0 } in
+    let behind = fetch_words ds f.past start (wanted_from f) next.own.first next.own.len in
+    simp length-append
+    (omega (
+      arith,
+      few-words ds f.past (wanted_from f) start next.own.first next.own.len,
+      few-words ds f.past (max (wanted_from f) f.c) behind next.target.first next.target.len,
+      few-if next.planned,
+    ))
+  where
+    at-most-one : (side : Option ℕ) → side_count side ≤ 1
+    at-most-one None = omega arith
+    at-most-one (Some w) = omega arith
+
+    few-if : (b : Bool) → length (if b then side_asked f.past next.entry.side next.formed.a else []) ≤ 1
+    few-if true = omega (arith, few-side f.past next.entry.side next.formed.a, at-most-one next.entry.side)
+    few-if false = omega arith
+
+few-next : (b : Bool) (ds : List ℕ) (n now : ℕ) (t : Option ℕ) (s : Machine) (v : LookView) → IsNextIf b ds n now t s v
+    → IsEntry (entry (table_behind (count v) t) (guesses (count v) t s)) → length (reads_so_far ds v.front v.next) ≤ 5
+few-next true ds n now t s v is range =
+    omega (
+      arith,
+      few-so-far ds v.front v.next,
+      is.0.read_on.first.own_start.few,
+      is.0.read_on.first.target_start.few,
+      range.own_few,
+      range.target_few,
+    )
+few-next false ds n now t s v is range =
+    omega (
+      arith,
+      few-so-far ds v.front v.next,
+      ap (λ (r : Run). r.len) is.1,
+      ap (λ (r : Run). r.len) is.2,
+    )
+
+-- the reads in two parts: behind the first ones the bus is free by then, and the others are few
+record AreFew (ds : List ℕ) (now : ℕ) (reads : List Read) (b : Bus) : Type 0 where
+  first : List Read
+  rest : List Read
+  parts : reads ≡ first ++ rest
+  few : length rest ≤ 64
+  free : (served ds first b).free ≤ now
+
+few-ahead : (ds : List ℕ) (n tick now : ℕ) (t : Option ℕ) (s : Machine) (f last : Front) (ring : List Level) (plans : List Plan) (more : List Read)
+    → AreDelays 255 ds → IsMachine s → IfSome t (λ i. i < 64) → IsTight 255 f → AreLevels ds n tick t s f last ring plans
+    → All (λ level. level.p < now) ring → 1 ≤ length ring → length more ≤ 5 → AreFew ds now (asked_ahead ds n (length ring) t s f ++ more) f.bus
+unfolding AreLevels asked_ahead row
+few-ahead ds n tick now t s f last [] plans more are m some tight h each one few = absurd (omega (arith, one))
+few-ahead ds n tick now t s f last (level ∷ levels) [] more are m some tight h each one few = absurd h
+few-ahead ds n tick now t s f last (level ∷ []) (q ∷ qs) more are m some tight h each one few =
+    let e = entry t s in
+    let range = entry-ranges t s m some in
+    let early : level.p < now = All-head (λ (x : Level). x.p < now) level [] each in
+    let p : level.p ≡ tick_p ds n f e = h.0.p in
+    record {
+      first = formed_asked ds f e;
+      rest = prepared_asked ds n f e ++ more;
+      parts =
+          ap (λ reads. reads ++ more) (append-nil (asked ds n f e) ∙ two-parts ds n f e)
+          ∙ append_assoc (formed_asked ds f e) (prepared_asked ds n f e) more;
+      few = omega (arith, length-append (prepared_asked ds n f e) more, few-prepared ds n f e range, few);
+      free = omega (arith, ap (λ (b : Bus). b.free) (served-formed ds f e), free-formed 255 ds are n f e range tight, p, early);
+    }
+few-ahead ds n tick now t s f last (level ∷ second ∷ levels) (q ∷ qs) more are m some tight h each one few =
+    let e = entry t s in
+    let range = entry-ranges t s m some in
+    let f' = after ds n f e in
+    let rest = few-ahead ds n tick now None (guess t s) f' last (second ∷ levels) qs more are (guess-machine t s m some) tt
+    (tight-after 255 ds are n f e range tight) h.1 (All-tail (λ (x : Level). x.p < now) level (second ∷ levels) each) (omega arith) few in
+    record {
+      first = asked ds n f e ++ rest.first;
+      rest = rest.rest;
+      parts =
+          append_assoc (asked ds n f e) (asked_ahead ds n (length (second ∷ levels)) None (guess t s) f') more
+          ∙ ap (λ reads. asked ds n f e ++ reads) rest.parts
+          ∙ sym (append_assoc (asked ds n f e) rest.first rest.rest);
+      few = rest.few;
+      free =
+          omega (
+            arith,
+            ap (λ (b : Bus). b.free) (served-append ds (asked ds n f e) rest.first f.bus ∙ ap (served ds rest.first) (served-asked ds n f e)),
+            rest.free,
+          );
+    }
+
+pub banks-left : (ds : List ℕ) (n tick now : ℕ) (t : Option ℕ) (s : Machine) (f : Front) (v : LookView) → AreOrdered ds n → AreDelays 255 ds
+    → now ≤ tick + 1 → count v ≤ n → 1 ≤ count v → IsOutlook ds n tick now t s f v
     → All (λ q. (f.c < q.c) × (q.c ≤ v.front.c)) v.levels.plans → f.bus.free ≤ now
-    → made_before ds now (asked ds n f (entry t s)
-    ++ reads_before ds n now (ahead ds n (suc n) None (guess t s) (after ds n f (entry t s)))) f.bus ≡ v.port.bus
+    → IsEntry (entry (table_behind (count v) t) (guesses (count v) t s))
+    → (made_before ds now (asked ds n f (entry t s)
+    ++ reads_before ds n now (ahead ds n (suc n) None (guess t s) (after ds n f (entry t s)))) f.bus).banks.ticks
+    ≡ undone now v.log v.next.words.bus.banks.ticks
 unfolding ahead reads_before
-banks-left ds n tick now t s f v ordered soon few some is order free =
+banks-left ds n tick now t s f v ordered are soon few some is order free range =
     let k = table_behind (count v) t in
     let u = guesses (count v) t s in
     let later = look-later ds n tick now t s f v ordered soon is order in
     let first : (row ds n f (entry t s)).p < now = oldest-prepared ds n tick now t s f v.front v.levels.ring v.levels.plans is.ahead.levels is.prepared some in
     let made = asked_ahead ds n (count v) t s f in
     let so_far = reads_so_far ds v.front v.next in
+    let reads = made ++ so_far in
+    let all : made_before ds now (asked ds n f (entry t s)
+    ++ reads_before ds n now (ahead ds n (suc n) None (guess t s) (after ds n f (entry t s)))) f.bus ≡ made_before ds now reads f.bus =
     ap (λ reads. made_before ds now reads f.bus)
     (sym (more-behind _ (asked ds n f (entry t s)) _ (lt-ltb (row ds n f (entry t s)).p now first))
     ∙ levels-reads ds n tick now (suc (suc n)) t k s u f v.front v.levels.ring v.levels.plans is.ahead.levels is.prepared refl refl
     later.prepared (omega arith)
     ∙ ap (λ reads. made ++ reads) later.reads
     ∙ sym (append_assoc made so_far later.rest))
-    ∙ on-closing ds now (made ++ so_far) later.rest f.bus v.port free later.late is.way
+    ∙ made-more ds now reads later.rest f.bus later.late in
+    let log = logs_go_on.later ds f.bus.free now reads f.bus v.log free is.logged in
+    let split = few-ahead ds n tick now t s f v.front v.levels.ring v.levels.plans so_far are is.machine is.indicator is.oldest is.ahead.levels is.prepared some
+    (few-next (is_open v) ds n now t s v is.next range) in
+    ap (λ (b : Bus). b.banks.ticks) all
+    ∙ sym (undone_is_made_before ds now reads f.bus v.log log (λ older early.
+    subst (λ (l : List Read). AreEarly now (drop 64 (logged ds l f.bus ++ older))) (sym split.parts)
+    (few_are_undone ds now split.first split.rest f.bus older split.few split.free early)))
+    ∙ ap (λ (b : Bus). undone now v.log b.banks.ticks) (bus-ahead ds n tick now t s f v is.next is.ahead)
+
+-- what is asked for before the tick is answered soon
+pub made-soon : (most now : ℕ) (ds : List ℕ) (reads : List Read) (b : Bus) → AreDelays most ds → IsNear most b → b.free ≤ now
+    → All (λ x. x ≤ now + most) (made_before ds now reads b).banks.ticks
+made-soon most now ds reads b are near free =
+    let bounds = made-bounds most ds are now reads b near free in
+    All-weaker (λ x. x ≤ (made_before ds now reads b).free + most) (λ x. x ≤ now + most) (λ x low. omega (arith, low, bounds.1))
+    (made_before ds now reads b).banks.ticks bounds.0.banks

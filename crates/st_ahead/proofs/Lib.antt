@@ -12,8 +12,11 @@ pub mod Showing
 pub mod Further
 pub mod Due
 pub mod Pushed
-pub mod Turning
+pub mod Gone
+pub mod Served
 pub mod Cards
 pub mod Views
-pub mod Resting
 pub mod Idling
+pub mod Passing
+pub mod Runs
+pub mod Stopping

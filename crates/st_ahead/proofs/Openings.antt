@@ -15,11 +15,11 @@ use Rattle.st_rows.specs.Entries.{no_words}
 use Rattle.st_ring.specs.declared.level.Level.{Level}
 use Rattle.st_levels.specs.declared.plans.Plan.{Plan}
 use Rattle.st_rows.specs.declared.entry.Entry.{Entry}
-use Rattle.st_way.proofs.Turned.{on-opened}
 use Rattle.st_rows.specs.declared.fetching.Fetching.{Fetching}
 use Rattle.st_rows.specs.declared.front.Front.{Front}
 use Rattle.st_rows.specs.declared.past.Past.{Past}
 use Rattle.st_rows.specs.declared.entry.Run.{Run}
+use Rattle.st_rows.proofs.NoteLemmas.{opened-log}
 use Rattle.st_segment.specs.Entries.{entry}
 use Rattle.st_segment.specs.Guesses.{guesses, split_words}
 use Rattle.st_segment.specs.Alone.{RunAhead}
@@ -123,10 +123,6 @@ next-none ds n now t s f next place no_own no_target unplanned words late alone 
     wanted_if false e = omega arith
     wanted_if true e = absurd (cc e)
 
-room-left : (b : Bool) (k : ℕ) → b ≡ false → (if b then 0 else 5 - k) ≤ 40
-room-left false k e = omega arith
-room-left true k e = absurd (cc e)
-
 -- ---- all of it
 
 pub opening-looks : (ds : List ℕ) (n tick now start : ℕ) (t : Option ℕ) (s : Machine) (banks : LastAnswers) (v : LookView)
@@ -153,8 +149,5 @@ opening-looks ds n tick now start t s banks v is machine some early before soon 
       early = rw (is.ring, front) (omega (arith, soon));
       next = rw (is.ring, front) next;
       late = λ planned. absurd (cc (sym is.planned ∙ planned));
-      way = rw (is.ring, reads, is.port) (on-opened ds now f.bus);
-      room = rw (is.port, is.planned, is.own, is.target) (omega arith);
-      near = rw is.port tight.near;
-      free = rw is.port (omega (arith, before));
+      logged = rw (is.ring, reads, is.log) (opened-log ds f.bus.free f.bus);
     }

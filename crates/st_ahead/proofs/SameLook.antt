@@ -10,7 +10,7 @@ use Rattle.st_exec.specs.Completion.{guess}
 use Rattle.st_segment.proofs.GuessLemmas.{guess-machine}
 use Rattle.st_rows.specs.Asked.{asked}
 use Rattle.st_rows.specs.Rows.{after, tick_a, bus_a, tick_p}
-use Rattle.st_way.specs.Way.{IsOnTheWay}
+use Rattle.st_rows.specs.Notes.{IsLogged}
 use Rattle.st_rows.specs.declared.entry.Entry.{Entry}
 use Rattle.st_rows.specs.declared.front.Front.{Front}
 use Rattle.st_segment.specs.Entries.{entry}
@@ -122,12 +122,9 @@ look-same ds n tick now s u f v run is m beside =
       early = is.early;
       next = next-if_same ds n (is_open v) now s u v over.1 is.next;
       late = is.late;
-      way =
-          subst (λ reads. IsOnTheWay ds now (reads ++ reads_so_far ds v.front v.next) f.bus v.port)
-          (sym (asked-same ds n (count v) s u f is.machine beside run)) is.way;
-      room = is.room;
-      near = is.near;
-      free = is.free;
+      logged =
+          subst (λ reads. IsLogged ds f.bus.free (reads ++ reads_so_far ds v.front v.next) f.bus v.log)
+          (sym (asked-same ds n (count v) s u f is.machine beside run)) is.logged;
     }
 
 -- behind the entry before that is done at the tick, no level that is not done by then is done alone
@@ -151,7 +148,7 @@ opened-same t s u f v is beside = record {
   plans = is.plans;
   index = is.index ∙ sym (same-index s u beside);
   front = is.front;
-  port = is.port;
+  log = is.log;
   place = is.place ∙ sym (same-place s u t beside);
   own = is.own;
   target = is.target;

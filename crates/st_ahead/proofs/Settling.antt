@@ -17,12 +17,13 @@ use Rattle.st_segment.specs.Ahead.{ahead, prepared_before}
 use Rattle.st_levels.proofs.LevelLemmas.{length-ahead}
 use Rattle.st_ahead.specs.Overlap.{Overlap, seen, with_counter, levels_of, interrupt_due, idle_banks}
 use Rattle.st_ahead.specs.Calls.{dropped, ended, passed, settled, answer, settled_by, answer_by}
-use Rattle.st_ahead.specs.Look.{LookView, IsLook, IsOpened, count}
+use Rattle.st_ahead.specs.Look.{LookView, IsLook, IsOpened, count, is_open}
 use Rattle.st_ahead.specs.Going.{IsGoing}
-use Rattle.st_ahead.specs.Inside.{standing, IsBetween, IsInside, IsInTime}
+use Rattle.st_ahead.specs.Inside.{standing, answers_before, IsBetween, IsInside, IsInTime}
 use Rattle.st_ahead.proofs.Openings.{opening-looks}
 use Rattle.st_ahead.specs.declared.events.Settled.TheVariants.{Goes, Interrupt, Missed, Waits}
-use Rattle.st_ahead.proofs.Standing.{opened-front, same-fields, chosen, left_over}
+use Rattle.st_ahead.proofs.Further.{next-sooner}
+use Rattle.st_ahead.proofs.Standing.{opened-answers, opened-front, same-fields, chosen, left_over}
 
 -- ---- what is due where no entry was done
 
@@ -138,23 +139,23 @@ levels-counted n ds s t b now fresh v levels =
 pub end-calm : (n : ℕ) (ds : List ℕ) (s : Machine) (b : Option ℕ) (now : ℕ) (v w : LookView)
     → IsInside (standing n ds s None b now true false true v) true v → count v ≤ n
     → length (levels_of (standing n ds s None b now true false true v)) ≡ count v
-    → IsOpened None s (opening v.port.bus.banks (now + 1 + count v)) w
-    → All (λ x. x ≤ now + 1 + count v + 255) v.port.bus.banks.ticks
+    → IsOpened None s (opening (answers_before now v) (now + 1 + count v)) w
+    → All (λ x. x ≤ now + 1 + count v + 255) (answers_before now v).ticks
     → IsInside (standing n ds s None b now true true true w) true w
     × (count v ≡ dropped (standing n ds s None b now true false true v))
     × (standing n ds s None b now true true true w ≡ ended (standing n ds s None b now true false true v))
 unfolding dropped ended
 end-calm n ds s b now v w is most levels opened early =
-    let banks : w.port.bus.banks ≡ v.port.bus.banks = ap (λ port. port.bus.banks) opened.port in
+    let banks : answers_before now w ≡ answers_before now v = opened-answers now None s (answers_before now v) (now + 1 + count v) w opened in
     let start : w.front.c ≡ now + 1 + count v = ap (λ (f : Front). f.c) opened.front in
     let few : n ≤ 8 = is.few in
-    let front = opened-front None s (opening v.port.bus.banks (now + 1 + count v)) w opened in
+    let front = opened-front None s (opening (answers_before now v) (now + 1 + count v)) w opened in
     let between : IsBetween now None s w = record {
       opened =
           subst (λ (x : LastAnswers). IsOpened None s (opening x w.front.c) w) (sym banks)
-          (subst (λ (x : ℕ). IsOpened None s (opening v.port.bus.banks x) w) (sym start) opened);
+          (subst (λ (x : ℕ). IsOpened None s (opening (answers_before now v) x) w) (sym start) opened);
       banks = subst (λ (x : LastAnswers). All (λ y. y ≤ w.front.c + 255) x.ticks) (sym banks)
-          (subst (λ (x : ℕ). All (λ y. y ≤ x + 255) v.port.bus.banks.ticks) (sym start) early);
+          (subst (λ (x : ℕ). All (λ y. y ≤ x + 255) (answers_before now v).ticks) (sym start) early);
       later = omega (arith, start);
       soon = omega (arith, start, most, few);
     } in (
@@ -171,9 +172,10 @@ end-calm n ds s b now v w is most levels opened early =
         none_taken = λ e. refl;
         quiet = λ e. absurd (cc e);
         unstarted = λ e. absurd (cc e);
+        near = λ e. subst (λ (x : LastAnswers). All (λ y. y ≤ now + 255) x.ticks) (sym banks) (is.near refl);
       },
       sym levels,
-      same-fields ds n s s None b b _ _ now true true _ _ refl refl (front ∙ ap (λ k. opening v.port.bus.banks (now + 1 + k)) (sym levels)) (ap Some banks),
+      same-fields ds n s s None b b _ _ now true true _ _ refl refl (front ∙ ap (λ k. opening (answers_before now v) (now + 1 + k)) (sym levels)) (ap Some banks),
     )
 
 -- where the segment has ended already
@@ -188,8 +190,8 @@ pub end-first : (n : ℕ) (ds : List ℕ) (s : Machine) (t b : Option ℕ) (now 
     → IsInside (standing n ds s t b now owed over fresh v) fresh v → owed ≡ true → over ≡ false → fresh ≡ true → count v ≤ n
     → (IsLook ds n now now t (with_counter b s) (oldest_front v.levels.plans v.front) v
     → prepared_before now (ahead ds n n t (with_counter b s) (oldest_front v.levels.plans v.front)) ≡ ahead ds n (count v) t (with_counter b s) (oldest_front v.levels.plans v.front))
-    → (IsLook ds n now now t (with_counter b s) (oldest_front v.levels.plans v.front) v → IsOpened None s (opening v.port.bus.banks (now + 1 + count v)) w)
-    → All (λ x. x ≤ now + 1 + count v + 255) v.port.bus.banks.ticks
+    → (IsLook ds n now now t (with_counter b s) (oldest_front v.levels.plans v.front) v → IsOpened None s (opening (answers_before now v) (now + 1 + count v)) w)
+    → All (λ x. x ≤ now + 1 + count v + 255) (answers_before now v).ticks
     → IsInside (standing n ds s t b now owed true fresh w) fresh w
     × (count v ≡ dropped (standing n ds s t b now owed over fresh v))
     × (standing n ds s t b now owed true fresh w ≡ ended (standing n ds s t b now owed over fresh v))
@@ -211,7 +213,7 @@ given-calm : (n : ℕ) (ds : List ℕ) (s : Machine) (t b : Option ℕ) (now : �
     × (standing n ds s t b now true true false w ≡ ended (standing n ds s t b now true false false v))
 unfolding dropped ended
 given-calm n ds s t b now v w is most levels opened =
-    let banks : w.port.bus.banks ≡ idle_banks = ap (λ port. port.bus.banks) opened.port in
+    let banks : answers_before now w ≡ idle_banks = opened-answers now t s idle_banks (now + 1 + count v) w opened in
     let start : w.front.c ≡ now + 1 + count v = ap (λ (f : Front). f.c) opened.front in
     let few : n ≤ 8 = is.few in
     let front = opened-front t s (opening idle_banks (now + 1 + count v)) w opened in
@@ -237,6 +239,7 @@ given-calm n ds s t b now v w is most levels opened =
         none_taken = λ e. absurd (cc e);
         quiet = is.quiet;
         unstarted = λ e. absurd (cc e);
+        near = λ e. absurd (cc e);
       },
       sym levels,
       same-fields ds n s s t b b _ _ now true true None None refl refl (front ∙ ap (λ k. opening idle_banks (now + 1 + k)) (sym levels)) refl,
@@ -303,12 +306,12 @@ pass-inside n ds s t b now true true fresh v is m owes ends due goes =
     let between : IsBetween now t s v = is.looking in
     let later : now + 1 ≤ v.front.c = between.later in
     let soon : v.front.c ≤ now + 1 + 9 = omega (arith, between.soon) in
-    let look = opening-looks ds n (now + 1 - 1) (now + 1) v.front.c t s v.port.bus.banks v between.opened m is.indicator between.banks later soon in (
+    let look = opening-looks ds n (now + 1 - 1) (now + 1) v.front.c t s (answers_before now v) v between.opened m is.indicator between.banks later soon in (
       record {
         some = is.some;
         few = is.few;
         looking =
-            subst (λ (f : Front). IsLook ds n (now + 1 - 1) (now + 1) t s f v) (sym (opened-front t s (opening v.port.bus.banks v.front.c) v between.opened)) look;
+            subst (λ (f : Front). IsLook ds n (now + 1 - 1) (now + 1) t s f v) (sym (opened-front t s (opening (answers_before now v) v.front.c) v between.opened)) look;
         indicator = is.indicator;
         in_time = let early : now < 2 ^ 63 = is.in_time in omega (arith, early);
         fresh_owed = λ e. absurd (cc e);
@@ -318,6 +321,7 @@ pass-inside n ds s t b now true true fresh v is m owes ends due goes =
         none_taken = λ e. absurd (cc e);
         quiet = λ e. (due, goes);
         unstarted = λ e f. absurd (omega (arith, f));
+        near = λ e. absurd (cc e);
       },
       refl,
     )
@@ -345,12 +349,12 @@ interrupt-inside n ds s b now true true fresh v i is m owes ends few due =
     let w = record v { next = record v.next { place = place_of s (Some i) } } in
     let between : IsBetween now None s v = is.looking in
     let o = between.opened in
-    let opened : IsOpened (Some i) s (opening v.port.bus.banks v.front.c) w = record {
+    let opened : IsOpened (Some i) s (opening (answers_before now v) v.front.c) w = record {
       ring = o.ring;
       plans = o.plans;
       index = o.index;
       front = o.front;
-      port = o.port;
+      log = o.log;
       place = refl;
       own = o.own;
       target = o.target;
@@ -359,12 +363,12 @@ interrupt-inside n ds s b now true true fresh v i is m owes ends few due =
     } in
     let later : now + 1 ≤ v.front.c = between.later in
     let soon : v.front.c ≤ now + 1 + 9 = omega (arith, between.soon) in
-    let look = opening-looks ds n (now + 1 - 1) (now + 1) v.front.c (Some i) s v.port.bus.banks w opened m few between.banks later soon in (
+    let look = opening-looks ds n (now + 1 - 1) (now + 1) v.front.c (Some i) s (answers_before now v) w opened m few between.banks later soon in (
       record {
         some = is.some;
         few = is.few;
         looking =
-            subst (λ (f : Front). IsLook ds n (now + 1 - 1) (now + 1) (Some i) s f w) (sym (opened-front (Some i) s (opening v.port.bus.banks v.front.c) w opened)) look;
+            subst (λ (f : Front). IsLook ds n (now + 1 - 1) (now + 1) (Some i) s f w) (sym (opened-front (Some i) s (opening (answers_before now v) v.front.c) w opened)) look;
         indicator = few;
         in_time = let early : now < 2 ^ 63 = is.in_time in omega (arith, early);
         fresh_owed = λ e. absurd (cc e);
@@ -374,6 +378,7 @@ interrupt-inside n ds s b now true true fresh v i is m owes ends few due =
         none_taken = λ e. absurd (cc e);
         quiet = λ e. (refl, rest-not s.waiting (pending s) i (pending-of s.enabled (pending s) i due));
         unstarted = λ e f. absurd (omega (arith, f));
+        near = λ e. absurd (cc e);
       },
       refl,
     )
@@ -403,14 +408,29 @@ look-goes ds n now t s f v is = record {
   not_done = is.not_done;
   oldest = is.oldest;
   tight = is.tight;
-  start = is.start;
-  early = is.early;
+  start = omega (arith, is.start);
+  early = omega (arith, is.early);
   next = is.next;
   late = is.late;
-  way = is.way;
-  room = is.room;
-  near = is.near;
-  free = is.free;
+  logged = is.logged;
+}
+
+-- the same before a tick that is not made
+pub look-runs : (ds : List ℕ) (n now : ℕ) (t : Option ℕ) (s : Machine) (f : Front) (v : LookView) → IsLook ds n (now - 1) now t s f v
+    → IsGoing ds n (now - 1) (now - 1) t s f v
+look-runs ds n now t s f v is = record {
+  machine = is.machine;
+  indicator = is.indicator;
+  ahead = is.ahead;
+  prepared = All-weaker (λ (level : Level). level.p < now) (λ level. level.p ≤ now - 1) (λ level h. omega (arith, h)) v.levels.ring is.prepared;
+  not_done = is.not_done;
+  oldest = is.oldest;
+  tight = is.tight;
+  start = omega (arith, is.start);
+  early = omega (arith, is.early);
+  next = next-sooner (is_open v) ds n now (now - 1) t s v (omega arith) is.next;
+  late = λ planned. omega (arith, is.late planned);
+  logged = is.logged;
 }
 
 pub going-look : (n : ℕ) (ds : List ℕ) (s : Machine) (t b : Option ℕ) (now : ℕ) (owed over fresh : Bool) (v : LookView)
@@ -450,6 +470,7 @@ go-inside n ds s t None now true false fresh v w is owes ends right due goes loo
         none_taken = λ e. absurd (cc e);
         quiet = λ e. (due, goes);
         unstarted = λ e f. absurd (omega (arith, f));
+        near = λ e. absurd (cc e);
       },
       same-fields ds n s s t None None _ _ (now + 1) false false None None refl refl front refl,
     )

@@ -16,7 +16,7 @@ use Rattle.st_levels.proofs.LevelLemmas.{length-ahead}
 use Rattle.st_ahead.specs.Overlap.{Overlap, seen, levels_of, last_tick}
 use Rattle.st_ahead.specs.Shown.{IsLevelOf, AreLevelsOf, index_of}
 use Rattle.st_ahead.specs.Look.{LookView, IsLook, count}
-use Rattle.st_ahead.specs.Inside.{standing, IsBetween, IsInside}
+use Rattle.st_ahead.specs.Inside.{answers_before, standing, IsBetween, IsInside}
 use Rattle.st_ahead.proofs.Openings.{opening-looks}
 use Rattle.st_ahead.proofs.Standing.{opened-front}
 
@@ -32,8 +32,8 @@ look-inside n ds s t b now owed true fresh v is m =
     let between : IsBetween now t s v = is.looking in
     let later : now + 1 ≤ v.front.c = between.later in
     let tick = last_tick (standing n ds s t b now owed true fresh v) in
-    let look = opening-looks ds n tick now v.front.c t s v.port.bus.banks v between.opened m is.indicator between.banks (omega (arith, later)) between.soon in
-    subst (λ (f : Front). IsLook ds n tick now t s f v) (sym (opened-front t s (opening v.port.bus.banks v.front.c) v between.opened)) look
+    let look = opening-looks ds n tick now v.front.c t s (answers_before now v) v between.opened m is.indicator between.banks (omega (arith, later)) between.soon in
+    subst (λ (f : Front). IsLook ds n tick now t s f v) (sym (opened-front t s (opening (answers_before now v) v.front.c) v between.opened)) look
 
 pub soon-last : (owed : Bool) (now : ℕ) → now ≤ (if owed then now else now - 1) + 1
 soon-last true now = omega arith

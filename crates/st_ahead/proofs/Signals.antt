@@ -1,6 +1,7 @@
 -- What a machine keeps when a signal comes, or an order takes effect.
 use Rattle.std.specs.Prelude.{IsSome, is_none, if◌then◌else◌}
 use Rattle.std.proofs.Common.{◌≡◌, ◌⊎◌, inl, inr, ℕ, ◌-◌, Bool, true, false, List, Option, None, Some, refl, sym, subst, ◌∙◌, arith}
+use Rattle.st_banks.specs.declared.answers.LastAnswers.{LastAnswers}
 use Rattle.st_state.specs.Machine.{Machine, IsMachine}
 use Rattle.st_state.specs.Interrupts.{pending}
 use Rattle.st_prep.specs.BesideOrders.{AreAlikeBesideOrders}
@@ -9,7 +10,7 @@ use Rattle.st_rows.specs.declared.front.Front.{Front}
 use Rattle.st_levels.specs.Levels.{oldest_front, AreNotDone}
 use Rattle.st_ahead.specs.Overlap.{seen, with_counter}
 use Rattle.st_ahead.specs.Look.{LookView, IsLook}
-use Rattle.st_ahead.specs.Inside.{standing, IsBetween, IsInside}
+use Rattle.st_ahead.specs.Inside.{answers_before, standing, IsBetween, IsInside}
 use Rattle.st_ahead.proofs.SameLook.{opened-same}
 use Rattle.st_ahead.proofs.Standing.{off-if, off-and}
 
@@ -72,6 +73,7 @@ before-first n ds s u None None now false false v is start m alike on =
       none_taken = λ e. refl;
       quiet = λ e. (off-if u.enabled (pending u) enabled, off-and u.waiting (is_none (pending u)) waiting);
       unstarted = λ e g. record { enabled = enabled; waiting = waiting; table = refl; start = un.start };
+      near = λ e. absurd (cc e);
     }
 
 behind-done : (n : ℕ) (ds : List ℕ) (s u : Machine) (t b : Option ℕ) (now : ℕ) (over fresh : Bool) (v : LookView)
@@ -86,7 +88,7 @@ behind-done n ds s u None b now true true v is done m alike on =
       some = is.some;
       few = is.few;
       looking = record {
-        opened = opened-same None s u (opening v.port.bus.banks v.front.c) v between.opened alike;
+        opened = opened-same None s u (opening (answers_before now v) v.front.c) v between.opened alike;
         banks = between.banks;
         later = between.later;
         soon = between.soon;
@@ -100,6 +102,7 @@ behind-done n ds s u None b now true true v is done m alike on =
       none_taken = λ e. refl;
       quiet = λ e. absurd (cc e);
       unstarted = λ e. absurd (cc e);
+      near = λ e. is.near refl;
     }
 behind-done n ds s u None b now false true v is done m alike on =
     let f = oldest_front v.levels.plans v.front in
@@ -119,11 +122,12 @@ behind-done n ds s u None b now false true v is done m alike on =
       none_taken = λ e. refl;
       quiet = λ e. absurd (cc e);
       unstarted = λ e. absurd (cc e);
+      near = λ e. is.near refl;
     }
 
-done-fresh : (fresh : Bool) (v : LookView) → IsSome (if fresh then Some v.port.bus.banks else None) → fresh ≡ true
-done-fresh true v some = refl
-done-fresh false v some = absurd (cc some)
+done-fresh : (fresh : Bool) (banks : LastAnswers) → IsSome (if fresh then Some banks else None) → fresh ≡ true
+done-fresh true banks some = refl
+done-fresh false banks some = absurd (cc some)
 
 pub signal-inside : (n : ℕ) (ds : List ℕ) (s u : Machine) (t b : Option ℕ) (now : ℕ) (owed over fresh : Bool) (v : LookView)
     → IsInside (standing n ds s t b now owed over fresh v) fresh v
@@ -132,5 +136,5 @@ pub signal-inside : (n : ℕ) (ds : List ℕ) (s u : Machine) (t b : Option ℕ)
     → IsInside (standing n ds u t b now owed over fresh v) fresh v
 signal-inside n ds s u t b now false over fresh v is (inl turn) m alike on = before-first n ds s u t b now over fresh v is turn.1 m alike on
 signal-inside n ds s u t b now true over fresh v is (inl turn) m alike on = absurd (cc turn.0)
-signal-inside n ds s u t b now true over fresh v is (inr turn) m alike on = behind-done n ds s u t b now over fresh v is (done-fresh fresh v turn.1) m alike on
+signal-inside n ds s u t b now true over fresh v is (inr turn) m alike on = behind-done n ds s u t b now over fresh v is (done-fresh fresh (answers_before now v) turn.1) m alike on
 signal-inside n ds s u t b now false over fresh v is (inr turn) m alike on = absurd (cc turn.0)

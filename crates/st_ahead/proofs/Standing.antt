@@ -16,7 +16,7 @@ use Rattle.st_rows.specs.declared.front.Front.{Front}
 use Rattle.st_segment.specs.Entries.{entry}
 use Rattle.st_segment.specs.Ahead.{ahead, reads_before}
 use Rattle.st_rows.specs.Asked.{asked, made_before}
-use Rattle.st_rows.specs.declared.bus.Bus.{Bus}
+use Rattle.st_rows.specs.Notes.{undone}
 use Rattle.st_ahead.specs.declared.events.Row.{Row}
 use Rattle.st_levels.specs.Levels.{oldest_front}
 use Rattle.st_levels.specs.declared.levels.Completed.{Completed}
@@ -26,7 +26,7 @@ use Rattle.st_ahead.specs.Overlap.{Overlap, started, seen, with_counter, oldest_
 use Rattle.st_ahead.specs.Calls.{is_done, row_done, completed, ticked, ended}
 use Rattle.st_ahead.specs.Look.{LookView, IsLook, IsOpened}
 use Rattle.st_ahead.specs.Ticked.{IsPassedBy, IsDoneAt}
-use Rattle.st_ahead.specs.Inside.{standing, IsInside}
+use Rattle.st_ahead.specs.Inside.{standing, answers_before, IsInside}
 use Rattle.st_ahead.proofs.Openings.{opening-looks}
 
 -- ---- tests
@@ -76,9 +76,19 @@ told number address p r c = record { number = number; address = address; p = p; 
 pub opened-front : (t : Option ℕ) (s : Machine) (f : Front) (v : LookView) → IsOpened t s f v → oldest_front v.levels.plans v.front ≡ f
 opened-front t s f v is = subst (λ (plans : List Plan). oldest_front plans v.front ≡ f) (sym is.plans) is.front
 
-after-c : (ds : List ℕ) (n : ℕ) (f : Front) (e : Entry) → (after ds n f e).c ≡ (row ds n f e).c
+pub after-c : (ds : List ℕ) (n : ℕ) (f : Front) (e : Entry) → (after ds n f e).c ≡ (row ds n f e).c
 unfolding row after
 after-c ds n f e = refl
+
+-- the answers of the banks by the log and the bus
+pub answers-same : (now : ℕ) (v w : LookView) → w.log ≡ v.log → w.next.words ≡ v.next.words → answers_before now w ≡ answers_before now v
+answers-same now v w log words = rw (log, words) refl
+
+-- at an opening nothing is to be taken back
+pub opened-answers : (now : ℕ) (t : Option ℕ) (s : Machine) (banks : LastAnswers) (start : ℕ) (v : LookView) → IsOpened t s (opening banks start) v
+    → answers_before now v ≡ banks
+unfolding undone
+opened-answers now t s banks start v is = rw (is.log, is.words) refl
 
 -- ---- before the first tick
 
@@ -103,6 +113,7 @@ started-inside n ds s v some few m enabled waiting is =
         none_taken = λ e. refl;
         quiet = λ e. (off-if s.enabled (pending s) enabled, off-and s.waiting (is_none (pending s)) waiting);
         unstarted = λ e f. record { enabled = enabled; waiting = waiting; table = refl; start = ap (λ (g : Front). g.c) front };
+        near = λ e. absurd (cc e);
       },
       same-fields ds n s s None None None _ _ 0 false false None None refl refl front refl,
     )
@@ -168,6 +179,7 @@ passed-calm n ds s u t now v w is early by front =
           subst (λ (x : Machine). rests x ≡ false) (sym by.state) quiet.1,
         );
         unstarted = λ e. absurd (cc e);
+        near = λ e. absurd (cc e);
       },
       late,
       same-fields ds n u s t None None _ f now true false None None by.state refl front refl ∙ sym (left_over _ _ _ late),
@@ -199,17 +211,18 @@ pub done-calm : (n : ℕ) (ds : List ℕ) (s u : Machine) (t : Option ℕ) (now 
     → IsInside (standing n ds s t None now false false false v) false v → now < 2 ^ 63
     → IsDoneAt ds n now t s (oldest_front v.levels.plans v.front) v u w done
     → oldest_front w.levels.plans w.front ≡ after ds n (oldest_front v.levels.plans v.front) (entry t s)
-    → banks_at_its_end (standing n ds s t None now false false false v) ≡ v.port.bus.banks
+    → banks_at_its_end (standing n ds s t None now false false false v) ≡ answers_before now v
+    → All (λ b. b ≤ now + 255) (answers_before now v).ticks
     → with_counter done.missed u ≡ guess t s
     → IsInside (standing n ds u None done.missed now true false true w) true w
     × (is_done (standing n ds s t None now false false false v) ≡ true)
     × (standing n ds u None done.missed now true false true w ≡ ticked (standing n ds s t None now false false false v))
 unfolding seen oldest_row ticked completed
-done-calm n ds s u t now v w done is early by front banks guessed =
+done-calm n ds s u t now v w done is early by front banks near guessed =
     let f = oldest_front v.levels.plans v.front in
     let due : is_done (standing n ds s t None now false false false v) ≡ true = eq-eqb (row ds n f (entry t s)).c now by.due in
-    let left : Some w.port.bus.banks ≡ Some (banks_at_its_end (standing n ds s t None now false false false v)) =
-    ap (λ port. Some port.bus.banks) by.port ∙ ap Some (sym banks) in (
+    let same : answers_before now w ≡ answers_before now v = answers-same now v w by.log by.bus in
+    let left : Some (answers_before now w) ≡ Some (banks_at_its_end (standing n ds s t None now false false false v)) = ap Some (same ∙ sym banks) in (
       record {
         some = is.some;
         few = is.few;
@@ -225,6 +238,7 @@ done-calm n ds s u t now v w done is early by front banks guessed =
         none_taken = λ e. refl;
         quiet = λ e. absurd (cc e);
         unstarted = λ e. absurd (cc e);
+        near = λ e. subst (λ (x : LastAnswers). All (λ b. b ≤ now + 255) x.ticks) (sym same) near;
       },
       due,
       same-fields ds n u (executed t s) None done.missed _ _ (after ds n f (entry t s)) now true false _ _ by.state by.told.missed front left
@@ -235,20 +249,21 @@ pub done-tick : (n : ℕ) (ds : List ℕ) (s u : Machine) (t b : Option ℕ) (no
     → IsInside (standing n ds s t b now owed ended fresh v) fresh v → owed ≡ false → now < 2 ^ 63
     → IsDoneAt ds n now t s (oldest_front v.levels.plans v.front) v u w done
     → oldest_front w.levels.plans w.front ≡ after ds n (oldest_front v.levels.plans v.front) (entry t s)
-    → banks_at_its_end (standing n ds s t None now false false false v) ≡ v.port.bus.banks
+    → banks_at_its_end (standing n ds s t None now false false false v) ≡ answers_before now v
+    → All (λ b. b ≤ now + 255) (answers_before now v).ticks
     → with_counter done.missed u ≡ guess t s
     → IsInside (standing n ds u None done.missed now true ended true w) true w
     × (is_done (standing n ds s t b now owed ended fresh v) ≡ true)
     × (standing n ds u None done.missed now true ended true w ≡ ticked (standing n ds s t b now owed ended fresh v))
-done-tick n ds s u t b now true ended fresh v w done is e early by front banks guessed = absurd (cc e)
-done-tick n ds s u t b now false true fresh v w done is e early by front banks guessed = absurd (cc (is.ended_owed refl))
-done-tick n ds s u t b now false false true v w done is e early by front banks guessed = absurd (cc (is.fresh_owed refl))
-done-tick n ds s u t (Some h) now false false false v w done is e early by front banks guessed = absurd (cc (is.behind_fresh refl))
-done-tick n ds s u t None now false false false v w done is e early by front banks guessed = done-calm n ds s u t now v w done is early by front banks guessed
+done-tick n ds s u t b now true ended fresh v w done is e early by front banks near guessed = absurd (cc e)
+done-tick n ds s u t b now false true fresh v w done is e early by front banks near guessed = absurd (cc (is.ended_owed refl))
+done-tick n ds s u t b now false false true v w done is e early by front banks near guessed = absurd (cc (is.fresh_owed refl))
+done-tick n ds s u t (Some h) now false false false v w done is e early by front banks near guessed = absurd (cc (is.behind_fresh refl))
+done-tick n ds s u t None now false false false v w done is e early by front banks near guessed = done-calm n ds s u t now v w done is early by front banks near guessed
 
 -- ---- what is told of an entry that is done
 
-same-row : (number address p r c number' address' p' r' : ℕ) → number ≡ number' → address ≡ address' → p ≡ p' → r ≡ r'
+pub same-row : (number address p r c number' address' p' r' : ℕ) → number ≡ number' → address ≡ address' → p ≡ p' → r ≡ r'
     → told number address p r c ≡ told number' address' p' r' c
 same-row number address p r c number' address' p' r' a b d e = rw (a, b, d, e) refl
 
@@ -271,12 +286,19 @@ row-tick n ds s u t None now false false false v w done is e by number = row-cal
 
 -- ---- the banks
 
+pub same-answers : (x y : LastAnswers) → x.ticks ≡ y.ticks → x ≡ y
+same-answers x y h = ap (λ (ticks : List ℕ). from-ticks ticks) h
+  where
+    from-ticks : List ℕ → LastAnswers
+    from-ticks ticks = record { ticks = ticks }
+
 pub banks-at : (n : ℕ) (ds : List ℕ) (s : Machine) (t : Option ℕ) (now : ℕ) (v : LookView)
     → (let f = oldest_front v.levels.plans v.front in
-    made_before ds now (asked ds n f (entry t s) ++ reads_before ds n now (ahead ds n (suc n) None (guess t s) (after ds n f (entry t s)))) f.bus ≡ v.port.bus)
-    → banks_at_its_end (standing n ds s t None now false false false v) ≡ v.port.bus.banks
+    (made_before ds now (asked ds n f (entry t s) ++ reads_before ds n now (ahead ds n (suc n) None (guess t s) (after ds n f (entry t s)))) f.bus).banks.ticks
+    ≡ (answers_before now v).ticks)
+    → banks_at_its_end (standing n ds s t None now false false false v) ≡ answers_before now v
 unfolding seen banks_at_its_end
-banks-at n ds s t now v h = ap (λ (bus : Bus). bus.banks) h
+banks-at n ds s t now v h = same-answers _ _ h
 
 pub some-due : (k : ℕ) → (k ≡ 0 → ⊥) → 1 ≤ k
 some-due zero f = absurd (f refl)

@@ -1,20 +1,19 @@
 -- What runs ahead while a machine goes on by one tick, between its steps.
-use Rattle.std.specs.Prelude.{ℕ, ◌≡◌, ◌+◌, ◌*◌, ◌^◌, ◌≤◌, ◌<◌, max, true, ◌++◌, List, [], length, All, Option, IfSome}
+use Rattle.std.specs.Prelude.{ℕ, ◌≡◌, ◌+◌, ◌-◌, ◌*◌, ◌^◌, ◌≤◌, ◌<◌, true, List, length, All, Option, None, Some, IfSome}
 use Rattle.st_state.specs.Machine.{Machine, IsMachine}
-use Rattle.st_rows.specs.Ranges.{IsEntry, IsTight, IsNear}
-use Rattle.st_rows.specs.Rows.{tick_a, bus_a, tick_p}
+use Rattle.st_rows.specs.Notes.{IsLogged}
+use Rattle.st_rows.specs.Ranges.{IsEntry, IsTight}
+use Rattle.st_rows.specs.Rows.{row, tick_a, bus_a, tick_p}
 use Rattle.st_rows.specs.declared.front.Front.{Front}
 use Rattle.st_segment.specs.Entries.{entry}
 use Rattle.st_segment.specs.Guesses.{guesses, table_behind}
 use Rattle.st_segment.specs.Alone.{RunAhead}
-use Rattle.st_way.specs.Way.{IsOnTheWay}
 use Rattle.st_levels.specs.Levels.{AreAhead, AreNotDone}
 use Rattle.st_next.specs.Known.{IsBefore}
-use Rattle.st_next.specs.Going.{known_count}
-use Rattle.st_next.specs.Progress.{IsNext, reads_so_far}
-use Rattle.st_ahead.specs.Look.{LookView, IsNextIf, asked_ahead, is_open, count}
+use Rattle.st_next.specs.Progress.{IsNext}
+use Rattle.st_ahead.specs.Look.{LookView, IsOutlook, IsNextIf, reads_ahead, is_open, count}
 
--- levels may be prepared at this tick already, and nothing more of the next entry can be known before the tick `rest`, this one or the next
+-- up to the tick `now` entries are prepared and done, and nothing more of the next one can be known before the tick `rest`
 pub record IsGoing (ds : List ℕ) (n now rest : ℕ) (t : Option ℕ) (s : Machine) (f : Front) (v : LookView) : Type 0 where
   pub machine : IsMachine s
   pub indicator : IfSome t (λ i. i < 64)
@@ -23,14 +22,11 @@ pub record IsGoing (ds : List ℕ) (n now rest : ℕ) (t : Option ℕ) (s : Mach
   pub not_done : AreNotDone now v.levels
   pub oldest : IsTight 255 f
   pub tight : IsTight 255 v.front
-  pub start : f.c ≤ now + 9
-  pub early : v.front.c ≤ now + 9 + 16576 * count v
+  pub start : f.c ≤ now + 10
+  pub early : v.front.c ≤ now + 10 + 16576 * count v
   pub next : IsNextIf (is_open v) ds n rest t s v
   pub late : v.next.planned ≡ true → now ≤ v.next.formed.p
-  pub way : IsOnTheWay ds now (asked_ahead ds n (count v) t s f ++ reads_so_far ds v.front v.next) f.bus v.port
-  pub room : length v.port.reads + 5 ≤ 40 + known_count v.next
-  pub near : IsNear 255 v.port.bus
-  pub free : v.port.bus.free ≤ max now f.c
+  pub logged : IsLogged ds f.bus.free (reads_ahead ds n t s f v) f.bus v.log
 
 -- there is such a front, and t
 pub record Goes (ds : List ℕ) (n now rest : ℕ) (s : Machine) (v : LookView) : Type 0 where
@@ -38,8 +34,39 @@ pub record Goes (ds : List ℕ) (n now rest : ℕ) (s : Machine) (v : LookView) 
   pub front : Front
   pub going : IsGoing ds n now rest table s front v
 
--- the next entry becomes a level at this tick, its P: no level is done alone, there is room for one more, and all reads up to its operands are
--- made; where it is done alone, all entries before it are done
+-- it goes on so from some tick, `since` at the earliest and `last` at the latest
+pub record GoesUpTo (ds : List ℕ) (n since last : ℕ) (t : Option ℕ) (s : Machine) (f : Front) (v : LookView) : Type 0 where
+  pub tick : ℕ
+  pub going : IsGoing ds n tick tick t s f v
+  pub behind : since ≤ tick
+  pub soon : tick ≤ last
+
+-- there is such a front, and t
+pub record Reaches (ds : List ℕ) (n last : ℕ) (s : Machine) (v : LookView) : Type 0 where
+  pub table : Option ℕ
+  pub front : Front
+  pub since : ℕ
+  pub goes : GoesUpTo ds n since last table s front v
+
+-- the next entry is not prepared before the tick `due` and up to the tick `last`, as far as it is planned
+abbrev pub WaitsFor : ℕ → ℕ → LookView → Type 0
+WaitsFor due last v = v.next.planned ≡ true → v.next.formed.p < due → v.next.formed.p ≤ last → ⊥
+
+-- the oldest entry is done at the tick `due`, behind the tick `since` and `last` at the latest, and all ticks before it are made
+pub record IsDueAt (ds : List ℕ) (n since last due : ℕ) (t : Option ℕ) (s : Machine) (f : Front) (v : LookView) : Type 0 where
+  pub later : since < due
+  pub soon : due ≤ last
+  pub some : 1 ≤ count v
+  pub row_is : (row ds n f (entry t s)).c ≡ due
+  pub look : IsOutlook ds n (due - 1) due t s f v
+
+-- what runs ahead goes on up to the completion of the oldest entry, or up to the tick `last`
+abbrev pub HasGone : List ℕ → ℕ → ℕ → ℕ → Option ℕ → Machine → Front → LookView → Option ℕ → Type 0
+HasGone ds n since last t s f v (Some due) = IsDueAt ds n since last due t s f v
+HasGone ds n since last t s f v None = IsOutlook ds n last (last + 1) t s f v
+
+-- the next entry becomes a level at this tick, its P: no level is done alone, and there is room for one more; where it is done alone, all entries before it
+-- are done
 pub record BecomesLevel (ds : List ℕ) (n now : ℕ) (t : Option ℕ) (s : Machine) (f : Front) (v : LookView) : Type 0 where
   pub run : RunAhead (count v) t s
   pub before : IsBefore now v.front.past v.levels.x s (guesses (count v) t s)
@@ -53,4 +80,3 @@ pub record BecomesLevel (ds : List ℕ) (n now : ℕ) (t : Option ℕ) (s : Mach
   pub alone : v.next.entry.serial ≡ true → guesses (count v) t s ≡ s
   pub room : count v < n
   pub early : v.front.c ≤ 2 ^ 63 + 2 ^ 18
-  pub made : v.port.reads ≡ []

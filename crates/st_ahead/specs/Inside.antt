@@ -1,7 +1,9 @@
 -- What a machine keeps, so that it stands for what it does.
 use Rattle.std.specs.Prelude.{ℕ, ◌≡◌, ◌+◌, ◌<◌, ◌≤◌, ◌^◌, Bool, true, false, if◌then◌else◌, zero, suc, nat_le, All, List, [], ◌∷◌, Option, None, Some, IfSome, option_map}
 use Rattle.st_state.specs.Machine.{Machine}
+use Rattle.st_banks.specs.declared.answers.LastAnswers.{LastAnswers}
 use Rattle.st_exec.specs.Step.{rests}
+use Rattle.st_rows.specs.Notes.{undone}
 use Rattle.st_rows.specs.Rows.{opening}
 use Rattle.st_ring.specs.declared.level.Level.{Level}
 use Rattle.st_levels.specs.Levels.{oldest_front}
@@ -10,6 +12,10 @@ use Rattle.st_ahead.specs.Overlap.{Overlap, seen, interrupt_due, last_tick}
 use Rattle.st_ahead.specs.Look.{LookView, IsLook, IsOpened}
 use Rattle.st_ahead.specs.Shown.{kept_by}
 use Rattle.st_ahead.specs.declared.events.LevelView.{LevelView}
+
+-- the last answers of the banks by the reads that are accepted before the tick
+abbrev pub answers_before : ℕ → LookView → LastAnswers
+answers_before now v = record { ticks = undone now v.log v.next.words.bus.banks.ticks }
 
 -- what it stands for, by what it keeps; `fresh` says whether an entry was done at this tick
 abbrev pub standing : ℕ → List ℕ → Machine → Option ℕ → Option ℕ → ℕ → Bool → Bool → Bool → LookView → Overlap
@@ -23,13 +29,13 @@ standing n delays state taken behind now owed ended fresh v = record {
   now = now;
   owed = owed;
   ended = ended;
-  closing = if fresh then Some v.port.bus.banks else None;
+  closing = if fresh then Some (answers_before now v) else None;
 }
 
 -- the segment has ended at the tick `now`, and v is what the next one opens with
 pub record IsBetween (now : ℕ) (t : Option ℕ) (s : Machine) (v : LookView) : Type 0 where
-  pub opened : IsOpened t s (opening v.port.bus.banks v.front.c) v
-  pub banks : All (λ b. b ≤ v.front.c + 255) v.port.bus.banks.ticks
+  pub opened : IsOpened t s (opening (answers_before now v) v.front.c) v
+  pub banks : All (λ b. b ≤ v.front.c + 255) (answers_before now v).ticks
   pub later : now + 1 ≤ v.front.c
   pub soon : v.front.c ≤ now + 9
 
@@ -64,6 +70,7 @@ pub record IsInside (m : Overlap) (fresh : Bool) (v : LookView) : Type 0 where
   pub none_taken : fresh ≡ true → m.taken ≡ None
   pub quiet : fresh ≡ false → (interrupt_due m ≡ None) × (rests m.state ≡ false)
   pub unstarted : m.owed ≡ false → m.now ≡ 0 → IsUnstarted m
+  pub near : fresh ≡ true → All (λ b. b ≤ m.now + 255) (answers_before m.now v).ticks
 
 -- a level as it is shown at a tick, by what is kept of it
 abbrev pub kept_shown : ℕ → Level → Plan → LevelView

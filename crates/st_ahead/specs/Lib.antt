@@ -5,4 +5,5 @@ pub mod Look
 pub mod Ticked
 pub mod Inside
 pub mod Going
-pub mod Idle
+pub mod RunTo
+pub mod Running

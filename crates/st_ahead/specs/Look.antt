@@ -1,18 +1,17 @@
--- What a machine keeps of what runs ahead: its levels, the front behind them, the reads, and the entry that is prepared next.
-use Rattle.std.specs.Prelude.{ℕ, zero, suc, ◌≡◌, ◌+◌, ◌*◌, ◌≤◌, ◌<◌, max, Bool, true, false, not, ◌||◌, ◌==◌, List, [], ◌++◌, length, All, Option, None, IfSome}
+-- What a machine keeps of what runs ahead: its levels, the front behind them, the log of reads, and the entry that is prepared next.
+use Rattle.std.specs.Prelude.{ℕ, zero, suc, ◌≡◌, ◌+◌, ◌*◌, ◌≤◌, ◌<◌, Bool, true, false, not, ◌||◌, ◌==◌, List, [], ◌++◌, length, All, Option, None, IfSome}
 use Rattle.st_state.specs.Machine.{Machine, IsMachine}
 use Rattle.st_prep.specs.Fetch.{index_words, place_of}
 use Rattle.st_exec.specs.Completion.{guess}
 use Rattle.st_rows.specs.Rows.{after}
-use Rattle.st_rows.specs.Ranges.{IsTight, IsNear}
+use Rattle.st_rows.specs.Notes.{IsLogged}
+use Rattle.st_rows.specs.Ranges.{IsTight}
 use Rattle.st_rows.specs.Asked.{Read, asked}
 use Rattle.st_rows.specs.declared.front.Front.{Front}
+use Rattle.st_rows.specs.declared.log.Made.{Made}
 use Rattle.st_segment.specs.Entries.{entry}
 use Rattle.st_segment.specs.Guesses.{guesses, table_behind}
-use Rattle.st_port.specs.Making.{PortView}
-use Rattle.st_way.specs.Way.{IsOnTheWay}
 use Rattle.st_levels.specs.Levels.{LevelsView, AreAhead, AreFull, AreNotDone}
-use Rattle.st_next.specs.Going.{known_count}
 use Rattle.st_next.specs.Progress.{IsNext, Rests, reads_so_far}
 use Rattle.st_next.specs.declared.next.Next.{Next}
 
@@ -20,7 +19,7 @@ use Rattle.st_next.specs.declared.next.Next.{Next}
 pub record LookView : Type 0 where
   pub levels : LevelsView
   pub front : Front
-  pub port : PortView
+  pub log : List Made
   pub next : Next
 
 -- the reads of the next k entries
@@ -46,8 +45,27 @@ IsNextIf false ds n now t s v =
     (v.next.planned ≡ false) × (v.next.own ≡ record { first = 0; len = 0 }) × (v.next.target ≡ record { first = 0; len = 0 })
     × (v.next.words ≡ record { bus = v.front.bus; answered = 0; awaited = 0 })
 
+-- the reads that are made behind the front f: those of the levels, and those that are asked for the next entry so far
+abbrev pub reads_ahead : List ℕ → ℕ → Option ℕ → Machine → Front → LookView → List Read
+reads_ahead ds n t s f v = asked_ahead ds n (count v) t s f ++ reads_so_far ds v.front v.next
+
 -- What runs ahead of the state s, behind the front f of the oldest entry that is not done; t says whether that is a table instruction. Entries that
--- are prepared before `now` are levels, and those are not done at `tick` or before it; their slots are filled up to `tick`.
+-- are prepared before `now` are levels, and those are not done at `tick` or before it; no operand word stands in a slot that comes behind `tick`.
+pub record IsOutlook (ds : List ℕ) (n tick now : ℕ) (t : Option ℕ) (s : Machine) (f : Front) (v : LookView) : Type 0 where
+  pub machine : IsMachine s
+  pub indicator : IfSome t (λ i. i < 64)
+  pub ahead : AreAhead ds n tick t s f v.front v.levels
+  pub prepared : All (λ level. level.p < now) v.levels.ring
+  pub not_done : AreNotDone tick v.levels
+  pub oldest : IsTight 255 f
+  pub tight : IsTight 255 v.front
+  pub start : f.c ≤ now + 9
+  pub early : v.front.c ≤ now + 9 + 16576 * count v
+  pub next : IsNextIf (is_open v) ds n now t s v
+  pub late : v.next.planned ≡ true → now ≤ v.next.formed.p
+  pub logged : IsLogged ds f.bus.free (reads_ahead ds n t s f v) f.bus v.log
+
+-- The same with the slots of levels filled up to `tick`.
 pub record IsLook (ds : List ℕ) (n tick now : ℕ) (t : Option ℕ) (s : Machine) (f : Front) (v : LookView) : Type 0 where
   pub machine : IsMachine s
   pub indicator : IfSome t (λ i. i < 64)
@@ -61,17 +79,7 @@ pub record IsLook (ds : List ℕ) (n tick now : ℕ) (t : Option ℕ) (s : Machi
   pub early : v.front.c ≤ now + 9 + 16576 * count v
   pub next : IsNextIf (is_open v) ds n now t s v
   pub late : v.next.planned ≡ true → now ≤ v.next.formed.p
-  pub way : IsOnTheWay ds now (asked_ahead ds n (count v) t s f ++ reads_so_far ds v.front v.next) f.bus v.port
-  pub room : length v.port.reads + 5 ≤ 40 + known_count v.next
-  pub near : IsNear 255 v.port.bus
-  pub free : v.port.bus.free ≤ max now f.c
-
--- there is such a state and such a front
-pub record Looks (ds : List ℕ) (n tick now : ℕ) (v : LookView) : Type 0 where
-  pub table : Option ℕ
-  pub state : Machine
-  pub front : Front
-  pub look : IsLook ds n tick now table state front v
+  pub logged : IsLogged ds f.bus.free (reads_ahead ds n t s f v) f.bus v.log
 
 -- nothing runs ahead yet, at the opening of a segment
 pub record IsOpened (t : Option ℕ) (s : Machine) (f : Front) (v : LookView) : Type 0 where
@@ -79,7 +87,7 @@ pub record IsOpened (t : Option ℕ) (s : Machine) (f : Front) (v : LookView) : 
   pub plans : v.levels.plans ≡ []
   pub index : v.levels.x ≡ index_words s
   pub front : v.front ≡ f
-  pub port : v.port ≡ record { bus = f.bus; reads = [] }
+  pub log : v.log ≡ []
   pub place : v.next.place ≡ place_of s t
   pub own : v.next.own ≡ record { first = 0; len = 0 }
   pub target : v.next.target ≡ record { first = 0; len = 0 }

@@ -14,7 +14,6 @@ pub record IsPassedBy (ds : List ℕ) (n now : ℕ) (t : Option ℕ) (s : Machin
   pub state : u ≡ s
   pub later : (row ds n f (entry t s)).c ≢ now
   pub look : IsLook ds n now now t s f w
-  pub port : w.port ≡ v.port
 
 -- the oldest entry is done at it: u is the state after its step, and w runs ahead of the guess of that
 pub record IsDoneAt (ds : List ℕ) (n now : ℕ) (t : Option ℕ) (s : Machine) (f : Front) (v : LookView) (u : Machine) (w : LookView) (done : Completed) : Type 0 where
@@ -22,7 +21,8 @@ pub record IsDoneAt (ds : List ℕ) (n now : ℕ) (t : Option ℕ) (s : Machine)
   pub told : IsCompleted ds n t s f done
   pub state : u ≡ executed t s
   pub look : IsLook ds n now now None (guess t s) (after ds n f (entry t s)) w
-  pub port : w.port ≡ v.port
+  pub log : w.log ≡ v.log
+  pub bus : w.next.words ≡ v.next.words
 
 -- by what is told of it
 abbrev pub IsTicked : List ℕ → ℕ → ℕ → Option ℕ → Machine → Front → LookView → Machine → LookView → Option Completed → Type 0

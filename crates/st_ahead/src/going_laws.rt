@@ -26,8 +26,8 @@ pub fn open_levels_run_ahead()
 
 /// So the state before the next entry agrees with the one that stands in all that it is known by.
 pub fn next_entries_are_known()
-    ensures { (ds : List ℕ) (n now : ℕ) (t : Option ℕ) (s : Machine) (f : Front) (v : LookView) →
-        IsMachine s → IfSome t (λ i. i < 64) → AreAhead ds n now t s f v.front v.levels →
+    ensures { (ds : List ℕ) (n tick now : ℕ) (t : Option ℕ) (s : Machine) (f : Front) (v : LookView) →
+        IsMachine s → IfSome t (λ i. i < 64) → AreAhead ds n tick t s f v.front v.levels →
         AreNotDone now v.levels → count v ≤ 8 → RunAhead (count v) t s →
         IsBefore now v.front.past v.levels.x s (guesses (count v) t s) }
 {

@@ -7,8 +7,9 @@ mod going_laws;
 mod look;
 mod look_going;
 mod look_laws;
-mod look_rest;
+mod look_run;
 mod look_shape;
+mod look_steps;
 mod look_tick;
 mod machine;
 #[cfg(test)]

@@ -1,18 +1,17 @@
-//! What runs ahead of a state: levels, the front behind them, reads, and the entry that is prepared next.
+//! What runs ahead of a state: levels, the front behind them, a log of reads, and the entry that is prepared next.
 ghost use Rattle.std.specs.Prelude.{◌≡◌, ℕ, ◌+◌, ◌*◌, ◌<◌, ◌≤◌, ◌-◌, ◌^◌, length, true, false, Option, None, Some, IfSome, All, List};
 ghost use Rattle.st_state.specs.Machine.{Machine, IsMachine};
 ghost use Rattle.st_prep.specs.Fetch.{index_words as index_words_of};
-ghost use Rattle.st_rows.specs.Ranges.{IsNear};
+ghost use Rattle.st_rows.specs.Notes.{undone};
 ghost use Rattle.st_rows.specs.Rows.{opening};
 ghost use Rattle.st_rows.specs.declared.front.Front.{Front as FrontOf};
 ghost use Rattle.st_ahead.specs.Overlap.{idle_banks};
 
 use st_banks::{Delays, LastAnswers};
 use st_levels::{Completed, Levels};
-use st_next::{Next, Outlook};
-use st_port::Port;
+use st_next::Next;
 use st_prep::{Place, Prepared, index_words, place_of};
-use st_rows::Front;
+use st_rows::{Front, Log};
 use st_state::State;
 use std::marker::Model;
 
@@ -23,9 +22,9 @@ pub struct Look<const N: usize> {
     pub levels: Levels<N>,
     /// The front behind them.
     pub front: Front,
-    /// The reads that are made, and those that are asked for.
-    pub port: Port,
-    /// The entry that is prepared next.
+    /// The reads of the segment that may be taken back.
+    pub log: Log,
+    /// The entry that is prepared next. All reads are made on its bus.
     pub next: Next,
 }
 
@@ -34,11 +33,12 @@ impl<const N: usize> Model for Look<N> {
 
     ghost Value = { LookView };
 
-    ghost view = { λ look. record { levels = look.levels; front = look.front; port = look.port; next = look.next } };
+    ghost view = { λ look. record { levels = look.levels; front = look.front; log = look.log; next = look.next } };
 }
 
 impl<const N: usize> Look<N> {
     ghost use Rattle.st_ahead.specs.Look.{IsLook, IsOpened, count};
+    ghost use Rattle.st_ahead.specs.Inside.{answers_before};
 
     /// Nothing runs ahead yet in a segment that starts at the tick `start`, at most 2^64 - 1,024, where the banks have these last answers; `table` is
     /// the indicator whose interrupt was taken, if its table instruction comes first.
@@ -51,34 +51,35 @@ impl<const N: usize> Look<N> {
         ensures { IsOpened table state.now (opening banks start) result }
     {
         let front = Front::new(banks, start);
-        let next = Next::new(place_of(state, table), &front);
+        let next = Next::new(place_of(state, table), front.bus);
         Look {
             levels: Levels::new(index_words(state)),
             front,
-            port: Port::new(banks, start),
+            log: Log::new(),
             next,
         }
     }
 
     /// The segment ends at the tick `now`: nothing runs ahead any more, and the index words are those of the state. The next segment starts one
-    /// tick later, and one more for each level that is dropped; the banks keep their last answers. The result is the number of levels dropped.
+    /// tick later, and one more for each level that is dropped; the banks keep their last answers by the reads that are accepted before `now`, and the
+    /// others are taken back. The result is the number of levels dropped.
     pub fn end(&mut self, state: &State, table: Option<u8>, now: u64) -> u8
         requires indicator { IfSome table (λ i. i < 64) }
         requires early { now ≤ 2 ^ 64 - 2048 }
-        requires free { self.old.port.bus.free ≤ now }
-        requires near { IsNear 255 self.old.port.bus }
+        requires near { All (λ b. b ≤ now + 255) (answers_before now self.old).ticks }
         ensures dropped { result ≡ count self.old }
-        ensures banks { All (λ b. b ≤ now + 1 + count self.old + 255) self.old.port.bus.banks.ticks }
+        ensures banks { All (λ b. b ≤ now + 1 + count self.old + 255) (answers_before now self.old).ticks }
         ensures opened { (ds : List ℕ) (tick : ℕ) (t : Option ℕ) (s : Machine) (f : FrontOf) →
             IsLook ds N tick now t s f self.old → index_words_of s ≡ index_words_of state.now →
-            IsOpened table state.now (opening self.old.port.bus.banks (now + 1 + count self.old)) self.new }
+            IsOpened table state.now (opening (answers_before now self.old) (now + 1 + count self.old)) self.new }
     {
-        let banks = self.port.bus().banks;
+        let mut banks = self.next.words.bus.banks;
+        self.log.undo(&mut banks, now);
         let dropped = self.levels.undo();
         let start = now + 1 + u64::from(dropped);
         self.front = Front::new(banks, start);
-        self.port = Port::new(banks, start);
-        self.next = Next::new(place_of(state, table), &self.front);
+        self.log.clear();
+        self.next = Next::new(place_of(state, table), self.front.bus);
         dropped
     }
 
@@ -96,8 +97,8 @@ impl<const N: usize> Look<N> {
         let start = now + 1 + u64::from(count);
         let banks = LastAnswers::new();
         self.front = Front::new(banks, start);
-        self.port = Port::new(banks, start);
-        self.next = Next::new(place_of(state, table), &self.front);
+        self.log.clear();
+        self.next = Next::new(place_of(state, table), self.front.bus);
         count
     }
 }

@@ -1,114 +1,108 @@
-//! What runs ahead goes on by one tick: the next entry is known further, becomes a level when it is prepared, and a read is made.
-ghost use Rattle.std.specs.Prelude.{◌≡◌, ℕ, ◌+◌, ◌<◌, ◌≤◌, ◌^◌, true, false, Option, None, List, [], ◌++◌, length};
-ghost use Rattle.st_rows.specs.Ranges.{IsEntry, AreDelays};
-ghost use Rattle.st_next.specs.Progress.{wanted_next};
+//! What runs ahead goes on, from one entry that is prepared to the next one, up to a completion.
+ghost use Rattle.std.specs.Prelude.{◌≡◌, ℕ, ◌+◌, ◌-◌, ◌<◌, ◌≤◌, ◌^◌, true, false, nat_le, if◌then◌else◌, Option, None, Some};
 ghost use Rattle.st_rows.specs.declared.front.Front.{Front as FrontOf};
-ghost use Rattle.st_port.specs.Parts.{runs_asked};
-ghost use Rattle.st_levels.specs.Levels.{AreFull};
+ghost use Rattle.st_levels.specs.Levels.{due_of};
 
 use crate::going_laws::{
     next_entries_are_known, open_levels_run_ahead, planned_entries_become_levels,
 };
 use crate::look::Look;
 use st_banks::Delays;
-use st_next::{Next, Outlook};
-use st_port::Port;
 use st_prep::{Place, Prepared};
-use st_rows::{Entry, LastEntries, completions_are_bounded, rows_are_in_order};
+use st_rows::{completions_are_bounded, rows_are_in_order};
 use st_segment::guesses_leave_the_rest;
 use st_state::State;
 
 impl<const N: usize> Look<N> {
-    ghost use Rattle.st_ahead.specs.Look.{IsLook};
-    ghost use Rattle.st_ahead.specs.Going.{IsGoing, Goes};
+    ghost use Rattle.st_ahead.specs.Look.{count};
+    ghost use Rattle.st_ahead.specs.Going.{IsGoing, Goes, GoesUpTo, Reaches, HasGone, WaitsFor};
 
-    // The next entry is known as far as the tick `now` allows.
+    // All that is prepared before the oldest level is done, and up to the tick `last`, below 2^63, becomes levels, whose slots are empty. The result is the
+    // tick at which the oldest one is done, if that is `last` at the latest; else nothing more happens up to `last`.
     #[inline(always)]
-    fn advance(&mut self, now: u64, state: &State, delays: &Delays)
+    pub(crate) fn go_to(&mut self, last: u64, state: &State, delays: &Delays) -> Option<u64>
         requires some { 1 ≤ N }
         requires few { N ≤ 8 }
-        requires early { now < 2 ^ 63 }
-        requires going { Goes delays.now N now now state.now self.old }
-        ensures going { (t : Option ℕ) (f : FrontOf) →
-            IsGoing delays.now N now now t state.now f self.old →
-            IsGoing delays.now N now (now + 1) t state.now f self.new }
-        ensures levels { self.new.levels ≡ self.old.levels }
-        ensures front { self.new.front ≡ self.old.front }
-        ensures later { self.old.next.planned ≡ false → self.new.next.planned ≡ true →
-            now < self.new.next.formed.p }
+        requires early { last < 2 ^ 63 }
+        requires going { Reaches delays.now N last state.now self.old }
+        ensures { (t : Option ℕ) (f : FrontOf) (since : ℕ) → GoesUpTo delays.now N since last t state.now f self.old →
+            HasGone delays.now N since last t state.now f self.new result }
     {
-        if self.next.planned {
-            return;
+        delays.shape();
+        'entries: loop {
+            let due = self.due();
+            self.plan_before(due, last, state, delays);
+            if !self.is_next_before(due, last) {
+                return stop_at(due, last);
+            }
+            let p = self.next_prepared();
+            self.push(p, state, delays);
+            self.shape();
         }
-        if !self.next.is_due(&self.front, now) {
-            return;
-        }
-        self.advance_now(now, state, delays);
     }
 
-    // The same where its next word is wanted by now.
+    // The tick at which the oldest level is done, 2^64 - 1 where there is none.
     #[inline(always)]
-    fn advance_now(&mut self, now: u64, state: &State, delays: &Delays)
-        requires some { 1 ≤ N }
-        requires few { N ≤ 8 }
-        requires early { now < 2 ^ 63 }
-        requires going { Goes delays.now N now now state.now self.old }
-        requires unplanned { self.old.next.planned ≡ false }
-        requires due { wanted_next self.old.front self.old.next ≤ now }
-        ensures going { (t : Option ℕ) (f : FrontOf) →
-            IsGoing delays.now N now now t state.now f self.old →
-            IsGoing delays.now N now (now + 1) t state.now f self.new }
-        ensures levels { self.new.levels ≡ self.old.levels }
-        ensures front { self.new.front ≡ self.old.front }
-        ensures later { self.old.next.planned ≡ false → self.new.next.planned ≡ true →
-            now < self.new.next.formed.p }
+    fn due(&self) -> u64
+        ensures { result ≡ due_of self.now.levels.plans }
     {
-        next_entries_are_known();
-        open_levels_run_ahead();
-        rows_are_in_order();
-        let _few = self.levels.len();
-        let outlook = Outlook {
-            tick: now,
-            levels: N,
-            front: &self.front,
-            x: self.levels.index(),
-        };
-        self.next.advance(&outlook, state, delays, &mut self.port);
+        self.levels.due()
     }
 
-    // The first word of the next entry is asked for, where it is wanted by now. It has just begun, so that straight code does it.
+    // Whether the next entry is planned, and prepared before the tick `due` and up to the tick `last`.
     #[inline(always)]
-    fn begin(&mut self, now: u64, state: &State, delays: &Delays)
+    fn is_next_before(&self, due: u64, last: u64) -> bool
+        ensures yes { result ≡ true → (self.now.next.planned ≡ true) × (self.now.next.formed.p < due) × (self.now.next.formed.p ≤ last) }
+        ensures no { result ≡ false → WaitsFor due last self.now }
+    {
+        if !self.next.planned {
+            return false;
+        }
+        self.next.formed.p < due && self.next.formed.p <= last
+    }
+
+    // When it is prepared, where it is planned.
+    #[inline(always)]
+    fn next_prepared(&self) -> u64
+        ensures { result ≡ self.now.next.formed.p }
+    {
+        self.next.formed.p
+    }
+
+    // The next entry is planned, which it is as soon as its words are known; the oldest level is done at the tick `due`.
+    #[inline(always)]
+    fn plan_before(&mut self, due: u64, last: u64, state: &State, delays: &Delays)
         requires some { 1 ≤ N }
         requires few { N ≤ 8 }
-        requires early { now < 2 ^ 63 }
-        requires going { Goes delays.now N now now state.now self.old }
-        ensures going { (t : Option ℕ) (f : FrontOf) →
-            IsGoing delays.now N now now t state.now f self.old →
-            IsGoing delays.now N now now t state.now f self.new }
+        requires early { last < 2 ^ 63 }
+        requires due { due ≡ due_of self.old.levels.plans }
+        requires going { Reaches delays.now N last state.now self.old }
+        ensures going { (t : Option ℕ) (f : FrontOf) (tick : ℕ) →
+            IsGoing delays.now N tick tick t state.now f self.old →
+            IsGoing delays.now N tick due t state.now f self.new }
         ensures levels { self.new.levels ≡ self.old.levels }
-        ensures front { self.new.front ≡ self.old.front }
     {
         if self.next.planned {
-            return;
-        }
-        if !self.next.is_due(&self.front, now) {
             return;
         }
         next_entries_are_known();
         open_levels_run_ahead();
         rows_are_in_order();
         let _few = self.levels.len();
-        let outlook = Outlook {
-            tick: now,
-            levels: N,
-            front: &self.front,
-            x: self.levels.index(),
-        };
-        self.next.begin(&outlook, state, delays, &mut self.port);
+        let _last = last;
+        self.next.plan_before(
+            due,
+            N,
+            &self.front,
+            self.levels.index(),
+            state,
+            delays,
+            &mut self.log,
+        );
     }
 
     // The next entry becomes a level at the tick `now`, its P.
+    #[inline(always)]
     fn push(&mut self, now: u64, state: &State, delays: &Delays)
         requires some { 1 ≤ N }
         requires few { N ≤ 8 }
@@ -119,7 +113,7 @@ impl<const N: usize> Look<N> {
         ensures going { (t : Option ℕ) (f : FrontOf) →
             IsGoing delays.now N now (now + 1) t state.now f self.old →
             IsGoing delays.now N now now t state.now f self.new }
-        ensures prepared { self.new.front.p ≡ now }
+        ensures count { count self.new ≡ count self.old + 1 }
     {
         planned_entries_become_levels();
         guesses_leave_the_rest();
@@ -127,7 +121,6 @@ impl<const N: usize> Look<N> {
         completions_are_bounded();
         delays.shape();
         let _few = self.levels.len();
-        ask_operands(&mut self.port, &self.front.past, &self.next.entry, now);
         self.next.prepare(self.levels.index(), state);
         let filled = self.front.fill(
             delays,
@@ -135,84 +128,22 @@ impl<const N: usize> Look<N> {
             &self.next.entry,
             self.next.formed,
             &mut self.next.words,
+            &mut self.log,
         );
-        self.port
-            .ask_following(filled.following, &self.next.entry, now);
         self.levels.push(&self.next.prepared, &self.front, &filled);
         self.front
             .pass(&self.next.entry, &filled.row, &self.next.words.bus);
         let place = place_behind(&self.next.prepared);
-        self.next.restart(place, &self.front);
-    }
-
-    // The slots of what became a level at this tick are filled.
-    fn fill_pushed(&mut self, now: u64, state: &State)
-        ensures going { (ds : List ℕ) (rest : ℕ) (t : Option ℕ) (f : FrontOf) → AreDelays 255 ds →
-            IsGoing ds N now rest t state.now f self.old →
-            IsGoing ds N now rest t state.now f self.new × AreFull ds N now t state.now f self.new.levels.ring }
-        ensures front { self.new.front ≡ self.old.front }
-    {
-        self.levels.fill(state, now);
-    }
-
-    // The next entry is known further; where it is planned and this is its P, it becomes a level, and the one behind it is known further. What is
-    // planned at this tick is prepared later.
-    fn settle(&mut self, now: u64, state: &State, delays: &Delays)
-        requires some { 1 ≤ N }
-        requires few { N ≤ 8 }
-        requires early { now < 2 ^ 63 }
-        requires going { Goes delays.now N now now state.now self.old }
-        ensures going { (t : Option ℕ) (f : FrontOf) →
-            IsGoing delays.now N now now t state.now f self.old →
-            IsGoing delays.now N now (now + 1) t state.now f self.new }
-        ensures full { (t : Option ℕ) (f : FrontOf) →
-            IsGoing delays.now N now now t state.now f self.old →
-            AreFull delays.now N now t state.now f self.old.levels.ring →
-            AreFull delays.now N now t state.now f self.new.levels.ring }
-        ensures later { self.new.next.planned ≡ true → now < self.new.next.formed.p }
-    {
-        if self.next.planned {
-            if self.next.formed.p != now {
-                return;
-            }
-            delays.shape();
-            self.push(now, state, delays);
-            self.fill_pushed(now, state);
-            self.begin(now, state, delays);
-            self.advance(now, state, delays);
-            return;
-        }
-        self.advance(now, state, delays);
-    }
-
-    /// Goes on at the tick `now`, below 2^63, once the entry that is done at it, if there is one, is executed: the next entry is known
-    /// further or becomes a level, and a read is made. The slots of levels are filled up to this tick, before and after.
-    pub fn go_on(&mut self, now: u64, state: &State, delays: &Delays)
-        requires some { 1 ≤ N }
-        requires few { N ≤ 8 }
-        requires early { now < 2 ^ 63 }
-        requires going { Goes delays.now N now now state.now self.old }
-        ensures { (t : Option ℕ) (f : FrontOf) →
-            IsGoing delays.now N now now t state.now f self.old →
-            AreFull delays.now N now t state.now f self.old.levels.ring →
-            IsLook delays.now N now (now + 1) t state.now f self.new }
-    {
-        delays.shape();
-        self.settle(now, state, delays);
-        self.port.serve(delays, now);
+        self.next.restart(place);
     }
 }
 
-// Asks for the operands of an entry that is prepared at the tick `now`, where no read is left to be made.
+// The tick `due`, if it is `last` at the latest.
 #[inline(always)]
-fn ask_operands(port: &mut Port, past: &LastEntries, entry: &Entry, now: u64)
-    requires entry { IsEntry entry.now }
-    requires made { port.old.reads ≡ [] }
-    ensures reads { port.new.reads ≡ port.old.reads ++ runs_asked past.now entry.now.reads now }
-    ensures bus { port.new.bus ≡ port.old.bus }
-    ensures few { length port.new.reads ≤ 32 }
+fn stop_at(due: u64, last: u64) -> Option<u64>
+    ensures { result ≡ (if nat_le due last then Some due else None) }
 {
-    port.ask_operands(past, entry.reads, now);
+    if due <= last { Some(due) } else { None }
 }
 
 // The place behind an entry, by the counter that it is guessed to leave.

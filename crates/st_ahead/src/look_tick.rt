@@ -6,8 +6,8 @@ ghost use Rattle.st_rows.specs.Ranges.{AreDelays};
 ghost use Rattle.st_rows.specs.Rows.{row, after};
 ghost use Rattle.st_rows.specs.declared.front.Front.{Front as FrontOf};
 ghost use Rattle.st_segment.specs.Entries.{entry};
-ghost use Rattle.st_levels.specs.Levels.{IsCompleted};
-ghost use Rattle.st_ahead.specs.Look.{IsLook, count};
+ghost use Rattle.st_levels.specs.Levels.{IsCompleted, AreNotDone};
+ghost use Rattle.st_ahead.specs.Look.{IsLook, IsOutlook, count};
 ghost use Rattle.st_ahead.specs.Ticked.{IsTicked};
 
 use crate::look::Look;
@@ -38,14 +38,15 @@ impl<const N: usize> Look<N> {
     }
 
     // The oldest entry is done. Behind one that is done alone the place of the next one is known only now.
-    fn complete(&mut self, state: &mut State) -> Completed
+    #[inline(always)]
+    pub(crate) fn complete(&mut self, state: &mut State) -> Completed
         requires some { 0 < count self.old }
         requires few { state.old.done < 2 ^ 63 }
         ensures { (ds : List ℕ) (tick now : ℕ) (t : Option ℕ) (f : FrontOf) → AreDelays 255 ds →
-            IsLook ds N tick now t state.old f self.old → (row ds N f (entry t state.old)).c ≡ now →
+            IsOutlook ds N tick now t state.old f self.old → (row ds N f (entry t state.old)).c ≡ now →
             (state.new ≡ executed t state.old) × IsCompleted ds N t state.old f result
-            × IsLook ds N tick now None (guess t state.old) (after ds N f (entry t state.old)) self.new
-            × (self.new.port ≡ self.old.port) }
+            × IsOutlook ds N tick now None (guess t state.old) (after ds N f (entry t state.old)) self.new
+            × (self.new.log ≡ self.old.log) × (self.new.next.words ≡ self.old.next.words) }
     {
         let done = self.levels.complete(state);
         if self.levels.len() == 0 && self.front.serial {
@@ -54,13 +55,13 @@ impl<const N: usize> Look<N> {
         done
     }
 
-    // Operands that are there by this tick are put into their levels, of which none is done by then. They are the same in the state that the levels
-    // run ahead of, which may have another counter.
-    fn fill(&mut self, state: &State, now: u64)
-        ensures { (ds : List ℕ) (tick : ℕ) (t : Option ℕ) (s : Machine) (f : FrontOf) → AreDelays 255 ds →
-            IsLook ds N tick now t s f self.old → now ≡ tick + 1 → now < (row ds N f (entry t s)).c →
+    // Operands that are there by the tick `now` are put into their levels, which are prepared by then and not done. They are the same in the state that the
+    // levels run ahead of, which may have another counter.
+    pub(crate) fn fill(&mut self, state: &State, now: u64)
+        ensures { (ds : List ℕ) (tick next : ℕ) (t : Option ℕ) (s : Machine) (f : FrontOf) → AreDelays 255 ds →
+            IsOutlook ds N tick next t s f self.old → tick ≤ now → next ≤ now + 1 → AreNotDone now self.old.levels →
             ((w : ℕ) → word state.now w ≡ word s w) →
-            IsLook ds N now now t s f self.new × (self.new.port ≡ self.old.port) }
+            IsLook ds N now next t s f self.new × (self.new.log ≡ self.old.log) × (self.new.next ≡ self.old.next) }
     {
         self.levels.fill(state, now);
     }

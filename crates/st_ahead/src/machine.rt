@@ -47,7 +47,7 @@ impl<const N: usize> Machine<N> {
     ghost use Rattle.st_exec.specs.Transfer.{read_in as read_in_of, words_from};
     ghost use Rattle.st_ahead.specs.Overlap.{last_tick as last_tick_of};
     ghost use Rattle.st_ahead.specs.Shown.{AreLevelsOf, index_of, shown};
-    ghost use Rattle.st_ahead.specs.Idle.{AreIdle, after_ticks};
+    ghost use Rattle.st_ahead.specs.RunTo.{RunsTo};
 
     /// A machine before its first tick; the state is neither enabled nor waiting.
     pub fn new(state: State, delays: Delays) -> Machine<N>
@@ -108,26 +108,48 @@ impl<const N: usize> Machine<N> {
         })
     }
 
-    /// Passes over ticks at which nothing happens, as so many calls of `tick` and `settle` would, up to the tick `limit`, at most 2^63, which is not
-    /// made. The result is how many there are; more may follow. No settle is owed.
-    pub fn pass_idle_ticks(&mut self, limit: u64) -> u64
+    /// Makes ticks and goes on behind each, as so many calls of `tick` and `settle`, until an entry is done behind which something may come: `count`
+    /// instructions are done by then, an order is due, or what `settle` would decide is not that the machine goes on. Its row is the result, and that
+    /// decision is owed. Where none is up to the tick `last`, that tick is made and settled too. No settle is owed; `last` and the number of
+    /// instructions done are below 2^63, and `count` is 2^63 at most.
+    pub fn run_to(&mut self, count: u64, last: u64) -> Option<Row>
         requires settled { self.old.owed ≡ false }
-        requires limit { limit ≤ 2 ^ 63 }
-        ensures limit { result ≤ limit - self.old.now }
-        ensures idle { AreIdle result self.old }
-        ensures after { self.new ≡ after_ticks result self.old }
+        requires count { count ≤ 2 ^ 63 }
+        requires last { last < 2 ^ 63 }
+        requires done { self.old.state.done < 2 ^ 63 }
+        ensures { RunsTo count last result self.old self.new }
     {
+        levels_are_the_entries_ahead();
+        steps_are_guesses();
+        entries_count_as_one();
         self.delays.shape();
         let now = self.now;
-        if now == 0 {
-            return 0;
+        if now > last {
+            return None;
         }
-        let rests_to = self.look.rests_to(now, limit);
-        if rests_to <= now {
-            return 0;
-        }
-        self.now = rests_to;
-        rests_to - now
+        let stop = self.look.run_to(
+            count,
+            last,
+            &mut self.taken,
+            &mut self.state,
+            &self.delays,
+        );
+        let number = done_in(&self.state);
+        let Some(stop) = stop else {
+            self.now = last + 1;
+            return None;
+        };
+        self.behind = stop.done.missed;
+        self.fresh = true;
+        self.owed = true;
+        self.now = stop.tick;
+        Some(Row {
+            number,
+            address: stop.done.address,
+            p: stop.done.p,
+            r: stop.done.r,
+            c: stop.tick,
+        })
     }
 
     /// Decides what comes behind the last tick: an interrupt is taken; or the machine waits, and the decision is still owed; or a missed branch ends

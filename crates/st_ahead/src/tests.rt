@@ -92,17 +92,17 @@ fn make_ticks(rt: &impl Abort, machine: &mut Machine<4>, count: u64)
     }
 }
 
-// Passes over ticks up to the tick `limit`.
-fn pass_over(machine: &mut Machine<4>, limit: u64) -> u64
+// Makes ticks up to the tick `last`, at which no entry is done.
+fn pass_over(rt: &impl Abort, machine: &mut Machine<4>, last: u64)
     requires settled { machine.old.owed ≡ false }
     requires done { machine.old.state.done ≡ 0 }
-    requires limit { limit ≤ 1000 }
+    requires last { last ≤ 1000 }
     ensures settled { machine.new.owed ≡ false }
-    ensures limit { result ≤ limit - machine.old.now }
-    ensures now { machine.new.now ≡ machine.old.now + result }
     ensures done { machine.new.state.done ≡ 0 }
 {
-    machine.pass_idle_ticks(limit)
+    let None = machine.run_to(0, last) else {
+        panic!(rt; "an entry is done");
+    };
 }
 
 #[test]
@@ -133,8 +133,8 @@ fn ticks_at_which_nothing_happens_are_passed_over(rt: HostRuntime) -> Result<(),
     let state = opened(&rt, alloc)?;
     let mut machine = begun(&rt, alloc, state)?;
     make_ticks(&rt, &mut machine, 8);
-    assert_eq!(rt; pass_over(&mut machine, 12), 4);
-    assert_eq!(rt; pass_over(&mut machine, 1000), 4);
+    pass_over(&rt, &mut machine, 11);
+    assert_eq!(rt; machine.view().tick, 11);
     let row = Row {
         number: 1,
         address: 64,
@@ -142,6 +142,6 @@ fn ticks_at_which_nothing_happens_are_passed_over(rt: HostRuntime) -> Result<(),
         r: 4,
         c: 16,
     };
-    assert_eq!(rt; machine.tick(), Event::Done(row));
+    assert_eq!(rt; machine.run_to(0, 999), Some(row));
     Ok(())
 }

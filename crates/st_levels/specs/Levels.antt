@@ -1,5 +1,5 @@
 -- The levels of a machine: entries that are prepared and not done, with their planned rows.
-use Rattle.std.specs.Prelude.{ℕ, ◌≡◌, ◌-◌, ◌≤◌, ◌<◌, Bool, false, ◌==◌, if◌then◌else◌, List, [], ◌∷◌, length, All, Option, None, Some}
+use Rattle.std.specs.Prelude.{ℕ, ◌≡◌, ◌-◌, ◌^◌, ◌≤◌, ◌<◌, Bool, false, ◌==◌, if◌then◌else◌, List, [], ◌∷◌, length, All, Option, None, Some}
 use Rattle.st_state.specs.Machine.{Machine}
 use Rattle.st_prep.specs.Plan.{plan}
 use Rattle.st_prep.specs.Ranges.{IsPrepared}
@@ -63,6 +63,11 @@ pub record AreAhead (ds : List ℕ) (n tick : ℕ) (t : Option ℕ) (s : Machine
 -- none of them is done at this tick or before it
 abbrev pub AreNotDone : ℕ → LevelsView → Type 0
 AreNotDone now v = All (λ q. now < q.c) v.plans
+
+-- the tick at which the oldest of them is done, 2^64 - 1 where there is none
+abbrev pub due_of : List Plan → ℕ
+due_of [] = 2 ^ 64 - 1
+due_of (q ∷ qs) = q.c
 
 -- the oldest of them is done at this tick
 abbrev pub is_due : List Plan → ℕ → Bool

@@ -1,5 +1,5 @@
 //! Levels that are pushed, filled, done and undone.
-ghost use Rattle.std.specs.Prelude.{◌≡◌, ℕ, ◌+◌, ◌<◌, ◌≤◌, ◌^◌, length, Option, None, Some, IfSome, List, [], ◌∷◌, ◌++◌, slice_get, All, false, true};
+ghost use Rattle.std.specs.Prelude.{◌≡◌, ℕ, ◌+◌, ◌-◌, ◌<◌, ◌≤◌, ◌^◌, length, Option, None, Some, IfSome, List, [], ◌∷◌, ◌++◌, slice_get, All, false, true};
 ghost use Rattle.st_state.specs.Machine.{Machine, IsMachine, word as word_of};
 ghost use Rattle.st_prep.specs.EarlyChange.{words_after};
 ghost use Rattle.st_prep.specs.Fetch.{index_words as index_words_of};
@@ -12,7 +12,7 @@ ghost use Rattle.st_rows.specs.declared.front.Front.{Front as FrontOf};
 ghost use Rattle.st_segment.specs.Entries.{entry};
 ghost use Rattle.st_segment.specs.Guesses.{guesses, table_behind};
 ghost use Rattle.st_segment.specs.Alone.{RunAhead};
-ghost use Rattle.st_levels.specs.Levels.{LevelsView, AreSound, AreAhead, AreFull, AreNotDone, IsCompleted, is_due as is_due_of};
+ghost use Rattle.st_levels.specs.Levels.{LevelsView, AreSound, AreAhead, AreFull, AreNotDone, IsCompleted, due_of, is_due as is_due_of};
 ghost use Rattle.st_levels.specs.PlannedRows.{planned};
 
 use crate::filling::fill_all;
@@ -141,6 +141,17 @@ impl<const N: usize> Levels<N> {
         self.ring
             .push_prepared(prepared, filled.row.p, [None, None]);
         self.plans.push(front, filled);
+    }
+
+    /// The tick at which the oldest level is done, 2^64 - 1 where there is none.
+    #[inline(always)]
+    pub fn due(&self) -> u64
+        ensures { result ≡ due_of self.now.plans }
+    {
+        if self.plans.len() == 0 {
+            return u64::MAX;
+        }
+        self.plans.get(0).c
     }
 
     /// Whether the oldest level is done at this tick.

@@ -6,7 +6,6 @@ mod filling;
 mod laws;
 mod levels;
 mod plans;
-mod rest;
 mod slots;
 
 pub use laws::{

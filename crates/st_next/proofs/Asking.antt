@@ -1,8 +1,8 @@
--- What one step asks of the port, and what it needs; there is a state before the entry by which it is known.
+-- What one step asks for, and what it needs; there is a state before the entry by which it is known.
 use Rattle.std.specs.Prelude.{All}
-use Rattle.std.proofs.Common.{◌≡◌, ℕ, ◌+◌, ◌*◌, ◌-◌, ◌^◌, ◌≤◌, ◌<◌, max, Bool, true, false, if◌then◌else◌, List, [], ◌∷◌, ◌++◌, map, length, Option, None, Some, sym, ◌∙◌, ap, arith, length-append, append_assoc}
+use Rattle.std.proofs.Common.{◌≡◌, ℕ, ◌+◌, ◌*◌, ◌-◌, ◌^◌, ◌≤◌, ◌<◌, max, Bool, true, false, if◌then◌else◌, List, [], ◌∷◌, ◌++◌, map, Option, None, Some, refl, sym, ◌∙◌, ap, arith, append_assoc}
 use Rattle.std.proofs.lemmas.List.{append-nil}
-use Rattle.std.proofs.lemmas.List.Elements.{All-append, All-cons, All-nil}
+use Rattle.std.proofs.lemmas.List.Elements.{All-cons, All-nil}
 use Rattle.st_fetch.specs.Planned.{tick_of}
 use Rattle.st_state.specs.Machine.{Machine, word}
 use Rattle.st_prep.specs.declared.entries.Fetched.{Fetched}
@@ -10,43 +10,34 @@ use Rattle.st_prep.specs.declared.entries.Fetching.TheVariants.{Next as GivenWor
 use Rattle.st_prep.specs.Plan.{seen, sight}
 use Rattle.st_prep.specs.Ranges.{IsPlace}
 use Rattle.st_prep.proofs.PlanLemmas.{sight-fits}
-use Rattle.st_rows.specs.Asked.{Read, word_asked, side_asked}
+use Rattle.st_rows.specs.Asked.{Read, side_asked, served}
+use Rattle.st_rows.specs.BusTimes.{requested}
+use Rattle.st_rows.specs.Notes.{noted}
 use Rattle.st_rows.specs.Ranges.{IsEntry, AreDelays}
-use Rattle.st_rows.specs.Rows.{wanted_from, is_forwarded}
+use Rattle.st_rows.specs.Rows.{fetch_word, fetched, wanted_from, is_forwarded, tick_a, bus_a}
 use Rattle.st_rows.specs.declared.entry.Run.{Run}
 use Rattle.st_rows.specs.declared.past.Past.{Past}
 use Rattle.st_rows.specs.declared.fetching.Fetching.{Fetching}
 use Rattle.st_rows.specs.declared.front.Front.{Front}
+use Rattle.st_rows.specs.declared.log.Made.{Made}
+use Rattle.st_rows.proofs.Noted.{noted-two}
+use Rattle.st_rows.proofs.Served.{served-append, served-side, served-word}
 use Rattle.st_rows.proofs.Stages.{wanted-early, fetched-within}
 use Rattle.st_rows.proofs.Within.{past-weaker, fetching-weaker}
 use Rattle.st_segment.specs.Alone.{words_of_run}
 use Rattle.st_segment.specs.Entries.{entry}
 use Rattle.st_segment.proofs.EntryRanges.{entry-ranges}
-use Rattle.st_next.specs.Words.{with_word, words_alone, words_so_far, asked_so_far}
-use Rattle.st_next.specs.Progress.{Rests, Planned, Waits, Target, wanted_next, IsKnown, reads_so_far}
-use Rattle.st_next.specs.Going.{IsFront, IsEarly, AreAskedMore, IsPlannedAs, entry_seen, known_count}
+use Rattle.st_next.specs.Words.{words_alone, words_so_far, asked_so_far}
+use Rattle.st_next.specs.Progress.{IsKnown, reads_so_far}
+use Rattle.st_next.specs.Going.{IsFront, IsEarly, IsReadFurther, IsPlannedAs, entry_seen, prepared_as}
 use Rattle.st_next.specs.declared.next.Next.{Next}
 use Rattle.st_next.proofs.Starts.{IsNextOwn, IsNextTarget, word-behind}
 use Rattle.st_next.proofs.Contents.{words-entry}
 use Rattle.st_next.proofs.WordByWord.{want_of, read_of, own-asked, target-asked}
-use Rattle.st_next.proofs.Late.{IsLate, read-late, waits-most}
-use Rattle.st_next.proofs.Resting.{waits-none, address-late}
+use Rattle.st_next.proofs.Late.{IsLate}
 use Rattle.st_next.proofs.Steps.{what, comes-own, comes-target, comes-all, with_own, with_target, sight-same, entry-same}
 
--- ---- how many reads
-
-few-word : (o : Option ℕ) (w want : ℕ) → length (word_asked o w want) ≤ 1
-few-word (Some t) w want = omega arith
-few-word None w want = omega arith
-
-few-data : (late : Bool) (w tick : ℕ) → length {A = Read} (if late then [] else record { w = w; want = tick; fetch = false } ∷ []) ≤ 1
-few-data true w tick = omega arith
-few-data false w tick = omega arith
-
-few-side : (past : List Past) (side : Option ℕ) (a : ℕ) → length (side_asked past side a) ≤ 1
-unfolding side_asked
-few-side past None a = omega arith
-few-side past (Some w) a = few-data (is_forwarded past w a) w a
+-- ---- when they are wanted
 
 data-late : (late : Bool) (m w tick : ℕ) → m ≤ tick → All (IsLate m) (if late then [] else record { w = w; want = tick; fetch = false } ∷ [])
 data-late true m w tick h = All-nil (IsLate m)
@@ -56,6 +47,11 @@ pub side-late : (past : List Past) (side : Option ℕ) (m a : ℕ) → m ≤ a �
 unfolding side_asked
 side-late past None m a h = All-nil (IsLate m)
 side-late past (Some w) m a h = data-late (is_forwarded past w a) m w a h
+
+-- one word of an instruction on the bus
+served-read : (ds : List ℕ) (past : List Past) (from : ℕ) (s : Fetching) (w : ℕ) → (fetch_word ds past s w from).bus ≡ served ds (read_of ds past from s w) s.bus
+unfolding fetch_word requested
+served-read ds past from s w = sym (served-word ds (tick_of s.bus.held.words w) w (want_of ds past from s) s.bus)
 
 -- ---- the reads so far
 
@@ -69,12 +65,6 @@ pub reads-planned : (ds : List ℕ) (f : Front) (next : Next) → next.planned �
 reads-planned ds f next is =
     ap (λ b. asked_so_far ds f next.own next.target ++ (if b then side_asked f.past next.entry.side next.formed.a else [])) is
 
-pub count-none : (next : Next) → next.planned ≡ false → known_count next ≡ next.own.len + next.target.len
-count-none next un = ap (λ b. next.own.len + next.target.len + (if b then 1 else 0)) un ∙ omega arith
-
-pub count-planned : (next : Next) → next.planned ≡ true → known_count next ≡ next.own.len + next.target.len + 1
-count-planned next is = ap (λ b. next.own.len + next.target.len + (if b then 1 else 0)) is
-
 -- ---- the front is early enough
 
 pub words-early : (ds : List ℕ) (n : ℕ) (f : Front) (own target : Run) (words : Fetching) → AreDelays 255 ds → IsFront n f
@@ -86,7 +76,7 @@ words-early ds n f own target words are is e same = record {
   done = omega (arith, is.early);
 }
 
-module _ (ds : List ℕ) (n now : ℕ) (f : Front) (x : List ℕ) (s : Machine) (before : Next) (un : before.planned ≡ false) (due : wanted_next f before ≤ now)
+module _ (ds : List ℕ) (n now : ℕ) (f : Front) (x : List ℕ) (s : Machine) (before : Next) (un : before.planned ≡ false)
     (k : IsKnown ds n now f x s before) where
   pub known-entry : IsEntry (entry k.table k.state)
   known-entry = entry-ranges k.table k.state k.before.machine k.indicator
@@ -101,7 +91,7 @@ module _ (ds : List ℕ) (n now : ℕ) (f : Front) (x : List ℕ) (s : Machine) 
   unfolding sight
   known-place = rw k.is_next.read_on.place (sight-fits k.state k.table k.before.machine k.indicator).place
 
-  module _ (cs : List ℕ) (contents : cs ≡ map (word s) (words_of_run before.own ++ words_of_run before.target)) where
+  module _ (due : before.words.awaited ≤ now) (cs : List ℕ) (contents : cs ≡ map (word s) (words_of_run before.own ++ words_of_run before.target)) where
     -- an own word
     pub known-own : (w : ℕ) → what ds n now f x s before un due cs contents ≡ GivenWord w false → IsNextOwn before.own before.target (entry k.table k.state) w
     known-own w e = comes-own ds n now f x s before un due cs contents k.table k.state k.indicator k.before k.is_next.read_on w e
@@ -110,15 +100,10 @@ module _ (ds : List ℕ) (n now : ℕ) (f : Front) (x : List ℕ) (s : Machine) 
     pub own-above : (w : ℕ) → what ds n now f x s before un due cs contents ≡ GivenWord w false → 32 ≤ w
     own-above w e = let it = known-own w e in omega (arith, it.place, known-entry.own.above (omega (arith, it.more)))
 
-    own-want : (w : ℕ) → IsNextOwn before.own before.target (entry k.table k.state) w → Rests now k.table k.state f before → now ≤ want_of ds f.past (wanted_from f) before.words
-    own-want w is (Planned p) = absurd (cc)
-    own-want w is (Waits p late) = omega (arith, late, waits-none f before.target is.none)
-    own-want w is (Target p all none some late) = let more = is.more in let same : before.own.len ≡ (entry k.table k.state).own.len = ap (λ (r : Run). r.len) all in absurd (omega arith)
-
-    pub own-asks : (w : ℕ) (after : Next) (reads more : List Read) → what ds n now f x s before un due cs contents ≡ GivenWord w false
-        → after ≡ with_own ds n now f x s before un due cs contents w → more ≡ reads ++ read_of ds f.past (wanted_from f) before.words w
-        → AreAskedMore ds now f before after reads more
-    own-asks w after reads more e same asked =
+    pub own-asks : (w : ℕ) (after : Next) (log new : List Made) → what ds n now f x s before un due cs contents ≡ GivenWord w false
+        → after ≡ with_own ds n now f x s before un due cs contents w → new ≡ noted ds (read_of ds f.past (wanted_from f) before.words w) before.words.bus log
+        → IsReadFurther ds f before after log new
+    own-asks w after log new e same kept =
         let it = known-own w e in
         let place = word-behind before.own (entry k.table k.state).own w k.is_next.read_on.first.own_start it.place in
         let there = with_own ds n now f x s before un due cs contents w in
@@ -128,26 +113,21 @@ module _ (ds : List ℕ) (n now : ℕ) (f : Front) (x : List ℕ) (s : Machine) 
               reads-none ds f there un ∙ own-asked ds f before.own before.target w it.none place
               ∙ ap (λ s. asked_so_far ds f before.own before.target ++ read_of ds f.past (wanted_from f) s w) (sym (k.is_next.read_on.words un))
               ∙ ap (λ reads. reads ++ read_of ds f.past (wanted_from f) before.words w) (sym (reads-none ds f before un));
-          asked = asked;
-          late = read-late ds f.past (wanted_from f) (tick_of before.words.bus.held.words w) now w (want_of ds f.past (wanted_from f) before.words) (own-want w it k.rests);
+          bus = served-read ds f.past (wanted_from f) before.words w;
+          kept = kept;
         })
 
     -- a word of the target
     pub known-target : (w : ℕ) → what ds n now f x s before un due cs contents ≡ GivenWord w true → IsNextTarget before.own before.target (entry k.table k.state) w
     known-target w e = comes-target ds n now f x s before un due cs contents k.table k.state k.indicator k.before k.is_next.read_on w e
 
-    target-want : Rests now k.table k.state f before → now ≤ want_of ds f.past (max (wanted_from f) f.c) before.words
-    target-want (Planned p) = absurd (cc)
-    target-want (Waits p late) = omega (arith, late, waits-most f before.target)
-    target-want (Target p all none some late) = omega arith
-
     pub target-above : (w : ℕ) → what ds n now f x s before un due cs contents ≡ GivenWord w true → 32 ≤ w
     target-above w e = let it = known-target w e in omega (arith, it.place, known-entry.target.above (omega (arith, it.more)))
 
-    pub target-asks : (w : ℕ) (after : Next) (reads more : List Read) → what ds n now f x s before un due cs contents ≡ GivenWord w true
-        → after ≡ with_target ds n now f x s before un due cs contents w → more ≡ reads ++ read_of ds f.past (max (wanted_from f) f.c) before.words w
-        → AreAskedMore ds now f before after reads more
-    target-asks w after reads more e same asked =
+    pub target-asks : (w : ℕ) (after : Next) (log new : List Made) → what ds n now f x s before un due cs contents ≡ GivenWord w true
+        → after ≡ with_target ds n now f x s before un due cs contents w
+        → new ≡ noted ds (read_of ds f.past (max (wanted_from f) f.c) before.words w) before.words.bus log → IsReadFurther ds f before after log new
+    target-asks w after log new e same kept =
         let it = known-target w e in
         let place = word-behind before.target (entry k.table k.state).target w k.is_next.read_on.first.target_start it.place in
         let there = with_target ds n now f x s before un due cs contents w in
@@ -158,8 +138,8 @@ module _ (ds : List ℕ) (n now : ℕ) (f : Front) (x : List ℕ) (s : Machine) 
               reads-none ds f there un ∙ target-asked ds f before.own before.target w place
               ∙ ap (λ s. asked_so_far ds f before.own before.target ++ read_of ds f.past waits s w) (sym (k.is_next.read_on.words un))
               ∙ ap (λ reads. reads ++ read_of ds f.past waits before.words w) (sym (reads-none ds f before un));
-          asked = asked;
-          late = read-late ds f.past waits (tick_of before.words.bus.held.words w) now w (want_of ds f.past waits before.words) (target-want k.rests);
+          bus = served-read ds f.past waits before.words w;
+          kept = kept;
         })
 
     -- the plan
@@ -173,15 +153,17 @@ module _ (ds : List ℕ) (n now : ℕ) (f : Front) (x : List ℕ) (s : Machine) 
       pub known-seen : IsEntry (entry_seen before.own before.target (seen before.place fd x s))
       known-seen = rw known-whole known-entry
 
-      pub plan-late : (after : Next) → IsPlannedAs ds n f (seen before.place fd x s) before after → now < after.formed.a
-      plan-late after made =
-          let late = address-late ds now k.table k.state f before k.is_next.read_on un k.rests in
-          rw (made.address, known-whole) late
+      pub plan-words : before.words ≡ fetched ds f (entry_seen before.own before.target (seen before.place fd x s))
+      unfolding fetched
+      plan-words = k.is_next.read_on.words un
 
-      pub plan-asks : (after : Next) (reads more : List Read) → IsPlannedAs ds n f (seen before.place fd x s) before after
-          → more ≡ reads ++ side_asked f.past after.entry.side after.formed.a → AreAskedMore ds now f before after reads more
-      plan-asks after reads more made asked =
+      pub plan-asks : (after : Next) (log new : List Made) → IsPlannedAs ds n f (seen before.place fd x s) before after
+          → new ≡ noted ds (side_asked f.past after.entry.side after.formed.a) before.words.bus log → IsReadFurther ds f before after log new
+      unfolding bus_a
+      plan-asks after log new made kept =
+          let g = entry_seen before.own before.target (seen before.place fd x s) in
           let side = side_asked f.past after.entry.side after.formed.a in
+          let same : side ≡ side_asked f.past g.side (tick_a ds f g) = rw (made.entry, made.address) refl in
           record {
             added = side;
             so_far =
@@ -189,60 +171,38 @@ module _ (ds : List ℕ) (n now : ℕ) (f : Front) (x : List ℕ) (s : Machine) 
                 ∙ ap (λ r. asked_so_far ds f r after.target ++ side) made.own
                 ∙ ap (λ r. asked_so_far ds f before.own r ++ side) made.target
                 ∙ ap (λ reads. reads ++ side) (sym (reads-none ds f before un));
-            asked = asked;
-            late = let late = plan-late after made in side-late f.past after.entry.side now after.formed.a (omega arith);
+            bus = made.bus ∙ sym (served-side ds f.past g.side (tick_a ds f g) (fetched ds f g).bus)
+                ∙ ap (served ds (side_asked f.past g.side (tick_a ds f g))) (ap (λ (w : Fetching). w.bus) (sym plan-words))
+                ∙ ap (λ reads. served ds reads before.words.bus) (sym same);
+            kept = kept;
           }
 
 -- ---- steps after steps
 
-pub asked-then : (ds : List ℕ) (now : ℕ) (f : Front) (a b c : Next) (reads more most : List Read) → AreAskedMore ds now f a b reads more
-    → AreAskedMore ds now f b c more most → AreAskedMore ds now f a c reads most
-asked-then ds now f a b c reads more most first then_ = record {
+pub further-then : (ds : List ℕ) (f : Front) (a b c : Next) (log one two : List Made) → IsReadFurther ds f a b log one → IsReadFurther ds f b c one two
+    → IsReadFurther ds f a c log two
+further-then ds f a b c log one two first then_ = record {
   added = first.added ++ then_.added;
   so_far = then_.so_far ∙ ap (λ reads. reads ++ then_.added) first.so_far ∙ append_assoc (reads_so_far ds f a) first.added then_.added;
-  asked = then_.asked ∙ ap (λ reads. reads ++ then_.added) first.asked ∙ append_assoc reads first.added then_.added;
-  late = All-append (IsLate now) first.added then_.added first.late then_.late;
+  bus = then_.bus ∙ ap (served ds then_.added) first.bus ∙ sym (served-append ds first.added then_.added a.words.bus);
+  kept = then_.kept ∙ noted-two ds first.added then_.added a.words.bus b.words.bus log one first.bus first.kept;
 }
 
-pub asked-nothing : (ds : List ℕ) (now : ℕ) (f : Front) (a : Next) (reads : List Read) → AreAskedMore ds now f a a reads reads
-asked-nothing ds now f a reads = record {
-  added = [];
-  so_far = sym (append-nil (reads_so_far ds f a));
-  asked = sym (append-nil reads);
-  late = All-nil (IsLate now);
-}
+pub further-nothing : (ds : List ℕ) (f : Front) (a : Next) (log : List Made) → IsReadFurther ds f a a log log
+unfolding served noted
+further-nothing ds f a log = record { added = []; so_far = sym (append-nil (reads_so_far ds f a)); bus = refl; kept = refl }
 
--- ---- room in the port
+-- what is prepared changes no read
+pub further-prepared : (ds : List ℕ) (f : Front) (x : List ℕ) (s : Machine) (fd : Fetched) (a b c : Next) (log one : List Made) → b.planned ≡ false
+    → c ≡ prepared_as fd x s b → IsReadFurther ds f a b log one → IsReadFurther ds f a c log one
+further-prepared ds f x s fd a b c log one un same is = rw same (record {
+  added = is.added;
+  so_far = reads-none ds f (prepared_as fd x s b) un ∙ sym (reads-none ds f b un) ∙ is.so_far;
+  bus = is.bus;
+  kept = is.kept;
+})
 
-pub more-word : (reads more : List Read) (o : Option ℕ) (w want : ℕ) → more ≡ reads ++ word_asked o w want → length more ≤ length reads + 1
-more-word reads more o w want e = rw e (omega (arith, length-append reads (word_asked o w want), few-word o w want))
+-- ---- how many words there are
 
-pub more-side : (reads more : List Read) (past : List Past) (side : Option ℕ) (a : ℕ) → more ≡ reads ++ side_asked past side a
-    → length more ≤ length reads + 1
-more-side reads more past side a e = rw e (omega (arith, length-append reads (side_asked past side a), few-side past side a))
-
-pub count-most : (next : Next) → next.planned ≡ false → IsEntry (words_alone next.own next.target) → known_count next ≤ 4
-count-most next un is = omega (arith, count-none next un, is.own_few, is.target_few)
-
-pub count-own : (before after : Next) (words : Fetching) (w : ℕ) → before.planned ≡ false
-    → after ≡ record before { words = words; own = with_word before.own w } → known_count after ≡ known_count before + 1
-count-own before after words w un e =
-    let next : Next = record before { words = words; own = with_word before.own w } in
-    rw e (omega (arith, count-none before un, count-none next un))
-
-pub count-target : (before after : Next) (words : Fetching) (w : ℕ) → before.planned ≡ false
-    → after ≡ record before { words = words; target = with_word before.target w } → known_count after ≡ known_count before + 1
-count-target before after words w un e =
-    let next : Next = record before { words = words; target = with_word before.target w } in
-    rw e (omega (arith, count-none before un, count-none next un))
-
-pub count-plan : (before after : Next) → before.planned ≡ false → after.own ≡ before.own → after.target ≡ before.target → after.planned ≡ true
-    → known_count after ≡ known_count before + 1
-count-plan before after un own target is =
-    omega (
-      arith,
-      count-none before un,
-      count-planned after is,
-      ap (λ (r : Run). r.len) own,
-      ap (λ (r : Run). r.len) target,
-    )
+pub count-most : (own target : Run) → IsEntry (words_alone own target) → own.len + target.len ≤ 4
+count-most own target is = omega (arith, is.own_few, is.target_few)

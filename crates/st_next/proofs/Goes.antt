@@ -1,35 +1,34 @@
 -- Steps after steps.
-use Rattle.std.proofs.Common.{◌≡◌, ℕ, ◌+◌, ◌<◌, ◌⊎◌, inl, inr, Bool, true, false, if◌then◌else◌, List, refl, arith}
+use Rattle.std.specs.Prelude.{if◌then◌else◌}
+use Rattle.std.proofs.Common.{◌≡◌, ℕ, ◌≤◌, max, Bool, true, false, List, arith}
 use Rattle.st_state.specs.Machine.{Machine}
 use Rattle.st_rows.specs.declared.front.Front.{Front}
-use Rattle.st_next.specs.Progress.{Planned, Waits, wanted_next, IsKnown}
+use Rattle.st_next.specs.Progress.{Waits, wanted_next, IsKnown}
 use Rattle.st_next.specs.Going.{GoesOn}
 use Rattle.st_next.specs.declared.next.Next.{Next}
 
+-- what is done alone is awaited
+alone-wanted : (b : Bool) (p c : ℕ) → (if b then c else 0) ≤ (if b then max p c else p)
+alone-wanted true p c = omega arith
+alone-wanted false p c = omega arith
+
 module _ (ds : List ℕ) (n now : ℕ) (f : Front) (x : List ℕ) (s : Machine) where
-  pub goes-same : (a : Next) → GoesOn ds n now f x s a a now
-  goes-same a = record { each = λ t u table is next rests. (next, rests) }
+  pub goes-same : (a : Next) → a.planned ≡ false → GoesOn ds n now f x s a a 0
+  goes-same a un = record { each = λ t u table is next. (next, Waits un (omega arith)) }
 
-  pub goes-then : (a b c : Next) (later : ℕ) → GoesOn ds n now f x s a b now → GoesOn ds n now f x s b c later → GoesOn ds n now f x s a c later
-  goes-then a b c later one two = record {
-    each = λ t u table is next rests. let first = one.each t u table is next rests in two.each t u table is first.0 first.1;
-  }
+  pub goes-then : (a b c : Next) (sooner later : ℕ) → GoesOn ds n now f x s a b sooner → GoesOn ds n now f x s b c later → GoesOn ds n now f x s a c later
+  goes-then a b c sooner later one two = record { each = λ t u table is next. two.each t u table is (one.each t u table is next).0 }
 
-  pub goes-done : (a b : Next) → GoesOn ds n now f x s a b now → (b.planned ≡ true) ⊎ ((b.planned ≡ false) × (now < wanted_next f b)) → GoesOn ds n now f x s a b (now + 1)
-  goes-done a b goes why = record {
-    each = λ t u table is next rests. (
-      (goes.each t u table is next rests).0,
-      elim why [ inl p ↦ Planned p | inr w ↦ Waits w.0 (omega (arith, w.1)) ],
-    );
-  }
+  -- it stops at a word that is wanted later
+  pub goes-stop : (a b : Next) (sooner later : ℕ) → GoesOn ds n now f x s a b sooner → b.planned ≡ false → later ≤ wanted_next f b → GoesOn ds n now f x s a b later
+  goes-stop a b sooner later goes un late = record { each = λ t u table is next. ((goes.each t u table is next).0, Waits un late) }
 
-  -- by what a test says, it goes on at this tick or at the next
-  pub goes-if : (more : Bool) (a b : Next) → GoesOn ds n now f x s a b now → b.planned ≡ false → (more ≡ false → now < wanted_next f b)
-      → GoesOn ds n now f x s a b (if more then now else now + 1)
-  goes-if true a b goes un why = goes
-  goes-if false a b goes un why = goes-done a b goes (inr (un, why refl))
+  -- or before an entry that it waits for
+  pub goes-waits : (a : Next) (later : ℕ) → a.planned ≡ false → later ≤ max a.words.awaited (if f.serial then f.c else 0) → GoesOn ds n now f x s a a later
+  goes-waits a later un late =
+      goes-stop a a 0 later (goes-same a un) un (omega (arith, late, alone-wanted f.serial f.p f.c))
 
-  pub known-then : (a b : Next) → IsKnown ds n now f x s a → GoesOn ds n now f x s a b now → IsKnown ds n now f x s b
-  known-then a b k goes =
-      let it = goes.each k.table k.state k.indicator k.before k.is_next k.rests in
-      record { table = k.table; state = k.state; indicator = k.indicator; before = k.before; is_next = it.0; rests = it.1 }
+  pub known-then : (a b : Next) (later : ℕ) → IsKnown ds n now f x s a → GoesOn ds n now f x s a b later → IsKnown ds n now f x s b
+  known-then a b later k goes =
+      let it = goes.each k.table k.state k.indicator k.before k.is_next in
+      record { table = k.table; state = k.state; indicator = k.indicator; before = k.before; is_next = it.0 }

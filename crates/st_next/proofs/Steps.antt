@@ -21,14 +21,14 @@ use Rattle.st_segment.proofs.EntryRanges.{entry-ranges}
 use Rattle.st_segment.proofs.KnownEarly.{known-early}
 use Rattle.st_next.specs.Words.{with_word, words_so_far}
 use Rattle.st_next.specs.Known.{IsBefore}
-use Rattle.st_next.specs.Progress.{IsReadOn, IsPlanned, IsPlannedIf, Rests, Planned, Waits, Target, wanted_next}
-use Rattle.st_next.specs.Going.{GoesOn, IsPlannedAs, entry_seen}
+use Rattle.st_next.specs.Progress.{IsReadOn, IsPlanned, IsPlannedIf, Rests, Planned, Waits, Target}
+use Rattle.st_next.specs.Going.{GoesOn, IsPlannedAs, IsPreparedBy, entry_seen, prepared_as}
 use Rattle.st_next.specs.declared.next.Next.{Next}
 use Rattle.st_next.proofs.Starts.{IsNextOwn, own-more, IsNextTarget, target-more, word-behind, IsAll}
 use Rattle.st_next.proofs.Given.{contents_of, gives-own, gives-target, gives-all}
 use Rattle.st_next.proofs.Contents.{words-entry, contents-same, reading-same, given-same}
 use Rattle.st_next.proofs.WordByWord.{own-fetched, target-fetched}
-use Rattle.st_next.proofs.Late.{waits-most, waits-some}
+use Rattle.st_next.proofs.Late.{waits-some}
 
 pub planned-none : (b : Bool) (ds : List ℕ) (n : ℕ) (t : Option ℕ) (u : Machine) (f : Front) (next : Next) → b ≡ false → IsPlannedIf b ds n t u f next
 planned-none false ds n t u f next e = tt
@@ -91,7 +91,7 @@ pub entry-same : (t : Option ℕ) (u : Machine) (own target : Run) (v : Sight) �
     → v ≡ sight u (place_of u t) → entry_seen own target v ≡ entry t u
 entry-same t u own target v o g e = ap (λ v. entry_seen own target v) e ∙ entry-whole t u own target o g
 
-module _ (ds : List ℕ) (n now : ℕ) (f : Front) (x : List ℕ) (s : Machine) (before : Next) (un : before.planned ≡ false) (due : wanted_next f before ≤ now)
+module _ (ds : List ℕ) (n now : ℕ) (f : Front) (x : List ℕ) (s : Machine) (before : Next) (un : before.planned ≡ false) (due : before.words.awaited ≤ now)
     (cs : List ℕ) (contents : cs ≡ map (word s) (words_of_run before.own ++ words_of_run before.target)) where
   abbrev pub what : Giving
   what = given (left_after (reading x (word s 3) s.enabled before.place) cs)
@@ -118,15 +118,6 @@ module _ (ds : List ℕ) (n now : ℕ) (f : Front) (x : List ℕ) (s : Machine) 
   abbrev pub with_own : ℕ → Next
   with_own w = record before { words = fetch_word ds f.past before.words w (wanted_from f); own = with_word before.own w }
 
-  own-wanted : (w : ℕ) → wanted_next f before ≤ wanted_next f (with_own w)
-  unfolding fetch_word
-  own-wanted w = omega arith
-
-  own-rests : (t : Option ℕ) (u : Machine) (w : ℕ) → IsNextOwn before.own before.target (entry t u) w → Rests now t u f before → Rests now t u f (with_own w)
-  own-rests t u w is (Planned p) = absurd (cc)
-  own-rests t u w is (Waits p late) = Waits p (omega (arith, late, own-wanted w))
-  own-rests t u w is (Target p all none some late) = let more = is.more in let same : before.own.len ≡ (entry t u).own.len = ap (λ (r : Run). r.len) all in absurd (omega arith)
-
   own-read : (t : Option ℕ) (u : Machine) (w : ℕ) → IsReadOn ds t u f before → IsNextOwn before.own before.target (entry t u) w → IsReadOn ds t u f (with_own w)
   own-read t u w read is =
       let words = ap (λ (s : Fetching). fetch_word ds f.past s w (wanted_from f)) (read.words un)
@@ -138,11 +129,11 @@ module _ (ds : List ℕ) (n now : ℕ) (f : Front) (x : List ℕ) (s : Machine) 
         awaited = ap (λ (s : Fetching). s.awaited) words;
       }
 
-  pub own-goes : (w : ℕ) (after : Next) → what ≡ GivenWord w false → after ≡ with_own w → GoesOn ds n now f x s before after now
-  own-goes w after e same = subst (λ a. GoesOn ds n now f x s before a now) (sym same) (record {
-    each = λ t u table is next rests. let it = comes-own t u table is next.read_on w e in (
+  pub own-goes : (w : ℕ) (after : Next) → what ≡ GivenWord w false → after ≡ with_own w → GoesOn ds n now f x s before after 0
+  own-goes w after e same = subst (λ a. GoesOn ds n now f x s before a 0) (sym same) (record {
+    each = λ t u table is next. let it = comes-own t u table is next.read_on w e in (
       record { read_on = own-read t u w next.read_on it; planned = planned-none before.planned ds n t u f (with_own w) un },
-      own-rests t u w it rests,
+      Waits un (omega arith),
     );
   })
 
@@ -150,15 +141,6 @@ module _ (ds : List ℕ) (n now : ℕ) (f : Front) (x : List ℕ) (s : Machine) 
 
   abbrev pub with_target : ℕ → Next
   with_target w = record before { words = fetch_word ds f.past before.words w (max (wanted_from f) f.c); target = with_word before.target w }
-
-  target-wanted : (w : ℕ) → max (wanted_next f before) f.c ≤ wanted_next f (with_target w)
-  unfolding fetch_word
-  target-wanted w = omega (arith, waits-most f before.target, waits-some f (with_word before.target w) (omega arith))
-
-  target-rests : (t : Option ℕ) (u : Machine) (w : ℕ) → Rests now t u f before → Rests now t u f (with_target w)
-  target-rests t u w (Planned p) = absurd (cc)
-  target-rests t u w (Waits p late) = Waits p (omega (arith, late, target-wanted w))
-  target-rests t u w (Target p all none some late) = Waits p (omega (arith, late, target-wanted w))
 
   target-read : (t : Option ℕ) (u : Machine) (w : ℕ) → IsReadOn ds t u f before → IsNextTarget before.own before.target (entry t u) w → IsReadOn ds t u f (with_target w)
   target-read t u w read is =
@@ -171,30 +153,53 @@ module _ (ds : List ℕ) (n now : ℕ) (f : Front) (x : List ℕ) (s : Machine) 
         awaited = ap (λ (s : Fetching). s.awaited) words;
       }
 
-  pub target-goes : (w : ℕ) (after : Next) → what ≡ GivenWord w true → after ≡ with_target w → GoesOn ds n now f x s before after now
-  target-goes w after e same = subst (λ a. GoesOn ds n now f x s before a now) (sym same) (record {
-    each = λ t u table is next rests. let it = comes-target t u table is next.read_on w e in (
+  pub target-goes : (w : ℕ) (after : Next) → what ≡ GivenWord w true → after ≡ with_target w → GoesOn ds n now f x s before after 0
+  target-goes w after e same = subst (λ a. GoesOn ds n now f x s before a 0) (sym same) (record {
+    each = λ t u table is next. let it = comes-target t u table is next.read_on w e in (
       record { read_on = target-read t u w next.read_on it; planned = planned-none before.planned ds n t u f (with_target w) un },
-      target-rests t u w rests,
+      Waits un (omega arith),
     );
   })
 
   -- ---- the target waits for the last entry
 
-  waits-rests : (k : ℕ) (t : Option ℕ) (u : Machine) (w : ℕ) → before.target.len ≡ k → now < f.c → IsNextTarget before.own before.target (entry t u) w → Rests (now + 1) t u f before
-  waits-rests zero t u w none early is = Target un is.all none (let more = is.more in omega arith) (omega arith)
-  waits-rests (suc k) t u w some early is = absurd (omega (arith, due, early, waits-some f before.target (omega arith)))
+  waits-rests : (k later : ℕ) (t : Option ℕ) (u : Machine) (w : ℕ) → before.target.len ≡ k → later ≤ f.c → IsNextTarget before.own before.target (entry t u) w
+      → Rests later t u f before
+  waits-rests zero later t u w none early is = Target un is.all none (let more = is.more in omega arith) early
+  waits-rests (suc k) later t u w some early is = Waits un (omega (arith, early, waits-some f before.target (omega arith)))
 
-  pub target-waits : (w : ℕ) → what ≡ GivenWord w true → now < f.c → GoesOn ds n now f x s before before (now + 1)
-  target-waits w e early = record {
-    each = λ t u table is next rests. let it = comes-target t u table is next.read_on w e in (next, waits-rests before.target.len t u w refl early it);
+  pub target-waits : (later w : ℕ) → what ≡ GivenWord w true → later ≤ f.c → GoesOn ds n now f x s before before later
+  target-waits later w e early = record {
+    each = λ t u table is next. let it = comes-target t u table is next.read_on w e in (next, waits-rests before.target.len later t u w refl early it);
   }
+
+  -- ---- it is prepared
+
+  pub prepared-goes : (fd : Fetched) (after : Next) → after ≡ prepared_as fd x s before → GoesOn ds n now f x s before after 0
+  prepared-goes fd after same = subst (λ a. GoesOn ds n now f x s before a 0) (sym same) (record {
+    each = λ t u table is next. (
+      record {
+        read_on = record { place = next.read_on.place; first = next.read_on.first; words = next.read_on.words; awaited = next.read_on.awaited };
+        planned = planned-none before.planned ds n t u f (prepared_as fd x s before) un;
+      },
+      Waits un (omega arith),
+    );
+  })
+
+  pub prepared-by : (fd : Fetched) (after : Next) → what ≡ GivenAll fd → after ≡ prepared_as fd x s before → IsPreparedBy now x s after
+  prepared-by fd after e same = subst (IsPreparedBy now x s) (sym same) (record {
+    found = ap (λ (words : List ℕ). given (left_after (reading x (word s 3) s.enabled before.place) words)) (sym contents) ∙ e;
+    done = due;
+    needed = refl;
+    ready = refl;
+    entry = refl;
+  })
 
   -- ---- the plan
 
   pub plan-goes : (fd : Fetched) (after : Next) (later : ℕ) → what ≡ GivenAll fd → IsPlannedAs ds n f (seen before.place fd x s) before after → GoesOn ds n now f x s before after later
   plan-goes fd after later e made = record {
-    each = λ t u table is next rests.
+    each = λ t u table is next.
         let it = comes-all t u table is next.read_on fd e in
         let same = sight-same now f x s u t before.place fd is next.read_on.place it.1 in
         let v = seen before.place fd x s in

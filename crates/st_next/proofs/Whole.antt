@@ -3,16 +3,15 @@ use Rattle.std.specs.Prelude.{All}
 use Rattle.std.proofs.Common.{◌≡◌, ℕ, ◌≤◌, ◌<◌, Bool, true, false, List, ◌++◌, append_assoc, Option, refl, sym, ◌∙◌, ap, arith}
 use Rattle.std.proofs.lemmas.List.Elements.{All-append}
 use Rattle.st_state.specs.Machine.{Machine}
-use Rattle.st_rows.specs.Asked.{Read, asked, served, side_asked, following_asked, fetches_asked}
+use Rattle.st_rows.specs.Asked.{Read, asked, served, side_asked, runs_asked, following_asked, fetches_asked, prepared_asked, data_of}
 use Rattle.st_rows.specs.Rows.{fetched, tick_a, bus_a, tick_p, operands}
 use Rattle.st_rows.specs.declared.entry.Run.{Run}
 use Rattle.st_rows.specs.declared.entry.Entry.{Entry}
 use Rattle.st_rows.specs.declared.fetching.Fetching.{Fetching}
 use Rattle.st_rows.specs.declared.front.Front.{Front}
 use Rattle.st_rows.proofs.Served.{served-append, served-fetches, served-side}
-use Rattle.st_port.specs.Parts.{runs_asked, data_of}
-use Rattle.st_port.proofs.Each.{each-operand, each-following, each-of-data}
-use Rattle.st_port.proofs.Stages.{asked-parts, a-p}
+use Rattle.st_rows.proofs.Each.{each-operand, each-following, each-of-data}
+use Rattle.st_rows.proofs.Parts.{asked-parts, a-p}
 use Rattle.st_segment.specs.Entries.{entry}
 use Rattle.st_next.specs.Words.{words_alone, asked_so_far}
 use Rattle.st_next.specs.Progress.{IsPlanned, IsNext, Rests, reads_so_far}
@@ -77,11 +76,8 @@ module _ (ds : List ℕ) (n : ℕ) (t : Option ℕ) (u : Machine) (f : Front) (n
       asked-parts ds n f e ∙ sym (append_assoc (fetches_asked ds f e) (side_asked f.past e.side (tick_a ds f e)) behind)
       ∙ ap (λ reads. reads ++ behind) (sym planned-reads)
 
-  pub asked-planned : asked ds n f e
-      ≡ reads_so_far ds f next ++ (runs_asked f.past next.entry.reads next.formed.p ++ following_asked ds (operands ds n f e).bus next.entry next.formed.p)
-  asked-planned =
-      whole ∙ ap (λ (g : Entry). reads_so_far ds f next ++ (runs_asked f.past g.reads (tick_p ds n f e) ++ following_asked ds (operands ds n f e).bus g (tick_p ds n f e))) (sym planned.entry)
-      ∙ ap (λ p. reads_so_far ds f next ++ (runs_asked f.past next.entry.reads p ++ following_asked ds (operands ds n f e).bus next.entry p)) (sym planned.tick)
+  pub asked-planned : asked ds n f e ≡ reads_so_far ds f next ++ prepared_asked ds n f e
+  asked-planned = whole
 
   pub left-planned : AreLeft ds n next.formed.p t u f next
   left-planned =

@@ -1,16 +1,21 @@
 -- How the entry that is prepared next goes on, and what it takes for granted.
-use Rattle.std.specs.Prelude.{ℕ, ◌≡◌, ◌+◌, ◌-◌, ◌^◌, ◌≤◌, ◌<◌, true, ◌&&◌, if◌then◌else◌, Bool, List, ◌++◌, All, Option, IfSome, is_none, option_map}
-use Rattle.st_state.specs.Machine.{Machine}
+use Rattle.std.specs.Prelude.{ℕ, ◌≡◌, ◌+◌, ◌-◌, ◌^◌, ◌≤◌, ◌<◌, true, ◌&&◌, Bool, List, ◌++◌, All, map, Option, IfSome, is_none, option_map}
+use Rattle.st_state.specs.Machine.{Machine, word}
 use Rattle.st_prep.specs.declared.entries.Fetched.{Fetched}
 use Rattle.st_prep.specs.declared.entries.Prepared.{Prepared}
+use Rattle.st_prep.specs.declared.entries.Fetching.TheVariants.{Found as FoundAll}
 use Rattle.st_prep.specs.Plan.{Sight, seen, needs, prepared}
-use Rattle.st_rows.specs.Asked.{Read, asked}
+use Rattle.st_prep.specs.Reading.{reading, left_after, given}
+use Rattle.st_rows.specs.Asked.{Read, asked, served}
+use Rattle.st_rows.specs.Notes.{noted}
 use Rattle.st_rows.specs.Ranges.{IsTight, IsFetchingWithin, ArePastWithin}
 use Rattle.st_rows.specs.Rows.{wanted_from, tick_a, bus_a, tick_p}
 use Rattle.st_rows.specs.declared.entry.Run.{Run}
 use Rattle.st_rows.specs.declared.entry.Entry.{Entry}
 use Rattle.st_rows.specs.declared.fetching.Fetching.{Fetching}
 use Rattle.st_rows.specs.declared.front.Front.{Front}
+use Rattle.st_rows.specs.declared.log.Made.{Made}
+use Rattle.st_segment.specs.Alone.{words_of_run}
 use Rattle.st_segment.specs.Entries.{entry, side_to_read, words_to_read, words_to_write}
 use Rattle.st_next.specs.Known.{IsBefore}
 use Rattle.st_next.specs.Progress.{IsNext, Rests, reads_so_far}
@@ -23,21 +28,18 @@ pub record IsFront (n : ℕ) (f : Front) : Type 0 where
   pub tight : IsTight 255 f
   pub early : f.c ≤ 2 ^ 63 + 2 ^ 20
 
--- of how many words it is known whether they are asked for: its words so far, and the index-side word once it is planned
-abbrev pub known_count : Next → ℕ
-known_count next = next.own.len + next.target.len + (if next.planned then 1 else 0)
-
--- whatever the state before the entry is, what is known of it stays so, and nothing more can be known before the tick
+-- whatever the state before the entry is, what is known of it stays so, and then nothing more can be known before the tick `later`; by the tick `now` the
+-- entries are done that write what is read of the state
 pub record GoesOn (ds : List ℕ) (n now : ℕ) (f : Front) (x : List ℕ) (s : Machine) (before after : Next) (later : ℕ) : Type 0 where
   pub each : (t : Option ℕ) (u : Machine) → IfSome t (λ i. i < 64) → IsBefore now f.past x s u
-      → IsNext ds n t u f before → Rests now t u f before → IsNext ds n t u f after × Rests later t u f after
+      → IsNext ds n t u f before → IsNext ds n t u f after × Rests later t u f after
 
--- the reads that are asked for it come behind the others, and each is wanted at the tick or later
-pub record AreAskedMore (ds : List ℕ) (now : ℕ) (f : Front) (before after : Next) (reads more : List Read) : Type 0 where
+-- the reads that are asked for it come behind the others, are made on its bus, and are noted
+pub record IsReadFurther (ds : List ℕ) (f : Front) (before after : Next) (log new : List Made) : Type 0 where
   pub added : List Read
   pub so_far : reads_so_far ds f after ≡ reads_so_far ds f before ++ added
-  pub asked : more ≡ reads ++ added
-  pub late : All (λ (r : Read). now ≤ r.want) added
+  pub bus : after.words.bus ≡ served ds added before.words.bus
+  pub kept : new ≡ noted ds added before.words.bus log
 
 -- what is fetched so far and what the front awaits is early enough for one read more
 pub record IsEarly (f : Front) (words : Fetching) : Type 0 where
@@ -81,6 +83,15 @@ prepared_as fd x s next =
       prepared = prepared v (option_map (λ w. 0) (needs v).index_read);
       entry = entry_seen next.own next.target v;
     }
+
+-- its words tell all of it, and their writers are done by the tick `now`: it is prepared as far as it goes without its index-side word
+pub record IsPreparedBy (now : ℕ) (x : List ℕ) (s : Machine) (next : Next) : Type 0 where
+  pub found : given (left_after (reading x (word s 3) s.enabled next.place) (map (word s) (words_of_run next.own ++ words_of_run next.target))) ≡ FoundAll next.fetched
+  pub done : next.words.awaited ≤ now
+  pub needed : next.needs ≡ needs (seen next.place next.fetched x s)
+  pub ready : next.prepared
+      ≡ prepared (seen next.place next.fetched x s) (option_map (λ w. 0) (needs (seen next.place next.fetched x s)).index_read)
+  pub entry : next.entry ≡ entry_seen next.own next.target (seen next.place next.fetched x s)
 
 -- an entry of which the words are there is planned, of which so much is seen
 pub record IsPlannedAs (ds : List ℕ) (n : ℕ) (f : Front) (v : Sight) (before after : Next) : Type 0 where

@@ -73,14 +73,13 @@ pub data Rests (now : ℕ) (t : Option ℕ) (u : Machine) (f : Front) (next : Ne
   Target : next.planned ≡ false → next.own ≡ (entry_of t u).own → next.target.len ≡ 0 → 1 ≤ (entry_of t u).target.len
       → now ≤ f.c → Rests now t u f next
 
--- what the calls take for granted: there is such a state u, and nothing more is known before this tick
+-- what the calls take for granted: there is such a state u, by the entries that are done at this tick
 pub record IsKnown (ds : List ℕ) (n now : ℕ) (f : Front) (x : List ℕ) (s : Machine) (next : Next) : Type 0 where
   pub table : Option ℕ
   pub state : Machine
   pub indicator : IfSome table (λ i. i < 64)
   pub before : IsBefore now f.past x s state
   pub is_next : IsNext ds n table state f next
-  pub rests : Rests now table state f next
 
 -- it is known by some state before it, whatever the tick, the delays, the levels and the front are
 pub record IsReady (x : List ℕ) (s : Machine) (next : Next) : Type 0 where

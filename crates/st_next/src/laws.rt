@@ -1,11 +1,10 @@
 //! What holds of the reads that are asked for the entry that is prepared next.
 ghost use Rattle.std.specs.Prelude.{◌≡◌, ℕ, List, [], ◌++◌, ◌≤◌, Option, true, false, ◌<◌, if◌then◌else◌};
 ghost use Rattle.st_state.specs.Machine.{Machine};
-ghost use Rattle.st_rows.specs.Asked.{asked, served, following_asked};
+ghost use Rattle.st_rows.specs.Asked.{asked, served, prepared_asked};
 ghost use Rattle.st_prep.specs.Fetch.{place_of};
 ghost use Rattle.st_rows.specs.Rows.{tick_a, operands, wanted_from};
 ghost use Rattle.st_rows.specs.declared.front.Front.{Front};
-ghost use Rattle.st_port.specs.Parts.{runs_asked};
 ghost use Rattle.st_segment.specs.Entries.{entry};
 ghost use Rattle.st_next.specs.Progress.{IsNext, Rests, reads_so_far};
 ghost use Rattle.st_next.specs.Going.{AreLeft};
@@ -17,9 +16,7 @@ ghost use Rattle.st_next.specs.declared.next.Next.{Next};
 pub fn reads_so_far_come_first()
     ensures planned { (ds : List ℕ) (n : ℕ) (t : Option ℕ) (u : Machine) (f : Front) (next : Next) →
         IsNext ds n t u f next → next.planned ≡ true →
-        asked ds n f (entry t u) ≡ reads_so_far ds f next
-        ++ (runs_asked f.past next.entry.reads next.formed.p
-        ++ following_asked ds (operands ds n f (entry t u)).bus next.entry next.formed.p) }
+        asked ds n f (entry t u) ≡ reads_so_far ds f next ++ prepared_asked ds n f (entry t u) }
     ensures behind { (ds : List ℕ) (n : ℕ) (t : Option ℕ) (u : Machine) (f : Front) (next : Next) →
         IsNext ds n t u f next → next.planned ≡ true →
         AreLeft ds n next.formed.p t u f next }

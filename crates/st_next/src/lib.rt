@@ -4,7 +4,9 @@
 
 mod laws;
 mod next;
-mod rest;
 
-pub use laws::{entries_are_planned_in_time, reads_so_far_come_first, reads_so_far_give_the_bus};
-pub use next::{Next, Outlook};
+pub use laws::{
+    entries_are_planned_in_time, entries_begin_anywhere, reads_so_far_come_first,
+    reads_so_far_give_the_bus,
+};
+pub use next::Next;

@@ -1,34 +1,33 @@
 //! The entry that is prepared next, as far as it is known.
-ghost use Rattle.std.specs.Prelude.{◌≡◌, ℕ, ◌+◌, ◌-◌, ◌<◌, ◌≤◌, ◌^◌, true, false, max, length, take, map, List, [], ◌++◌, Option, IfSome, get_or, option_map, None, if◌then◌else◌};
+ghost use Rattle.std.specs.Prelude.{◌≡◌, ℕ, ◌+◌, ◌-◌, ◌<◌, ◌≤◌, ◌^◌, true, false, max, take, map, List, ◌++◌, Option, IfSome, get_or, if◌then◌else◌};
 ghost use Rattle.st_bits.specs.Storage.{words_of_storage};
 ghost use Rattle.st_fetch.specs.Planned.{tick_of};
 ghost use Rattle.st_state.specs.Machine.{Machine, word};
-ghost use Rattle.st_prep.specs.Fetch.{place_of as place_by};
-ghost use Rattle.st_prep.specs.Plan.{seen, plan as plan_of, prepared as prepared_of, needs as needs_of};
+ghost use Rattle.st_prep.specs.Plan.{plan as plan_of};
 ghost use Rattle.st_prep.specs.Ranges.{HasFields, IsPlace, IsFetched, IsFetching, IsPrepared};
 ghost use Rattle.st_prep.specs.Reading.{reading, left_after, given as given_of, plain, is_execute};
 ghost use Rattle.st_prep.specs.declared.entries.Fetching.TheVariants.{Found as FoundAll};
 ghost use Rattle.st_format.specs.Formats.{decoded, instruction_of, spelled_as};
-ghost use Rattle.st_rows.specs.Asked.{word_asked, side_asked};
+ghost use Rattle.st_rows.specs.Asked.{word_asked};
 ghost use Rattle.st_rows.specs.declared.front.Front.{Front as FrontAt};
+ghost use Rattle.st_rows.specs.Notes.{noted};
 ghost use Rattle.st_rows.specs.Ranges.{IsEntry};
 ghost use Rattle.st_rows.specs.Rows.{wanted_from, fetch_word};
 ghost use Rattle.st_segment.specs.Alone.{words_of_run};
 ghost use Rattle.st_segment.specs.Entries.{above_registers as above_registers_of, words_to_read as words_to_read_of, words_to_write as words_to_write_of, side_to_read as side_to_read_of, entry as entry_at};
-ghost use Rattle.st_next.specs.Words.{words_alone, words_so_far, with_word as with_word_of};
+ghost use Rattle.st_next.specs.Words.{words_alone, with_word as with_word_of};
 ghost use Rattle.st_next.specs.Known.{IsBefore};
-ghost use Rattle.st_next.specs.Progress.{IsKnown, IsReady, IsNext, Rests, wanted_next, reads_so_far};
-ghost use Rattle.st_next.specs.Going.{IsFront, IsEarly, GoesOn, AreAskedMore, known_count, entry_seen, as_entry, prepared_as, IsPlannedAs};
+ghost use Rattle.st_next.specs.Progress.{IsKnown, IsReady, IsNext};
+ghost use Rattle.st_next.specs.Going.{IsFront, IsEarly, GoesOn, IsReadFurther, IsPreparedBy, as_entry, prepared_as};
 
 use st_banks::Delays;
 use st_bits::register::FIRST_STORAGE_WORD;
 use st_format::{Decoded, Format, FullOp, decode_as, format_of};
-use st_port::Port;
 use st_prep::{
     Fetched, Fetching as Given, Needs, Place, Prepared, Words, fetch_on, halves_known,
     is_execute_format, prepare_in, prepare_without_side, side_word,
 };
-use st_rows::{Entry, Fetching, Formed, Front, Run, Runs};
+use st_rows::{Bus, Entry, Fetching, Formed, Front, Log, Run, Runs};
 use st_state::State;
 
 /// The entry that is prepared next, as far as it is known.
@@ -56,19 +55,6 @@ pub struct Next {
     pub formed: Formed,
 }
 
-/// What the entry is read on by at a tick.
-#[derive(Clone, Copy)]
-pub struct Outlook<'a> {
-    /// The tick.
-    pub tick: u64,
-    /// How many levels the machine has, 1 to 8.
-    pub levels: usize,
-    /// The front that its row is computed from.
-    pub front: &'a Front,
-    /// The index words that run ahead.
-    pub x: &'a [u64; 16],
-}
-
 // An instruction of which the half-words and the format are known.
 #[derive(Clone, Copy)]
 struct Spelled {
@@ -78,78 +64,34 @@ struct Spelled {
 }
 
 impl Next {
-    /// The entry at a place behind the front, of which no word is asked for.
-    pub fn new(place: Place, front: &Front) -> Next
-        ensures next { (ds : List ℕ) (n : ℕ) (t : Option ℕ) (u : Machine) → place ≡ place_by u t →
-            IsNext ds n t u front.now result }
-        ensures rests { (now : ℕ) (t : Option ℕ) (u : Machine) → now ≤ wanted_from front.now →
-            Rests now t u front.now result }
-        ensures reads { (ds : List ℕ) → reads_so_far ds front.now result ≡ [] }
+    /// The entry at a place, of which no word is asked for, on this bus.
+    pub fn new(place: Place, bus: Bus) -> Next
         ensures place { result.place ≡ place }
         ensures own { result.own ≡ record { first = 0; len = 0 } }
         ensures target { result.target ≡ record { first = 0; len = 0 } }
-        ensures words { result.words ≡ record { bus = front.now.bus; answered = 0; awaited = 0 } }
+        ensures words { result.words ≡ record { bus = bus; answered = 0; awaited = 0 } }
         ensures unplanned { result.planned ≡ false }
-        ensures none { known_count result ≡ 0 }
     {
         Next {
             place,
-            words: Fetching::new(front.bus),
+            words: Fetching::new(bus),
             ..Next::default()
         }
     }
 
-    /// The entry at another place behind the front, of which no word is asked for.
-    pub fn restart(&mut self, place: Place, front: &Front)
-        ensures next { (ds : List ℕ) (n : ℕ) (t : Option ℕ) (u : Machine) → place ≡ place_by u t →
-            IsNext ds n t u front.now self.new }
-        ensures rests { (now : ℕ) (t : Option ℕ) (u : Machine) → now ≤ wanted_from front.now →
-            Rests now t u front.now self.new }
-        ensures reads { (ds : List ℕ) → reads_so_far ds front.now self.new ≡ [] }
+    /// The entry at another place, of which no word is asked for, on the bus behind the last one.
+    pub fn restart(&mut self, place: Place)
+        ensures place { self.new.place ≡ place }
         ensures own { self.new.own ≡ record { first = 0; len = 0 } }
         ensures target { self.new.target ≡ record { first = 0; len = 0 } }
-        ensures words { self.new.words ≡ record { bus = front.now.bus; answered = 0; awaited = 0 } }
+        ensures words { self.new.words ≡ record { bus = self.old.words.bus; answered = 0; awaited = 0 } }
         ensures unplanned { self.new.planned ≡ false }
-        ensures none { known_count self.new ≡ 0 }
     {
         self.place = place;
         self.own = Run::default();
         self.target = Run::default();
-        self.words.restart(&front.bus);
+        self.words.restart();
         self.planned = false;
-    }
-
-    // The tick from which on its next word is wanted, as far as the words so far tell.
-    pub(crate) fn wanted(&self, front: &Front) -> u64
-        ensures { result ≡ wanted_next front.now self.now }
-    {
-        let waits = if self.target.len == 0 { 0 } else { front.c };
-        front
-            .wanted_from()
-            .max(waits)
-            .max(self.words.answered)
-            .max(self.words.awaited)
-    }
-
-    /// Whether its next word is wanted by the tick, as far as the words so far tell.
-    #[inline(always)]
-    pub fn is_due(&self, front: &Front, tick: u64) -> bool
-        ensures due { result ≡ true → wanted_next front.now self.now ≤ tick }
-        ensures later { result ≡ false → tick < wanted_next front.now self.now }
-    {
-        if self.words.answered > tick {
-            return false;
-        }
-        if self.words.awaited > tick {
-            return false;
-        }
-        if front.wanted_from() > tick {
-            return false;
-        }
-        if self.target.len == 0 {
-            return true;
-        }
-        front.c <= tick
     }
 
     // The address of one of the words so far, 0 behind them.
@@ -218,118 +160,152 @@ impl Next {
 
     // Asks for an instruction word that is wanted from `from` on, unless it is held.
     #[inline(always)]
-    fn ask(&mut self, w: u32, from: u64, front: &Front, delays: &Delays, port: &mut Port)
+    fn ask(&mut self, w: u32, from: u64, front: &Front, delays: &Delays, log: &mut Log)
         requires room { IsEarly front.now self.old.words }
         requires early { from ≤ 2 ^ 64 - 512 }
         requires storage { 32 ≤ w }
-        requires few { length port.old.reads < 40 }
         ensures words { self.new ≡ record self.old {
           words =
               fetch_word delays.now front.now.past self.old.words w from;
         } }
-        ensures reads { port.new.reads ≡ port.old.reads ++ word_asked
+        ensures log { log.new ≡ noted delays.now (word_asked
             (tick_of self.old.words.bus.held.words w) w
-            (max (max from self.old.words.answered) self.old.words.awaited) }
-        ensures bus { port.new.bus ≡ port.old.bus }
+            (max (max from self.old.words.answered) self.old.words.awaited)) self.old.words.bus log.old }
     {
-        let want = from.max(self.words.answered).max(self.words.awaited);
-        if self.words.word(delays, &front.past, w, from) {
-            port.ask(w, want, true);
-        }
+        self.words.word(log, delays, &front.past, w, from);
     }
 
     // Asks for a word of its own.
     #[inline(always)]
-    fn ask_own(&mut self, w: u32, front: &Front, delays: &Delays, port: &mut Port)
+    fn ask_own(&mut self, w: u32, front: &Front, delays: &Delays, log: &mut Log)
         requires words { self.old.own.len ≤ 16 }
         requires room { IsEarly front.now self.old.words }
         requires storage { 32 ≤ w }
-        requires few { length port.old.reads < 40 }
         ensures next { self.new ≡ record self.old {
           words = fetch_word delays.now front.now.past self.old.words w (wanted_from front.now);
           own = with_word_of self.old.own w;
         } }
-        ensures reads { port.new.reads ≡ port.old.reads ++ word_asked
+        ensures log { log.new ≡ noted delays.now (word_asked
             (tick_of self.old.words.bus.held.words w) w
-            (max (max (wanted_from front.now) self.old.words.answered) self.old.words.awaited) }
-        ensures bus { port.new.bus ≡ port.old.bus }
+            (max (max (wanted_from front.now) self.old.words.answered) self.old.words.awaited)) self.old.words.bus log.old }
     {
-        self.ask(w, front.wanted_from(), front, delays, port);
+        self.ask(w, front.wanted_from(), front, delays, log);
         self.own = with_word(self.own, w);
     }
 
     // Asks for a word of the target of EX, which waits for the entry before.
     #[inline(never)]
-    fn ask_target(&mut self, w: u32, front: &Front, delays: &Delays, port: &mut Port)
+    fn ask_target(&mut self, w: u32, front: &Front, delays: &Delays, log: &mut Log)
         requires words { self.old.target.len ≤ 16 }
         requires room { IsEarly front.now self.old.words }
         requires storage { 32 ≤ w }
-        requires few { length port.old.reads < 40 }
         ensures next { self.new ≡ record self.old {
           words = fetch_word delays.now front.now.past self.old.words w
               (max (wanted_from front.now) front.now.c);
           target = with_word_of self.old.target w;
         } }
-        ensures reads { port.new.reads ≡ port.old.reads ++ word_asked
+        ensures log { log.new ≡ noted delays.now (word_asked
             (tick_of self.old.words.bus.held.words w) w
             (max (max (max (wanted_from front.now) front.now.c) self.old.words.answered)
-            self.old.words.awaited) }
-        ensures bus { port.new.bus ≡ port.old.bus }
+            self.old.words.awaited)) self.old.words.bus log.old }
     {
-        self.ask(w, front.wanted_from().max(front.c), front, delays, port);
+        self.ask(w, front.wanted_from().max(front.c), front, delays, log);
         self.target = with_word(self.target, w);
     }
 
-    /// Asks for its next word where that is one of its own, at a tick by which it is wanted: so an entry begins of which no word is asked for.
+    // The last completion that it waits for, as far as its words so far tell: that of an entry that writes one of them, or of the one before it that is
+    // done alone.
     #[inline(always)]
-    pub fn begin(&mut self, outlook: &Outlook, state: &State, delays: &Delays, port: &mut Port)
-        requires known { IsKnown delays.now outlook.now.levels outlook.now.tick
-            outlook.now.front.now outlook.now.x.now state.now self.old }
-        requires front { IsFront outlook.now.levels outlook.now.front.now }
-        requires unplanned { self.old.planned ≡ false }
-        requires due { wanted_next outlook.now.front.now self.old ≤ outlook.now.tick }
-        requires room { length port.old.reads + 5 ≤ 40 + known_count self.old }
-        ensures next { GoesOn delays.now outlook.now.levels outlook.now.tick outlook.now.front.now
-            outlook.now.x.now state.now self.old self.new outlook.now.tick }
-        ensures reads { AreAskedMore delays.now outlook.now.tick outlook.now.front.now
-            self.old self.new port.old.reads port.new.reads }
-        ensures bus { port.new.bus ≡ port.old.bus }
-        ensures few { length port.new.reads + known_count self.old
-            ≤ length port.old.reads + known_count self.new }
-        ensures unplanned { self.new.planned ≡ false }
+    fn waits_for(&self, front: &Front) -> u64
+        ensures { result ≡ max self.now.words.awaited (if front.now.serial then front.now.c else 0) }
     {
-        delays.shape();
-        match self.given(outlook.x, state) {
-            Given::Next {
-                word,
-                target: false,
-            } => self.ask_own(word, outlook.front, delays, port),
-            _ => {}
-        }
+        let alone = if front.serial { front.c } else { 0 };
+        self.words.awaited.max(alone)
     }
 
-    /// Reads it on as far as the tick allows, by which its next word is wanted: asks for the words that are known by now, and once they all
-    /// are plans it. Whatever the state before it is, what is known of it stays so, and nothing more of it can be known before the next tick.
+    /// Plans it: its words are asked for, one after another, and with them it is prepared as far as it goes without its index-side word. It stops at a
+    /// word that an entry writes which is done at the tick `due` or later, and at one that waits for the entry before until then, and goes on behind that
+    /// word when it is called again. The result says whether it is planned. Whatever the state before it is, what is known of it stays so; where it is not
+    /// planned, nothing more of it can be known before that tick.
     #[inline(never)]
-    pub fn advance(&mut self, outlook: &Outlook, state: &State, delays: &Delays, port: &mut Port)
-        requires known { IsKnown delays.now outlook.now.levels outlook.now.tick
-            outlook.now.front.now outlook.now.x.now state.now self.old }
-        requires front { IsFront outlook.now.levels outlook.now.front.now }
+    pub fn plan_before(
+        &mut self,
+        due: u64,
+        levels: usize,
+        front: &Front,
+        x: &[u64; 16],
+        state: &State,
+        delays: &Delays,
+        log: &mut Log,
+    ) -> bool
+        requires known { max self.old.words.awaited (if front.now.serial then front.now.c else 0) < due →
+            IsKnown delays.now levels (due - 1) front.now x.now state.now self.old }
+        requires front { IsFront levels front.now }
         requires unplanned { self.old.planned ≡ false }
-        requires due { wanted_next outlook.now.front.now self.old ≤ outlook.now.tick }
-        requires room { length port.old.reads + 5 ≤ 40 + known_count self.old }
-        ensures next { GoesOn delays.now outlook.now.levels outlook.now.tick outlook.now.front.now
-            outlook.now.x.now state.now self.old self.new (outlook.now.tick + 1) }
-        ensures reads { AreAskedMore delays.now outlook.now.tick outlook.now.front.now
-            self.old self.new port.old.reads port.new.reads }
-        ensures bus { port.new.bus ≡ port.old.bus }
-        ensures few { length port.new.reads + known_count self.old
-            ≤ length port.old.reads + known_count self.new }
-        ensures planned { self.new.planned ≡ true → outlook.now.tick < self.new.formed.a }
+        ensures next { GoesOn delays.now levels (due - 1) front.now x.now state.now self.old self.new due }
+        ensures further { IsReadFurther delays.now front.now self.old self.new log.old log.new }
+        ensures planned { result ≡ self.new.planned }
+        ensures still { due ≤ max self.old.words.awaited (if front.now.serial then front.now.c else 0) →
+            (self.new ≡ self.old) × (log.new ≡ log.old) }
     {
+        delays.shape();
+        if self.waits_for(front) >= due {
+            return false;
+        }
+        if !self.prepare_before(due, levels, front, x, state, delays, log) {
+            return false;
+        }
+        self.formed = front.form(delays, levels, &self.entry, &mut self.words, log);
+        self.planned = true;
+        true
+    }
+
+    // Prepares it as far as it goes without its index-side word, however far its words are asked for, and whatever they are.
+    #[inline(always)]
+    fn prepare_before(
+        &mut self,
+        due: u64,
+        levels: usize,
+        front: &Front,
+        x: &[u64; 16],
+        state: &State,
+        delays: &Delays,
+        log: &mut Log,
+    ) -> bool
+        requires known { IsKnown delays.now levels (due - 1) front.now x.now state.now self.old }
+        requires front { IsFront levels front.now }
+        requires unplanned { self.old.planned ≡ false }
+        ensures next { GoesOn delays.now levels (due - 1) front.now x.now state.now self.old self.new
+            (if result then 0 else due) }
+        ensures further { IsReadFurther delays.now front.now self.old self.new log.old log.new }
+        ensures unplanned { self.new.planned ≡ false }
+        ensures prepared { result ≡ true → IsPreparedBy (due - 1) x.now state.now self.new }
+    {
+        delays.shape();
         'words: loop {
-            if !self.go_on(outlook, state, delays, port) {
-                return;
+            if self.words.awaited >= due {
+                return false;
+            }
+            if let Some(spelled) = self.spelled(state) {
+                self.prepare_spelled(spelled, x, state);
+                return true;
+            }
+            let _ = levels;
+            match self.given(x, state) {
+                Given::Next {
+                    word,
+                    target: false,
+                } => self.ask_own(word, front, delays, log),
+                Given::Next { word, target: true } => {
+                    if front.c >= due {
+                        return false;
+                    }
+                    self.ask_target(word, front, delays, log);
+                }
+                Given::Found(fetched) => {
+                    self.prepare_found(fetched, x, state);
+                    return true;
+                }
             }
         }
     }
@@ -368,130 +344,6 @@ impl Next {
         self.prepared.place = self.place;
         let mut after = *x;
         prepare_in(&mut self.prepared, &self.fetched, &mut after, read, state);
-    }
-
-    // Reads it on by one word, or plans it, unless the target of EX waits for the entry before. The result says whether one more is wanted by
-    // the tick.
-    #[inline(always)]
-    fn go_on(&mut self, outlook: &Outlook, state: &State, delays: &Delays, port: &mut Port) -> bool
-        requires known { IsKnown delays.now outlook.now.levels outlook.now.tick
-            outlook.now.front.now outlook.now.x.now state.now self.old }
-        requires front { IsFront outlook.now.levels outlook.now.front.now }
-        requires unplanned { self.old.planned ≡ false }
-        requires due { wanted_next outlook.now.front.now self.old ≤ outlook.now.tick }
-        requires room { length port.old.reads + 5 ≤ 40 + known_count self.old }
-        ensures next { GoesOn delays.now outlook.now.levels outlook.now.tick outlook.now.front.now
-            outlook.now.x.now state.now self.old self.new
-            (if result then outlook.now.tick else outlook.now.tick + 1) }
-        ensures reads { AreAskedMore delays.now outlook.now.tick outlook.now.front.now
-            self.old self.new port.old.reads port.new.reads }
-        ensures bus { port.new.bus ≡ port.old.bus }
-        ensures more { result ≡ true → known_count self.new ≡ known_count self.old + 1 }
-        ensures most { known_count self.old ≤ 4 }
-        ensures few { length port.new.reads + known_count self.old
-            ≤ length port.old.reads + known_count self.new }
-        ensures planned { self.new.planned ≡ true → outlook.now.tick < self.new.formed.a }
-        ensures unplanned { result ≡ true → self.new.planned ≡ false }
-        ensures due { result ≡ true → wanted_next outlook.now.front.now self.new ≤ outlook.now.tick }
-    {
-        match self.spelled(state) {
-            Some(spelled) => {
-                self.plan_spelled(spelled, outlook, state, delays, port);
-                false
-            }
-            None => {
-                let outlook = *outlook;
-                self.go_on_seldom(&outlook, state, delays, port)
-            }
-        }
-    }
-
-    // The same where its words do not tell all of it, or where it is EX.
-    #[inline(never)]
-    fn go_on_seldom(
-        &mut self,
-        outlook: &Outlook,
-        state: &State,
-        delays: &Delays,
-        port: &mut Port,
-    ) -> bool
-        requires known { IsKnown delays.now outlook.now.levels outlook.now.tick
-            outlook.now.front.now outlook.now.x.now state.now self.old }
-        requires front { IsFront outlook.now.levels outlook.now.front.now }
-        requires unplanned { self.old.planned ≡ false }
-        requires due { wanted_next outlook.now.front.now self.old ≤ outlook.now.tick }
-        requires room { length port.old.reads + 5 ≤ 40 + known_count self.old }
-        ensures next { GoesOn delays.now outlook.now.levels outlook.now.tick outlook.now.front.now
-            outlook.now.x.now state.now self.old self.new
-            (if result then outlook.now.tick else outlook.now.tick + 1) }
-        ensures reads { AreAskedMore delays.now outlook.now.tick outlook.now.front.now
-            self.old self.new port.old.reads port.new.reads }
-        ensures bus { port.new.bus ≡ port.old.bus }
-        ensures more { result ≡ true → known_count self.new ≡ known_count self.old + 1 }
-        ensures most { known_count self.old ≤ 4 }
-        ensures few { length port.new.reads + known_count self.old
-            ≤ length port.old.reads + known_count self.new }
-        ensures planned { self.new.planned ≡ true → outlook.now.tick < self.new.formed.a }
-        ensures unplanned { result ≡ true → self.new.planned ≡ false }
-        ensures due { result ≡ true → wanted_next outlook.now.front.now self.new ≤ outlook.now.tick }
-    {
-        if !self.go_on_by_words(outlook, state, delays, port) {
-            return false;
-        }
-        if self.planned {
-            return false;
-        }
-        self.is_due(outlook.front, outlook.tick)
-    }
-
-    // Reads it on by one word, or plans it, whatever its words are, unless the target of EX waits for the entry before. The result says whether
-    // it went on.
-    fn go_on_by_words(
-        &mut self,
-        outlook: &Outlook,
-        state: &State,
-        delays: &Delays,
-        port: &mut Port,
-    ) -> bool
-        requires known { IsKnown delays.now outlook.now.levels outlook.now.tick
-            outlook.now.front.now outlook.now.x.now state.now self.old }
-        requires front { IsFront outlook.now.levels outlook.now.front.now }
-        requires unplanned { self.old.planned ≡ false }
-        requires due { wanted_next outlook.now.front.now self.old ≤ outlook.now.tick }
-        requires room { length port.old.reads + 5 ≤ 40 + known_count self.old }
-        ensures next { GoesOn delays.now outlook.now.levels outlook.now.tick outlook.now.front.now
-            outlook.now.x.now state.now self.old self.new
-            (if result then outlook.now.tick else outlook.now.tick + 1) }
-        ensures reads { AreAskedMore delays.now outlook.now.tick outlook.now.front.now
-            self.old self.new port.old.reads port.new.reads }
-        ensures bus { port.new.bus ≡ port.old.bus }
-        ensures more { result ≡ true → known_count self.new ≡ known_count self.old + 1 }
-        ensures most { known_count self.old ≤ 4 }
-        ensures few { length port.new.reads + known_count self.old
-            ≤ length port.old.reads + known_count self.new }
-        ensures planned { self.new.planned ≡ true → outlook.now.tick < self.new.formed.a }
-    {
-        delays.shape();
-        match self.given(outlook.x, state) {
-            Given::Next {
-                word,
-                target: false,
-            } => {
-                self.ask_own(word, outlook.front, delays, port);
-                true
-            }
-            Given::Next { word, target: true } => {
-                if outlook.tick < outlook.front.c {
-                    return false;
-                }
-                self.ask_target(word, outlook.front, delays, port);
-                true
-            }
-            Given::Found(fetched) => {
-                self.plan_found(fetched, outlook, state, delays, port);
-                true
-            }
-        }
     }
 
     // The instruction with its format, where its words tell all of it and it is not EX. Its words are its own.
@@ -534,65 +386,17 @@ impl Next {
         None
     }
 
-    // Plans the entry, which is this instruction.
-    #[inline(always)]
-    fn plan_spelled(
-        &mut self,
-        spelled: Spelled,
-        outlook: &Outlook,
-        state: &State,
-        delays: &Delays,
-        port: &mut Port,
-    )
-        requires place { IsPlace self.old.place }
-        requires format { spelled_as spelled.format spelled.first spelled.second
-            ≡ instruction_of spelled.first spelled.second }
-        requires front { IsFront outlook.now.levels outlook.now.front.now }
-        requires entry { IsEntry (entry_seen self.old.own self.old.target (seen self.old.place
-            (plain (decoded spelled.first spelled.second)) outlook.now.x.now state.now)) }
-        requires words { self.old.words
-            ≡ words_so_far delays.now outlook.now.front.now self.old.own self.old.target }
-        requires few { length port.old.reads < 40 }
-        ensures next { IsPlannedAs delays.now outlook.now.levels outlook.now.front.now
-            (seen self.old.place (plain (decoded spelled.first spelled.second)) outlook.now.x.now state.now)
-            self.old self.new }
-        ensures reads { port.new.reads ≡ port.old.reads
-            ++ side_asked outlook.now.front.now.past self.new.entry.side self.new.formed.a }
-        ensures bus { port.new.bus ≡ port.old.bus }
-    {
-        self.prepare_spelled(spelled, outlook.x, state);
-        self.plan(outlook, state, delays, port);
-    }
-
-    // Plans the entry, of which this is fetched.
+    // Prepares the entry, of which this is fetched, as far as it goes without its index-side word.
     #[inline(never)]
-    fn plan_found(
-        &mut self,
-        fetched: Fetched,
-        outlook: &Outlook,
-        state: &State,
-        delays: &Delays,
-        port: &mut Port,
-    )
+    fn prepare_found(&mut self, fetched: Fetched, x: &[u64; 16], state: &State)
         requires place { IsPlace self.old.place }
         requires fetched { IsFetched fetched }
-        requires front { IsFront outlook.now.levels outlook.now.front.now }
-        requires entry { IsEntry (entry_seen self.old.own self.old.target
-            (seen self.old.place fetched outlook.now.x.now state.now)) }
-        requires words { self.old.words
-            ≡ words_so_far delays.now outlook.now.front.now self.old.own self.old.target }
-        requires few { length port.old.reads < 40 }
-        ensures next { IsPlannedAs delays.now outlook.now.levels outlook.now.front.now
-            (seen self.old.place fetched outlook.now.x.now state.now) self.old self.new }
-        ensures reads { port.new.reads ≡ port.old.reads
-            ++ side_asked outlook.now.front.now.past self.new.entry.side self.new.formed.a }
-        ensures bus { port.new.bus ≡ port.old.bus }
+        ensures value { self.new ≡ prepared_as fetched x.now state.now self.old }
     {
         self.fetched = fetched;
         self.prepared.place = self.place;
-        self.needs = prepare_without_side(&mut self.prepared, &self.fetched, outlook.x, state);
+        self.needs = prepare_without_side(&mut self.prepared, &self.fetched, x, state);
         self.show();
-        self.plan(outlook, state, delays, port);
     }
 
     // Prepares the entry, which is this instruction, as far as it goes without its index-side word. What follows knows the format of
@@ -670,34 +474,6 @@ impl Next {
         entry.cost = prepared.cost;
         entry.serial = prepared.serial;
         entry.follows = prepared.place.table.is_none() && self.fetched.fault.is_none();
-    }
-
-    // Plans the entry, which is prepared as far as it goes without its index-side word.
-    #[inline(always)]
-    fn plan(&mut self, outlook: &Outlook, state: &State, delays: &Delays, port: &mut Port)
-        requires front { IsFront outlook.now.levels outlook.now.front.now }
-        requires needed { self.old.needs
-            ≡ needs_of (seen self.old.place self.old.fetched outlook.now.x.now state.now) }
-        requires ready { let v = seen self.old.place self.old.fetched outlook.now.x.now state.now in
-            self.old.prepared ≡ prepared_of v (option_map (λ w. 0) (needs_of v).index_read) }
-        requires shown { self.old.entry ≡ entry_seen self.old.own self.old.target
-            (seen self.old.place self.old.fetched outlook.now.x.now state.now) }
-        requires entry { IsEntry (entry_seen self.old.own self.old.target
-            (seen self.old.place self.old.fetched outlook.now.x.now state.now)) }
-        requires words { self.old.words
-            ≡ words_so_far delays.now outlook.now.front.now self.old.own self.old.target }
-        requires few { length port.old.reads < 40 }
-        ensures next { IsPlannedAs delays.now outlook.now.levels outlook.now.front.now
-            (seen self.old.place self.old.fetched outlook.now.x.now state.now) self.old self.new }
-        ensures reads { port.new.reads ≡ port.old.reads
-            ++ side_asked outlook.now.front.now.past self.new.entry.side self.new.formed.a }
-        ensures bus { port.new.bus ≡ port.old.bus }
-    {
-        let _ = state;
-        let front = outlook.front;
-        self.formed = front.form(delays, outlook.levels, &self.entry, &mut self.words);
-        self.planned = true;
-        port.ask_side(&front.past, self.entry.side, self.formed.a);
     }
 }
 

@@ -18,7 +18,7 @@ use Rattle.st_segment.specs.Alone.{RunAhead}
 use Rattle.st_segment.specs.Ahead.{Ahead, next_ahead, ahead, front_behind, prepared_before}
 use Rattle.st_segment.proofs.EntryRanges.{entry-ranges}
 use Rattle.st_segment.proofs.GuessLemmas.{guess-machine, ahead-next, behind-none}
-use Rattle.st_port.proofs.Made.{before-cases}
+use Rattle.st_rows.proofs.MadeLemmas.{before-cases}
 use Rattle.st_refine.specs.Refined.{AddsOneAtMost}
 
 -- ---- ticks of a row

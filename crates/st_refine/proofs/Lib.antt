@@ -8,3 +8,4 @@ pub mod LentLemmas
 pub mod OpeningLemmas
 pub mod RowLemmas
 pub mod StillLemmas
+pub mod Laws

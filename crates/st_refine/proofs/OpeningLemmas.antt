@@ -16,7 +16,7 @@ use Rattle.st_rows.specs.declared.entry.Entry.{Entry}
 use Rattle.st_rows.specs.declared.front.Front.{Front}
 use Rattle.st_rows.proofs.Awaited.{ready-after}
 use Rattle.st_rows.proofs.Served.{served-append, served-asked}
-use Rattle.st_port.proofs.Made.{made-append, all-made}
+use Rattle.st_rows.proofs.MadeLemmas.{made-behind}
 use Rattle.st_segment.specs.Entries.{entry}
 use Rattle.st_segment.specs.Guesses.{table_behind}
 use Rattle.st_segment.specs.Ahead.{ahead, reads_before}
@@ -82,13 +82,6 @@ changes-none (x ∷ xs) s before =
 banks-of : List ℕ → ℕ → ℕ → Option ℕ → Machine → Front → Entry → LastAnswers
 banks-of ds n c t s f e =
     (made_before ds c (asked ds n f e ++ reads_before ds n c (ahead ds n (suc n) None (guess t s) (after ds n f e))) f.bus).banks
-
--- reads that are all accepted before come first
-made-behind : (ds : List ℕ) (t : ℕ) (xs ys : List Read) (b : Bus) → (served ds xs b).free ≤ t
-    → made_before ds t (xs ++ ys) b ≡ made_before ds t ys (served ds xs b)
-made-behind ds t xs ys b early =
-    let all = all-made ds t xs b early in
-    sym (made-append ds t xs ys b) ∙ ap₂ (λ (left : List Read) (c : Bus). made_before ds t (left ++ ys) c) all.1 all.0
 
 free-done : (ds : List ℕ) (n : ℕ) (f : Front) (e : Entry) → f.bus.free ≤ (row ds n f e).c
 unfolding row tick_a tick_p tick_c addressed prepared

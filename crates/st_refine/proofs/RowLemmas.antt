@@ -8,7 +8,7 @@ use Rattle.st_rows.specs.declared.front.Front.{Front}
 use Rattle.st_segment.specs.Entries.{entry}
 use Rattle.st_segment.specs.Ahead.{ahead, prepared_before}
 use Rattle.st_segment.specs.Guesses.{table_behind}
-use Rattle.st_port.proofs.Made.{before-cases}
+use Rattle.st_rows.proofs.MadeLemmas.{before-cases}
 use Rattle.st_ahead.specs.Overlap.{Overlap, seen, oldest_row, levels_of, last_tick}
 use Rattle.st_refine.specs.Reached.{IsReached}
 use Rattle.st_refine.specs.Refined.{row_of}

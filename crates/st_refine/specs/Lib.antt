@@ -1,3 +1,4 @@
 pub mod Reached
 pub mod Refined
 pub mod Openings
+pub mod Laws

@@ -8,6 +8,10 @@ pub mod Tight
 pub mod Turns
 pub mod Within
 pub mod NoteLemmas
+pub mod Noted
+pub mod Each
+pub mod MadeLemmas
+pub mod Parts
 pub mod LogLaws
 pub mod Writers
 mod Shifted

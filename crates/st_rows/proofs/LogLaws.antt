@@ -1,10 +1,13 @@
 -- What a log of reads is good for, proved.
-use Rattle.std.proofs.Common.{◌<◌, List, ◌∷◌, ◌++◌, take, sym, ap, ◌∙◌, append_assoc, arith}
+use Rattle.std.proofs.Common.{◌≡◌, ℕ, ◌<◌, List, [], ◌∷◌, ◌++◌, take, refl, sym, subst, ap, ◌∙◌, append_assoc, arith}
+use Rattle.std.proofs.lemmas.List.{append-nil}
 use Rattle.std.proofs.lemmas.List.Elements.{All-append, All-weaker}
-use Rattle.st_rows.specs.Asked.{served}
-use Rattle.st_rows.specs.Notes.{note, logged, undone}
+use Rattle.st_rows.specs.Asked.{Read, after_one, served}
+use Rattle.st_rows.specs.Notes.{note, logged, noted, undone, IsLogged}
 use Rattle.st_rows.specs.LogLaws.{AcceptsRise, UndoneIsMadeBefore, FewAreUndone, LogsGoOn}
+use Rattle.st_rows.specs.declared.bus.Bus.{Bus}
 use Rattle.st_rows.specs.declared.log.Made.{Made}
+use Rattle.st_rows.proofs.Served.{served-append}
 use Rattle.st_rows.proofs.NoteLemmas.{opened-log, logged-falls, logged-append, logged-more, logged-early, length-logged, undone-take, undone-made, drop-early, take-more}
 
 pub accepts_rise : AcceptsRise
@@ -52,3 +55,18 @@ logs_go_on = record {
         ∙ ap (take 64) (append_assoc (logged ds rest (served ds first b)) (logged ds first b) is.older);
   };
 }
+
+served-one : (ds : List ℕ) (reads : List Read) (r : Read) (b : Bus) → served ds (reads ++ r ∷ []) b ≡ after_one ds (served ds reads b) r
+unfolding served
+served-one ds reads r b = served-append ds reads (r ∷ []) b
+
+-- the log after more reads
+pub logged-noted : (ds : List ℕ) (now : ℕ) (reads added : List Read) (b : Bus) (log : List Made) → IsLogged ds now reads b log
+    → IsLogged ds now (reads ++ added) b (noted ds added (served ds reads b) log)
+unfolding noted
+logged-noted ds now reads [] b log is = subst (λ (l : List Read). IsLogged ds now l b log) (sym (append-nil reads)) is
+logged-noted ds now reads (r ∷ added) b log is =
+    let one = logs_go_on.made ds now reads r b log is in
+    let rest = logged-noted ds now (reads ++ r ∷ []) added b (take 64 (note (served ds reads b) r ∷ log)) one in
+    let bus : served ds (reads ++ r ∷ []) b ≡ after_one ds (served ds reads b) r = served-one ds reads r b in
+    rw (append_assoc reads (r ∷ []) added, bus) at rest

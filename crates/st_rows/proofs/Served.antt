@@ -4,7 +4,7 @@ use Rattle.std.proofs.Common.{◌≡◌, ℕ, zero, suc, ◌+◌, ◌<◌, ◌�
 use Rattle.std.proofs.lemmas.Bool.{cases_Bool, ltb-true}
 use Rattle.st_bits.specs.Storage.{words_of_storage}
 use Rattle.st_fetch.specs.Planned.{tick_of}
-use Rattle.st_rows.specs.Asked.{Read, word_asked, words_asked, data_asked, side_asked, operands_asked, inside_asked, following_asked, fetches_asked, asked, after_one, served, made_before, side_count, own_reads}
+use Rattle.st_rows.specs.Asked.{Read, word_asked, words_asked, data_asked, side_asked, operands_asked, inside_asked, runs_asked, following_asked, fetches_asked, asked, after_one, served, made_before, side_count, own_reads}
 use Rattle.st_rows.specs.BusTimes.{Reading, accept_at, answer_at, after_read, requested_if, requested}
 use Rattle.st_rows.specs.Ranges.{AreDelays, IsNear}
 use Rattle.st_rows.specs.Rows.{fetch_word, fetch_words, wanted_from, fetched, is_forwarded, bus_sided, read_word, read_words, operands_read, request_inside, bus_followed, tick_a, bus_a, tick_p, operands, after}
@@ -25,12 +25,12 @@ module _ (ds : List ℕ) where
   served-append [] ys b = refl
   served-append (x ∷ xs) ys b = served-append xs ys (after_one ds b x)
 
-  served-word : (o : Option ℕ) (w want : ℕ) (b : Bus) → served ds (word_asked o w want) b ≡ requested_if o ds b w want
+  pub served-word : (o : Option ℕ) (w want : ℕ) (b : Bus) → served ds (word_asked o w want) b ≡ requested_if o ds b w want
   unfolding served
   served-word (Some t) w want b = refl
   served-word None w want b = refl
 
-  served-words : (past : List Past) (from : ℕ) (s : Fetching) (w n : ℕ)
+  pub served-words : (past : List Past) (from : ℕ) (s : Fetching) (w n : ℕ)
       → served ds (words_asked ds past s from w n) s.bus ≡ (fetch_words ds past s from w n).bus
   unfolding words_asked fetch_words fetch_word requested
   served-words past from s w zero = served-none s.bus
@@ -45,16 +45,21 @@ module _ (ds : List ℕ) where
   data_if true w tick b = refl
   data_if false w tick b = refl
 
-  pub served-side : (past : List Past) (side : Option ℕ) (a : ℕ) (b : Bus) → served ds (side_asked past side a) b ≡ bus_sided ds past b side a
-  unfolding side_asked bus_sided
-  served-side past None a b = served-none b
-  served-side past (Some w) a b = data_if (is_forwarded past w a) w a b
-
   bus_if : (late : Bool) (s : Reading) (w p : ℕ)
       → (if late then s.bus else after_read ds s.bus w p)
       ≡ (if late then s else record { bus = after_read ds s.bus w p; answered = max s.answered (answer_at ds s.bus w p) }).bus
   bus_if true s w p = refl
   bus_if false s w p = refl
+
+  -- an operand word
+  pub served-data : (past : List Past) (w p : ℕ) (s : Reading) → served ds (data_asked past w p) s.bus ≡ (read_word ds past s w p).bus
+  unfolding read_word
+  served-data past w p s = data_if (is_forwarded past w p) w p s.bus ∙ bus_if (is_forwarded past w p) s w p
+
+  pub served-side : (past : List Past) (side : Option ℕ) (a : ℕ) (b : Bus) → served ds (side_asked past side a) b ≡ bus_sided ds past b side a
+  unfolding side_asked bus_sided
+  served-side past None a b = served-none b
+  served-side past (Some w) a b = data_if (is_forwarded past w a) w a b
 
   pub served-operands : (past : List Past) (p : ℕ) (s : Reading) (w n : ℕ)
       → served ds (operands_asked past p w n) s.bus ≡ (read_words ds past s p w n).bus
@@ -62,7 +67,7 @@ module _ (ds : List ℕ) where
   served-operands past p s w zero = served-none s.bus
   served-operands past p s w (suc n) =
       served-append (data_asked past w p) (operands_asked past p (w + 1) n) s.bus
-      ∙ ap (served ds (operands_asked past p (w + 1) n)) (data_if (is_forwarded past w p) w p s.bus ∙ bus_if (is_forwarded past w p) s w p)
+      ∙ ap (served ds (operands_asked past p (w + 1) n)) (served-data past w p s)
       ∙ served-operands past p (read_word ds past s w p) (w + 1) n
 
   inside_if : (inside : Bool) (b : Bus) (w p : ℕ)
@@ -70,6 +75,10 @@ module _ (ds : List ℕ) where
   unfolding requested
   inside_if true b w p = served-word (tick_of b.held.words w) w p b
   inside_if false b w p = served-none b
+
+  -- a following word
+  pub served-inside : (b : Bus) (w p : ℕ) → served ds (inside_asked b w p) b ≡ request_inside ds b w p
+  served-inside b w p = inside_if (nat_lt w words_of_storage) b w p
 
   pub follow_if : (follows : Bool) (b : Bus) (w p : ℕ)
       → served ds (if follows then inside_asked b w p ++ inside_asked (request_inside ds b w p) (w + 1) p else []) b
@@ -89,6 +98,23 @@ module _ (ds : List ℕ) where
       served-append (words_asked ds f.past start (wanted_from f) e.own.first e.own.len) target f.bus
       ∙ ap (served ds target) (served-words f.past (wanted_from f) start e.own.first e.own.len)
       ∙ served-words f.past (max (wanted_from f) f.c) own e.target.first e.target.len
+
+  -- the operands, and the following words behind them
+  pub served-runs : (n : ℕ) (f : Front) (e : Entry) → served ds (runs_asked f.past e.reads (tick_p ds n f e)) (bus_a ds f e) ≡ (operands ds n f e).bus
+  unfolding operands operands_read
+  served-runs n f e =
+      let p = tick_p ds n f e in
+      let start : Reading = record { bus = bus_a ds f e; answered = p } in
+      let one = operands_asked f.past p e.reads.one.first e.reads.one.len in
+      let two = operands_asked f.past p e.reads.two.first e.reads.two.len in
+      served-append one two (bus_a ds f e)
+      ∙ ap (served ds two) (served-operands f.past p start e.reads.one.first e.reads.one.len)
+      ∙ served-operands f.past p (read_words ds f.past start p e.reads.one.first e.reads.one.len) e.reads.two.first e.reads.two.len
+
+  pub served-following : (n : ℕ) (f : Front) (e : Entry)
+      → served ds (following_asked ds (operands ds n f e).bus e (tick_p ds n f e)) (operands ds n f e).bus ≡ (after ds n f e).bus
+  unfolding after following_asked bus_followed
+  served-following n f e = follow_if e.follows (operands ds n f e).bus (e.own.first + e.own.len) (tick_p ds n f e)
 
   pub served-asked : (n : ℕ) (f : Front) (e : Entry) → served ds (asked ds n f e) f.bus ≡ (after ds n f e).bus
   unfolding asked after bus_a operands operands_read following_asked bus_followed
@@ -118,7 +144,7 @@ few-word : (o : Option ℕ) (w want : ℕ) → length (word_asked o w want) ≤ 
 few-word (Some t) w want = omega arith
 few-word None w want = omega arith
 
-few-words : (ds : List ℕ) (past : List Past) (from : ℕ) (s : Fetching) (w n : ℕ) → length (words_asked ds past s from w n) ≤ n
+pub few-words : (ds : List ℕ) (past : List Past) (from : ℕ) (s : Fetching) (w n : ℕ) → length (words_asked ds past s from w n) ≤ n
 unfolding words_asked
 few-words ds past from s w zero = omega arith
 few-words ds past from s w (suc n) =
@@ -129,12 +155,12 @@ few-data : (late : Bool) (w tick : ℕ) → length {A = Read} (if late then [] e
 few-data true w tick = omega arith
 few-data false w tick = omega arith
 
-few-side : (past : List Past) (side : Option ℕ) (a : ℕ) → length (side_asked past side a) ≤ side_count side
+pub few-side : (past : List Past) (side : Option ℕ) (a : ℕ) → length (side_asked past side a) ≤ side_count side
 unfolding side_asked
 few-side past None a = omega arith
 few-side past (Some w) a = few-data (is_forwarded past w a) w a
 
-few-operands : (past : List Past) (p w n : ℕ) → length (operands_asked past p w n) ≤ n
+pub few-operands : (past : List Past) (p w n : ℕ) → length (operands_asked past p w n) ≤ n
 unfolding operands_asked
 few-operands past p w zero = omega arith
 few-operands past p w (suc n) = simp length-append (omega (arith, few-data (is_forwarded past w p) w p, few-operands past p (w + 1) n))
@@ -143,7 +169,7 @@ few-inside : (inside : Bool) (o : Option ℕ) (w p : ℕ) → length (if inside 
 few-inside true o w p = few-word o w p
 few-inside false o w p = omega arith
 
-few-following : (follows : Bool) (ds : List ℕ) (b : Bus) (w p : ℕ)
+pub few-following : (follows : Bool) (ds : List ℕ) (b : Bus) (w p : ℕ)
     → length (if follows then inside_asked b w p ++ inside_asked (request_inside ds b w p) (w + 1) p else []) ≤ 2
 few-following false ds b w p = omega arith
 few-following true ds b w p =

@@ -1,17 +1,10 @@
 -- One turn of a loop over the words of a run.
 use Rattle.std.proofs.Common.{◌≡◌, ℕ, zero, suc, ◌+◌, ◌-◌, ◌≤◌, List, refl, arith}
 use Rattle.st_rows.specs.BusTimes.{Reading}
-use Rattle.st_rows.specs.Rows.{fetch_word, fetch_words, read_word, read_words}
+use Rattle.st_rows.specs.Rows.{read_word, read_words}
 use Rattle.st_rows.specs.declared.past.Past.{Past}
-use Rattle.st_rows.specs.declared.fetching.Fetching.{Fetching}
 
 module _ (ds : List ℕ) (past : List Past) (w tick : ℕ) where
-  pub fetch-turn : (s t : Fetching) (n : ℕ) → t ≡ fetch_word ds past s w tick → 1 ≤ n
-      → fetch_words ds past t tick (w + 1) (n - 1) ≡ fetch_words ds past s tick w n
-  unfolding fetch_words
-  fetch-turn s t zero is some = let no : ⊥ = omega arith in absurd no
-  fetch-turn s t (suc n) is some = let e : suc n - 1 ≡ n = omega arith in rw (is, e) refl
-
   pub read-turn : (s t : Reading) (n : ℕ) → t ≡ read_word ds past s w tick → 1 ≤ n
       → read_words ds past t tick (w + 1) (n - 1) ≡ read_words ds past s tick w n
   unfolding read_words

@@ -1,11 +1,12 @@
 -- The reads that are made for an entry, in their order, and what they make of the bus.
-use Rattle.std.specs.Prelude.{ℕ, zero, suc, ◌+◌, max, Bool, true, false, nat_lt, if◌then◌else◌, List, [], ◌∷◌, ◌++◌, Option, None, Some, is_none}
+use Rattle.std.specs.Prelude.{ℕ, zero, suc, ◌+◌, max, Bool, true, false, nat_lt, if◌then◌else◌, List, [], ◌∷◌, ◌++◌, Option, None, Some}
 use Rattle.st_bits.specs.Storage.{words_of_storage}
 use Rattle.st_fetch.specs.Planned.{tick_of}
 use Rattle.st_rows.specs.BusTimes.{accept_at, after_read, requested_if}
 use Rattle.st_rows.specs.Rows.{fetch_word, fetch_words, wanted_from, is_forwarded, request_inside, tick_a, tick_p, operands}
 use Rattle.st_rows.specs.declared.bus.Bus.{Bus}
 use Rattle.st_rows.specs.declared.entry.Entry.{Entry}
+use Rattle.st_rows.specs.declared.entry.Runs.{Runs}
 use Rattle.st_rows.specs.declared.past.Past.{Past}
 use Rattle.st_rows.specs.declared.fetching.Fetching.{Fetching}
 use Rattle.st_rows.specs.declared.front.Front.{Front}
@@ -15,10 +16,6 @@ pub record Read : Type 0 where
   pub w : ℕ
   pub want : ℕ
   pub fetch : Bool
-
--- the word w is not held
-abbrev pub is_unheld : Bus → ℕ → Bool
-is_unheld b w = is_none (tick_of b.held.words w)
 
 -- an instruction word, given the tick of its answer if it is held: then no read is made
 abbrev pub word_asked : Option ℕ → ℕ → ℕ → List Read
@@ -46,13 +43,14 @@ unfoldable pub operands_asked : List Past → ℕ → ℕ → ℕ → List Read
 operands_asked past p w zero = []
 operands_asked past p w (suc n) = data_asked past w p ++ operands_asked past p (w + 1) n
 
+-- the operand words of both runs, the first run before the second
+abbrev pub runs_asked : List Past → Runs → ℕ → List Read
+runs_asked past reads p =
+    operands_asked past p reads.one.first reads.one.len ++ operands_asked past p reads.two.first reads.two.len
+
 -- the following words
 abbrev pub inside_asked : Bus → ℕ → ℕ → List Read
 inside_asked b w p = if nat_lt w words_of_storage then word_asked (tick_of b.held.words w) w p else []
-
--- whether one of them is asked for
-abbrev pub is_inside_asked : Bus → ℕ → Bool
-is_inside_asked b w = if nat_lt w words_of_storage then is_unheld b w else false
 
 -- both of them, where the entry has following words
 unfoldable pub following_asked : List ℕ → Bus → Entry → ℕ → List Read
@@ -62,15 +60,6 @@ following_asked ds b e p =
     ++ inside_asked (request_inside ds b (e.own.first + e.own.len) p) (e.own.first + e.own.len + 1) p
     else []
 
--- whether each of them is asked for
-unfoldable pub are_following_asked : List ℕ → Bus → Entry → ℕ → List Bool
-are_following_asked ds b e p =
-    if e.follows
-    then is_inside_asked b (e.own.first + e.own.len)
-    ∷ is_inside_asked (request_inside ds b (e.own.first + e.own.len) p) (e.own.first + e.own.len + 1)
-    ∷ []
-    else false ∷ false ∷ []
-
 -- the instruction words of the entry e behind the front f
 unfoldable pub fetches_asked : List ℕ → Front → Entry → List Read
 fetches_asked ds f e =
@@ -78,6 +67,19 @@ fetches_asked ds f e =
     ++ words_asked ds f.past
     (fetch_words ds f.past (record { bus = f.bus; answered = 0; awaited = 0 }) (wanted_from f) e.own.first e.own.len)
     (max (wanted_from f) f.c) e.target.first e.target.len
+
+-- in two parts: its reads until its address is formed
+abbrev pub formed_asked : List ℕ → Front → Entry → List Read
+formed_asked ds f e = fetches_asked ds f e ++ side_asked f.past e.side (tick_a ds f e)
+
+-- and those from its preparation on
+abbrev pub prepared_asked : List ℕ → ℕ → Front → Entry → List Read
+prepared_asked ds n f e =
+    runs_asked f.past e.reads (tick_p ds n f e) ++ following_asked ds (operands ds n f e).bus e (tick_p ds n f e)
+
+-- those behind its instruction words
+abbrev pub data_of : List ℕ → ℕ → Front → Entry → List Read
+data_of ds n f e = side_asked f.past e.side (tick_a ds f e) ++ prepared_asked ds n f e
 
 -- all reads of that entry
 unfoldable pub asked : List ℕ → ℕ → Front → Entry → List Read

@@ -15,6 +15,11 @@ unfoldable pub logged : List ℕ → List Read → Bus → List Made
 logged ds [] b = []
 logged ds (r ∷ reads) b = logged ds reads (after_one ds b r) ++ note b r ∷ []
 
+-- the log after the reads of a list, by the log before them: it keeps the last 64 notes
+unfoldable pub noted : List ℕ → List Read → Bus → List Made → List Made
+noted ds [] b log = log
+noted ds (r ∷ reads) b log = noted ds reads (after_one ds b r) (take 64 (note b r ∷ log))
+
 -- the last answers of the banks, once the youngest reads up to the last one that is accepted at the tick t or later are taken back
 unfoldable pub undone : ℕ → List Made → List ℕ → List ℕ
 undone t [] answers = answers

@@ -1,14 +1,15 @@
 //! Fronts: what the row of the next entry is computed from.
 ghost use Rattle.std.specs.Prelude.{◌≡◌, ◌+◌, ◌*◌, ◌-◌, ◌<◌, ◌≤◌, ◌^◌, ℕ, max, All, IfSome, List};
-ghost use Rattle.st_rows.specs.Asked.{is_inside_asked, are_following_asked};
-ghost use Rattle.st_rows.specs.BusTimes.{requested};
+ghost use Rattle.st_rows.specs.Asked.{side_asked, operands_asked, runs_asked, inside_asked, following_asked, prepared_asked};
+ghost use Rattle.st_rows.specs.Notes.{noted};
 ghost use Rattle.st_rows.specs.Rows.{opening, wanted_from, fetched, addressed, bus_sided, side_there, prepared as prepared_of};
-ghost use Rattle.st_rows.specs.Rows.{reading_of, operands_read, read_words, request_inside as request_inside_of, bus_followed, tick_a, bus_a, tick_p, operands, row as row_of, after, fills_of, fills as fills_of_entry};
+ghost use Rattle.st_rows.specs.Rows.{reading_of, operands_read, read_words, request_inside as request_inside_of, bus_followed, tick_a, bus_a, tick_p, row as row_of, after, fills_of, fills as fills_of_entry};
 ghost use Rattle.st_rows.specs.Ranges.{IsEntry, IsTight, IsBusWithin, IsFetchingWithin, IsReadingWithin, ArePastWithin, IsReadable};
 
 use crate::bus::Bus;
 use crate::entry::{Entry, Run};
 use crate::fetching::Fetching;
+use crate::log::Log;
 use crate::past::{LastEntries, Past};
 use st_banks::{Delays, LastAnswers};
 
@@ -59,8 +60,6 @@ pub struct Filled {
     pub row: Row,
     /// When the first two words of its first run of operands are there, 0 where the run has no such word.
     pub fills: [u64; 2],
-    /// Whether each of the two words that follow its own is asked for.
-    pub following: [bool; 2],
 }
 
 impl Front {
@@ -90,22 +89,6 @@ impl Front {
         }
     }
 
-    /// The instruction words of the next entry are fetched.
-    #[tactic(auto, unfolding(crate::specs::Rows::fetched))]
-    pub fn fetch(&self, delays: &Delays, entry: &Entry) -> Fetching
-        requires entry { IsEntry entry.now }
-        requires tight { IsTight 255 self.now }
-        requires early { self.now.c ≤ 2 ^ 63 + 2 ^ 20 }
-        ensures { result ≡ fetched delays.now self.now entry.now }
-    {
-        delays.shape();
-        let mut words = Fetching::new(self.bus);
-        let from = self.wanted_from();
-        words.words(delays, &self.past, entry.own, from);
-        words.words(delays, &self.past, entry.target, from.max(self.c));
-        words
-    }
-
     // The tick at which the address of the next entry is formed.
     #[tactic(auto, unfolding(crate::specs::Rows::addressed))]
     fn address(&self, entry: &Entry, words: &Fetching) -> u64
@@ -133,6 +116,7 @@ impl Front {
         levels: usize,
         entry: &Entry,
         words: &mut Fetching,
+        log: &mut Log,
     ) -> Formed
         requires entry { IsEntry entry.now }
         requires tight { IsTight 255 self.now }
@@ -143,75 +127,13 @@ impl Front {
         ensures bus { words.new.bus ≡ bus_a delays.now self.now entry.now }
         ensures awaited { words.new.awaited ≡ words.old.awaited }
         ensures tick { result.p ≡ tick_p delays.now levels self.now entry.now }
+        ensures log { log.new ≡ noted delays.now (side_asked self.now.past entry.now.side result.a) words.old.bus log.old }
     {
         delays.shape();
         let a = self.address(entry, words);
-        let y = side(&mut words.bus, delays, &self.past, entry.side, a);
+        let y = side(&mut words.bus, log, delays, &self.past, entry.side, a);
         let p = prepared_at(levels, &self.past, a, y);
         Formed { a, p }
-    }
-
-    /// Goes on behind the next entry, and gives its row; `levels` are those of the machine, 1 to 8.
-    pub fn next(&mut self, delays: &Delays, levels: usize, entry: &Entry) -> Row
-        requires entry { IsEntry entry.now }
-        requires tight { IsTight 255 self.old }
-        requires early { self.old.c ≤ 2 ^ 63 + 2 ^ 20 }
-        requires levels { (1 ≤ levels) × (levels ≤ 8) }
-        ensures value { result ≡ row_of delays.now levels self.old entry.now }
-        ensures after { self.new ≡ after delays.now levels self.old entry.now }
-        ensures tight { IsTight 255 self.new }
-        ensures bound { self.new.c ≤ self.old.c + 16576 }
-    {
-        let words = self.fetch(delays, entry);
-        self.finish(delays, levels, entry, words)
-    }
-
-    /// The same where the instruction words of the entry are fetched already.
-    pub fn finish(&mut self, delays: &Delays, levels: usize, entry: &Entry, words: Fetching) -> Row
-        requires entry { IsEntry entry.now }
-        requires tight { IsTight 255 self.old }
-        requires early { self.old.c ≤ 2 ^ 63 + 2 ^ 20 }
-        requires levels { (1 ≤ levels) × (levels ≤ 8) }
-        requires words { words ≡ fetched delays.now self.old entry.now }
-        ensures value { result ≡ row_of delays.now levels self.old entry.now }
-        ensures after { self.new ≡ after delays.now levels self.old entry.now }
-        ensures tight { IsTight 255 self.new }
-        ensures bound { self.new.c ≤ self.old.c + 16576 }
-    {
-        let mut words = words;
-        let formed = self.form(delays, levels, entry, &mut words);
-        self.complete(delays, levels, entry, formed, &mut words).row
-    }
-
-    /// The same where the address of the entry is formed already, as `form` says. The result says besides when the first two operand
-    /// words are there.
-    pub fn complete(
-        &mut self,
-        delays: &Delays,
-        levels: usize,
-        entry: &Entry,
-        formed: Formed,
-        words: &mut Fetching,
-    ) -> Filled
-        requires entry { IsEntry entry.now }
-        requires tight { IsTight 255 self.old }
-        requires early { self.old.c ≤ 2 ^ 63 + 2 ^ 20 }
-        requires levels { (1 ≤ levels) × (levels ≤ 8) }
-        requires address { formed.a ≡ tick_a delays.now self.old entry.now }
-        requires bus { words.old.bus ≡ bus_a delays.now self.old entry.now }
-        requires tick { formed.p ≡ tick_p delays.now levels self.old entry.now }
-        ensures value { result.row ≡ row_of delays.now levels self.old entry.now }
-        ensures fills { result.fills ≡ fills_of_entry delays.now levels self.old entry.now }
-        ensures following { result.following ≡ are_following_asked delays.now
-            (operands delays.now levels self.old entry.now).bus entry.now (tick_p delays.now levels self.old entry.now) }
-        ensures after { self.new ≡ after delays.now levels self.old entry.now }
-        ensures tight { IsTight 255 self.new }
-        ensures bound { self.new.c ≤ self.old.c + 16576 }
-    {
-        delays.shape();
-        let filled = self.fill(delays, levels, entry, formed, words);
-        self.pass(entry, &filled.row, &words.bus);
-        filled
     }
 
     /// The operand words of the next entry are read, whose address is formed as `form` says, and its following words are asked for; the front
@@ -224,6 +146,7 @@ impl Front {
         entry: &Entry,
         formed: Formed,
         words: &mut Fetching,
+        log: &mut Log,
     ) -> Filled
         requires entry { IsEntry entry.now }
         requires tight { IsTight 255 self.now }
@@ -234,21 +157,19 @@ impl Front {
         requires tick { formed.p ≡ tick_p delays.now levels self.now entry.now }
         ensures value { result.row ≡ row_of delays.now levels self.now entry.now }
         ensures fills { result.fills ≡ fills_of_entry delays.now levels self.now entry.now }
-        ensures following { result.following ≡ are_following_asked delays.now
-            (operands delays.now levels self.now entry.now).bus entry.now (tick_p delays.now levels self.now entry.now) }
         ensures bus { words.new.bus ≡ (after delays.now levels self.now entry.now).bus }
+        ensures log { log.new ≡ noted delays.now (prepared_asked delays.now levels self.now entry.now) words.old.bus log.old }
     {
         delays.shape();
         let Formed { a, p } = formed;
         words.answered = p;
-        let fills = read_operands(words, delays, &self.past, entry, p);
+        let fills = read_operands(words, log, delays, &self.past, entry, p);
         let r = words.answered;
         let c = self.c.max(r) + u64::from(entry.cost);
-        let following = follow(&mut words.bus, delays, entry, p);
+        follow(&mut words.bus, log, delays, entry, p);
         Filled {
             row: Row { a, p, r, c },
             fills,
-            following,
         }
     }
 
@@ -271,13 +192,21 @@ impl Front {
 
 // Reads the index-side word, if there is one, of an entry whose address is formed at `a`, unless an earlier entry writes it that
 // is done later. The result is the tick at which it is there, 0 where there is none.
-#[tactic(auto, unfolding(crate::specs::Rows::bus_sided, crate::specs::Rows::side_there))]
-fn side(bus: &mut Bus, delays: &Delays, past: &LastEntries, word: Option<u32>, a: u64) -> u64
+#[tactic(auto, unfolding(crate::specs::Rows::bus_sided, crate::specs::Rows::side_there, crate::specs::Asked::side_asked, crate::specs::Notes::noted))]
+fn side(
+    bus: &mut Bus,
+    log: &mut Log,
+    delays: &Delays,
+    past: &LastEntries,
+    word: Option<u32>,
+    a: u64,
+) -> u64
     requires room { IsBusWithin (2 ^ 64 - 512) bus.old }
     requires early { a ≤ 2 ^ 64 - 512 }
     requires storage { IfSome word (λ w. 32 ≤ w) }
     ensures value { result ≡ side_there delays.now past.now bus.old word a }
     ensures after { bus.new ≡ bus_sided delays.now past.now bus.old word a }
+    ensures log { log.new ≡ noted delays.now (side_asked past.now word a) bus.old log.old }
 {
     let Some(w) = word else {
         return 0;
@@ -286,7 +215,7 @@ fn side(bus: &mut Bus, delays: &Delays, past: &LastEntries, word: Option<u32>, a
     if done > a {
         return done;
     }
-    bus.read(delays, w, a)
+    bus.read(log, delays, w, a)
 }
 
 // The tick at which an entry is prepared.
@@ -308,6 +237,7 @@ fn prepared_at(levels: usize, past: &LastEntries, a: u64, y: u64) -> u64
 #[inline(always)]
 fn read_operands(
     operands: &mut Fetching,
+    log: &mut Log,
     delays: &Delays,
     past: &LastEntries,
     entry: &Entry,
@@ -320,10 +250,11 @@ fn read_operands(
     requires start { operands.old.answered ≡ p }
     ensures value { reading_of operands.new ≡ operands_read delays.now past.now operands.old.bus entry.now.reads p }
     ensures fills { result ≡ fills_of delays.now past.now operands.old.bus entry.now.reads.one p }
+    ensures log { log.new ≡ noted delays.now (runs_asked past.now entry.now.reads p) operands.old.bus log.old }
 {
     delays.shape();
-    let fills = read_run(operands, delays, past, entry.reads.one, p);
-    operands.read_on(delays, past, entry.reads.two, p);
+    let fills = read_run(operands, log, delays, past, entry.reads.one, p);
+    operands.read_on(log, delays, past, entry.reads.two, p);
     fills
 }
 
@@ -332,6 +263,7 @@ fn read_operands(
 #[inline(always)]
 fn read_run(
     operands: &mut Fetching,
+    log: &mut Log,
     delays: &Delays,
     past: &LastEntries,
     run: Run,
@@ -346,53 +278,54 @@ fn read_run(
     ensures value { reading_of operands.new ≡
         read_words delays.now past.now (reading_of operands.old) p run.first run.len }
     ensures fills { result ≡ fills_of delays.now past.now operands.old.bus run p }
+    ensures log { log.new ≡ noted delays.now (operands_asked past.now p run.first run.len) operands.old.bus log.old }
 {
     delays.shape();
     if run.len == 0 {
         return [0, 0];
     }
-    let first = operands.read(delays, past, run.first, p);
+    let first = operands.read(log, delays, past, run.first, p);
     if run.len == 1 {
         return [first, 0];
     }
-    let second = operands.read(delays, past, run.first + 1, p);
+    let second = operands.read(log, delays, past, run.first + 1, p);
     let behind = Run {
         first: run.first + 2,
         len: run.len - 2,
     };
-    operands.read_on(delays, past, behind, p);
+    operands.read_on(log, delays, past, behind, p);
     [first, second]
 }
 
-// The following words of an entry that is prepared at `p` are asked for. The result says whether each of the two is.
-#[tactic(auto, unfolding(crate::specs::Rows::bus_followed, crate::specs::Asked::are_following_asked))]
+// The following words of an entry that is prepared at `p` are asked for.
+#[tactic(auto, unfolding(crate::specs::Rows::bus_followed, crate::specs::Asked::following_asked, crate::specs::Notes::noted))]
 #[inline(always)]
-fn follow(bus: &mut Bus, delays: &Delays, entry: &Entry, p: u64) -> [bool; 2]
+fn follow(bus: &mut Bus, log: &mut Log, delays: &Delays, entry: &Entry, p: u64)
     requires entry { IsEntry entry.now }
     requires room { IsBusWithin (2 ^ 64 - 1024) bus.old }
     requires early { p ≤ 2 ^ 64 - 1024 }
     ensures after { bus.new ≡ bus_followed delays.now bus.old entry.now p }
-    ensures asked { result ≡ are_following_asked delays.now bus.old entry.now p }
+    ensures log { log.new ≡ noted delays.now (following_asked delays.now bus.old entry.now p) bus.old log.old }
 {
     delays.shape();
     if !entry.follows {
-        return [false, false];
+        return;
     }
     let w = entry.own.first + u32::from(entry.own.len);
-    let first = request_inside(bus, delays, w, p);
-    let second = request_inside(bus, delays, w + 1, p);
-    [first, second]
+    request_inside(bus, log, delays, w, p);
+    request_inside(bus, log, delays, w + 1, p);
 }
 
-// Asks for the word `w`, if it is a word of storage. The result says whether a read is made for it.
-fn request_inside(bus: &mut Bus, delays: &Delays, w: u32, p: u64) -> bool
+// Asks for the word `w`, if it is a word of storage.
+#[tactic(auto, using(st_bits::specs::Storage::words_of_storage_is), unfolding(crate::specs::Notes::noted))]
+fn request_inside(bus: &mut Bus, log: &mut Log, delays: &Delays, w: u32, p: u64)
     requires room { IsBusWithin (2 ^ 64 - 512) bus.old }
     requires early { p ≤ 2 ^ 64 - 512 }
     ensures after { bus.new ≡ request_inside_of delays.now bus.old w p }
-    ensures asked { result ≡ is_inside_asked bus.old w }
+    ensures log { log.new ≡ noted delays.now (inside_asked bus.old w p) bus.old log.old }
 {
     if w >= WORDS {
-        return false;
+        return;
     }
-    bus.request(delays, w, p).asked
+    bus.request(log, delays, w, p);
 }

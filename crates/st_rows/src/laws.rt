@@ -1,11 +1,11 @@
 //! What holds of the ticks of all entries.
-ghost use Rattle.std.specs.Prelude.{◌≡◌, ℕ, List, [], ◌∷◌, ◌+◌, ◌*◌, ◌<◌, ◌≤◌, ◌||◌, true, length, get_or, max};
+ghost use Rattle.std.specs.Prelude.{◌≡◌, ℕ, List, [], ◌∷◌, ◌++◌, ◌+◌, ◌*◌, ◌<◌, ◌≤◌, ◌||◌, true, length, get_or, max, All};
 ghost use Rattle.st_rows.specs.Ranges.{AreDelays, IsEntry, IsNear, IsTight};
 ghost use Rattle.st_rows.specs.Entries.{latest_done};
-ghost use Rattle.st_rows.specs.Rows.{opening, fetched, done_before, row, after, fills};
+ghost use Rattle.st_rows.specs.Rows.{opening, wanted_from, fetched, done_before, tick_a, bus_a, tick_p, operands, tick_c, row, after, fills};
 ghost use Rattle.std.specs.List.{AllZip};
 ghost use Rattle.st_banks.specs.declared.answers.LastAnswers.{LastAnswers};
-ghost use Rattle.st_rows.specs.Asked.{Read, asked, served, after_one, made_before, own_reads};
+ghost use Rattle.st_rows.specs.Asked.{Read, fetches_asked, side_asked, formed_asked, prepared_asked, data_of, asked, served, after_one, made_before, own_reads};
 ghost use Rattle.st_rows.specs.BusTimes.{accept_at, after_read, answer_at, requested, answer_of};
 ghost use Rattle.st_rows.specs.Levels.{AreEqual, IsBusSooner, IsFrontSooner, IsRowSooner, AreInOrder, AreOlderDone, kept, IsCalm, AreCalm, AreCovered, rows};
 ghost use Rattle.st_rows.specs.declared.bus.Bus.{Bus};
@@ -136,4 +136,54 @@ pub fn made_reads_are_answered_soon()
     ensures { (most t : ℕ) (ds : List ℕ) (reads : List Read) (b : Bus) → AreDelays most ds →
         IsNear most b → b.free ≤ t →
         IsNear most (made_before ds t reads b) × ((made_before ds t reads b).free ≤ t) }
+{}
+
+/// The reads of an entry are those of its instruction words and, behind them, of its data; or those until its address is formed and those from its
+/// preparation on. Each part gives the bus of its stage.
+pub fn entries_ask_in_parts()
+    ensures parts { (ds : List ℕ) (n : ℕ) (f : Front) (e : Entry) →
+        asked ds n f e ≡ fetches_asked ds f e ++ data_of ds n f e }
+    ensures two { (ds : List ℕ) (n : ℕ) (f : Front) (e : Entry) →
+        asked ds n f e ≡ formed_asked ds f e ++ prepared_asked ds n f e }
+    ensures fetches { (ds : List ℕ) (f : Front) (e : Entry) →
+        served ds (fetches_asked ds f e) f.bus ≡ (fetched ds f e).bus }
+    ensures formed { (ds : List ℕ) (f : Front) (e : Entry) →
+        served ds (formed_asked ds f e) f.bus ≡ bus_a ds f e }
+    ensures prepared { (ds : List ℕ) (n : ℕ) (f : Front) (e : Entry) →
+        served ds (prepared_asked ds n f e) (bus_a ds f e) ≡ (after ds n f e).bus }
+{}
+
+/// When the reads of an entry are wanted: instruction words from the first want on, the index-side word at A, operands and
+/// following words at P, and so all behind the instruction words at A or later.
+pub fn reads_are_wanted_in_time()
+    ensures fetches { (ds : List ℕ) (f : Front) (e : Entry) →
+        All (λ r. wanted_from f ≤ r.want) (fetches_asked ds f e) }
+    ensures side { (ds : List ℕ) (f : Front) (e : Entry) →
+        All (λ r. r.want ≡ tick_a ds f e) (side_asked f.past e.side (tick_a ds f e)) }
+    ensures prepared { (ds : List ℕ) (n : ℕ) (f : Front) (e : Entry) →
+        All (λ r. r.want ≡ tick_p ds n f e) (prepared_asked ds n f e) }
+    ensures data { (ds : List ℕ) (n : ℕ) (f : Front) (e : Entry) →
+        All (λ r. tick_a ds f e ≤ r.want) (data_of ds n f e) }
+{}
+
+/// The bus is free of all reads before an entry when its address is formed, of its instruction words too, and of its index-side word when
+/// it is prepared.
+pub fn buses_are_free_in_time()
+    ensures before { (ds : List ℕ) (f : Front) (e : Entry) → f.bus.free ≤ tick_a ds f e }
+    ensures fetched { (most n : ℕ) (ds : List ℕ) (f : Front) (e : Entry) → AreDelays most ds →
+        IsEntry e → IsTight most f → (fetched ds f e).bus.free ≤ tick_a ds f e }
+    ensures formed { (most n : ℕ) (ds : List ℕ) (f : Front) (e : Entry) → AreDelays most ds →
+        IsEntry e → IsTight most f → (bus_a ds f e).free ≤ tick_p ds n f e }
+    ensures done { (most n : ℕ) (ds : List ℕ) (f : Front) (e : Entry) → AreDelays most ds →
+        IsEntry e → IsTight most f → (f.bus.free ≤ tick_c ds n f e)
+        × ((operands ds n f e).bus.free ≤ tick_c ds n f e) }
+{}
+
+/// All reads are made before a tick at which the bus is free behind them; and reads that are wanted at a tick or later, behind others, change nothing of
+/// those that are made before.
+pub fn late_reads_change_nothing()
+    ensures all { (ds : List ℕ) (t : ℕ) (xs : List Read) (b : Bus) →
+        (served ds xs b).free ≤ t → made_before ds t xs b ≡ served ds xs b }
+    ensures late { (ds : List ℕ) (t : ℕ) (xs ys : List Read) (b : Bus) → All (λ r. t ≤ r.want) ys →
+        made_before ds t (xs ++ ys) b ≡ made_before ds t xs b }
 {}

@@ -62,6 +62,13 @@ impl Log {
         }
     }
 
+    /// Takes all notes away.
+    pub fn clear(&mut self)
+        ensures { self.new ≡ [] }
+    {
+        self.len = 0;
+    }
+
     /// Keeps one note more, the youngest one; of more than 64 the oldest one goes.
     pub fn put(&mut self, note: Made)
         ensures { self.new ≡ take 64 (note ∷ self.old) }

@@ -1,30 +1,41 @@
 //! The operand words of an entry, read one after another.
 ghost use Rattle.std.specs.Prelude.{◌≡◌, ◌+◌, ◌*◌, ◌-◌, ◌<◌, ◌≤◌, ◌^◌, All};
+ghost use Rattle.st_rows.specs.Asked.{data_asked, operands_asked};
+ghost use Rattle.st_rows.specs.Notes.{noted};
 ghost use Rattle.st_rows.specs.Rows.{reading_of, read_word, read_words, fill_at};
 ghost use Rattle.st_rows.specs.Ranges.{IsReadingWithin, ArePastWithin, IsReadable};
 
 use crate::entry::Run;
 use crate::fetching::Fetching;
+use crate::log::Log;
 use crate::past::LastEntries;
 use st_banks::Delays;
 
 impl Fetching {
     // Reads the next operand word of an entry that is prepared at `p`, unless an earlier entry writes it that is done later. The
     // result is the tick at which the word is there.
-    #[tactic(auto, unfolding(crate::specs::Rows::read_word, crate::specs::Rows::fill_at))]
-    pub(crate) fn read(&mut self, delays: &Delays, past: &LastEntries, w: u32, p: u64) -> u64
+    #[tactic(auto, unfolding(crate::specs::Rows::read_word, crate::specs::Rows::fill_at, crate::specs::Notes::noted))]
+    pub(crate) fn read(
+        &mut self,
+        log: &mut Log,
+        delays: &Delays,
+        past: &LastEntries,
+        w: u32,
+        p: u64,
+    ) -> u64
         requires room { IsReadingWithin (2 ^ 64 - 512) (reading_of self.old) }
         requires before { ArePastWithin (2 ^ 64 - 512) past.now }
         requires early { p ≤ 2 ^ 64 - 512 }
         requires storage { 32 ≤ w }
         ensures value { result ≡ fill_at delays.now past.now self.old.bus w p }
         ensures after { reading_of self.new ≡ read_word delays.now past.now (reading_of self.old) w p }
+        ensures log { log.new ≡ noted delays.now (data_asked past.now w p) self.old.bus log.old }
     {
         let done = past.latest_done(w);
         if done > p {
             return done;
         }
-        let answer = self.bus.read(delays, w, p);
+        let answer = self.bus.read(log, delays, w, p);
         self.answered = self.answered.max(answer);
         answer
     }
@@ -32,20 +43,28 @@ impl Fetching {
     // Reads the next operand words.
     #[tactic(auto, unfolding(crate::specs::Rows::read_words))]
     #[inline(always)]
-    pub(crate) fn read_on(&mut self, delays: &Delays, past: &LastEntries, run: Run, p: u64)
+    pub(crate) fn read_on(
+        &mut self,
+        log: &mut Log,
+        delays: &Delays,
+        past: &LastEntries,
+        run: Run,
+        p: u64,
+    )
         requires room { IsReadingWithin (2 ^ 64 - 2 ^ 16) (reading_of self.old) }
         requires before { ArePastWithin (2 ^ 64 - 2 ^ 16) past.now }
         requires early { p ≤ 2 ^ 64 - 2 ^ 16 }
         requires words { IsReadable run }
         requires few { run.len ≤ 16 }
-        ensures { reading_of self.new
+        ensures value { reading_of self.new
             ≡ read_words delays.now past.now (reading_of self.old) p run.first run.len }
+        ensures log { log.new ≡ noted delays.now (operands_asked past.now p run.first run.len) self.old.bus log.old }
     {
         delays.shape();
         let mut w = run.first;
         let mut left = run.len;
         'words: while left > 0 {
-            self.read(delays, past, w, p);
+            self.read(log, delays, past, w, p);
             w += 1;
             left -= 1;
         }

@@ -1,7 +1,8 @@
 //! Rows of worked decks, their entries written out by hand.
-ghost use Rattle.std.specs.Prelude.{◌+◌, ◌<◌, ◌≤◌, ◌^◌};
+ghost use Rattle.std.specs.Prelude.{◌≡◌, ◌+◌, ◌<◌, ◌≤◌, ◌^◌};
 ghost use Rattle.st_bits.specs.Storage.{words_of_storage};
 ghost use Rattle.st_rows.specs.Ranges.{IsEntry, IsTight};
+ghost use Rattle.st_rows.specs.Rows.{fetched};
 
 use super::*;
 use st_banks::{Delays, LastAnswers};
@@ -25,7 +26,9 @@ fn reading(w: u32, first: u32, len: u8, cost: u8) -> Entry
     requires few { len ≤ 16 }
     requires some { 1 ≤ cost }
     requires most { cost ≤ 24 }
-    ensures { IsEntry result }
+    ensures entry { IsEntry result }
+    ensures own { result.own.len ≡ 1 }
+    ensures target { result.target.len ≡ 0 }
 {
     Entry {
         own: Run { first: w, len: 1 },
@@ -46,7 +49,9 @@ fn reading(w: u32, first: u32, len: u8, cost: u8) -> Entry
 fn plain(w: u32) -> Entry
     requires above { 32 ≤ w }
     requires inside { w < words_of_storage }
-    ensures { IsEntry result }
+    ensures entry { IsEntry result }
+    ensures own { result.own.len ≡ 1 }
+    ensures target { result.target.len ≡ 0 }
 {
     reading(w, 32, 0, 1)
 }
@@ -54,7 +59,9 @@ fn plain(w: u32) -> Entry
 // The same, but it is done alone, and asks for following words if `follows` says so.
 fn alone(entry: Entry, follows: bool) -> Entry
     requires { IsEntry entry }
-    ensures { IsEntry result }
+    ensures entry { IsEntry result }
+    ensures own { result.own.len ≡ entry.own.len }
+    ensures target { result.target.len ≡ entry.target.len }
 {
     Entry {
         own: entry.own,
@@ -68,16 +75,59 @@ fn alone(entry: Entry, follows: bool) -> Entry
     }
 }
 
-// The last three numbers of the row.
+// The last three numbers of the row of an entry with one instruction word.
 fn next(front: &mut Front, delays: &Delays, entry: Entry) -> (u64, u64, u64)
     requires entry { IsEntry entry }
+    requires own { entry.own.len ≡ 1 }
+    requires target { entry.target.len ≡ 0 }
     requires tight { IsTight 255 front.old }
     requires early { front.old.c ≤ 2 ^ 63 + 2 ^ 20 }
     ensures tight { IsTight 255 front.new }
     ensures bound { front.new.c ≤ front.old.c + 16576 }
 {
-    let row = front.next(delays, 4, &entry);
+    delays.shape();
+    let mut log = Log::new();
+    let words = fetch(front, delays, &entry, &mut log);
+    let row = finish(front, delays, &entry, words, &mut log);
     (row.p, row.r, row.c)
+}
+
+// Its word is fetched.
+fn fetch(front: &Front, delays: &Delays, entry: &Entry, log: &mut Log) -> Fetching
+    requires entry { IsEntry entry.now }
+    requires own { entry.now.own.len ≡ 1 }
+    requires target { entry.now.target.len ≡ 0 }
+    requires tight { IsTight 255 front.now }
+    requires early { front.now.c ≤ 2 ^ 63 + 2 ^ 20 }
+    ensures { result ≡ fetched delays.now front.now entry.now }
+{
+    let mut words = Fetching::new(front.bus);
+    let from = front.wanted_from();
+    words.word(log, delays, &front.past, entry.own.first, from);
+    words
+}
+
+// The row of an entry whose word is fetched; the front stands behind it then.
+fn finish(
+    front: &mut Front,
+    delays: &Delays,
+    entry: &Entry,
+    words: Fetching,
+    log: &mut Log,
+) -> Row
+    requires entry { IsEntry entry.now }
+    requires words { words ≡ fetched delays.now front.old entry.now }
+    requires tight { IsTight 255 front.old }
+    requires early { front.old.c ≤ 2 ^ 63 + 2 ^ 20 }
+    ensures tight { IsTight 255 front.new }
+    ensures bound { front.new.c ≤ front.old.c + 16576 }
+{
+    delays.shape();
+    let mut words = words;
+    let formed = front.form(delays, 4, entry, &mut words, log);
+    let filled = front.fill(delays, 4, entry, formed, &mut words, log);
+    front.pass(entry, &filled.row, &words.bus);
+    filled.row
 }
 
 // A load, a sum and a wait, each read of which takes three ticks.

@@ -113,7 +113,7 @@ module _ (most n : ℕ) (ds : List ℕ) (are : AreDelays most ds) (levels : n �
   pub next-is : (m : Moment) → IsMoment most n m → IsMoment most n (next_moment ds n (standing m))
   next-is m is = completed-is (standing m) (settled-scene m.scene is.scene) (next_front-is m is).0
 
-  next-tick : (m : Moment) → IsMoment most n m → (next_moment ds n (standing m)).tick ≤ m.tick + 64 * (most + 4)
+  pub next-tick : (m : Moment) → IsMoment most n m → (next_moment ds n (standing m)).tick ≤ m.tick + 64 * (most + 4)
   unfolding next_moment next_row row
   next-tick m is =
       let s = next_state m in

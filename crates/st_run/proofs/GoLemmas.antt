@@ -40,7 +40,7 @@ behind-completes : (ds : List ℕ) (n left : ℕ) (p : Standing) (snaps : List �
 behind-completes ds n left p [] late = behind-none ds n left p
 behind-completes ds n left p (x ∷ xs) late = behind-done ds n left p x xs late
 
-tick-before : (t : Together) (now : ℕ) → IsBefore t → now ≤ (oldest_row t.machine).c → IsBefore (at_tick now t)
+pub tick-before : (t : Together) (now : ℕ) → IsBefore t → now ≤ (oldest_row t.machine).c → IsBefore (at_tick now t)
 tick-before t now h early = record {
   some = h.some;
   few = h.few;

@@ -134,15 +134,15 @@ module _ (ds : List ℕ) (n left tick : ℕ) (m : Moment) (snaps : List ℕ) (d 
       ∙ ap {A = Standing} (λ p. prepared_before (m.tick + 1) (entries_ahead o.delays o.levels p)) stand
       ∙ nothing-ahead o.delays o.levels m m.tick (ends-taken taken) (omega arith)
 
-  rising-on : (xs : List ℕ) → AreRising tick xs → AreRising (tick + 1 - 1) xs
+  rising-on : (now : ℕ) (xs : List ℕ) → now ≡ tick + 1 → AreRising tick xs → AreRising (now - 1) xs
   unfolding AreRising
-  rising-on [] is = tt
-  rising-on (x ∷ xs) is = (omega (arith, is.0), is.1)
+  rising-on now [] same is = tt
+  rising-on now (x ∷ xs) same is = (omega (arith, same, is.0), is.1)
 
-  way-stands : (turn : Turn) → IsWay turn left m d t → AreRising tick snaps → IsTurn turn (tick + 1) snaps t
+  way-stands : (turn : Turn) → IsWay turn left m d t → AreRising tick snaps → IsTurn turn snaps t
   way-stands turns.Before way rising =
       let g : GoesOn m d.ends d.taken t = way.2 in
-      (g.before, ap {A = ℕ} (λ x. x + 1) tick_is ∙ sym g.now, rising-on snaps rising)
+      (g.before, rising-on t.machine.now snaps (g.now ∙ ap {A = ℕ} (λ x. x + 1) (sym tick_is)) rising)
   way-stands (turns.AtEnd resting) way rising = let g : Stops m t = way.4 in g.none
   way-stands turns.Over way rising = absurd way
 
@@ -162,7 +162,7 @@ module _ (left tick : ℕ) (snaps : List ℕ) (old t : Together) (d : Decided) (
       way-told old.machine.delays old.machine.levels left tick (moment_of old) snaps d drops t decided.text is.tick_is delays levels dropped
       d.turn decided.way
 
-  pub left-keeps : IsRun d.turn (left - 1) tick (tick + 1) snaps (waits drops (option_map (λ x. x.bytes) d.text) d.taken) t
+  pub left-keeps : IsRun d.turn (left - 1) tick snaps (waits drops (option_map (λ x. x.bytes) d.text) d.taken) t
   left-keeps =
       let m = moment_of old in
       record {

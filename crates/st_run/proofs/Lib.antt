@@ -1,6 +1,7 @@
 pub mod Runs
 pub mod Untimed
 pub mod Turns
+pub mod PassLemmas
 pub mod OrderLemmas
 pub mod ShownLemmas
 pub mod PrintLemmas
@@ -28,3 +29,4 @@ pub mod PartLemmas
 pub mod LastLemmas
 pub mod QuietLemmas
 pub mod ServingLemmas
+pub mod RunLaws

@@ -10,7 +10,7 @@ use Rattle.st_run.specs.declared.turn.Turn.{Turn}
 use Rattle.st_run.specs.declared.turn.Turn.TheVariants as turns
 use Rattle.st_run.proofs.ProgressLemmas.{Quiet, rest-quiet}
 
-module _ (turn : Turn) (left tick now : ℕ) (snaps : List ℕ) (w v : Waiting) (t : Together) (x y : What)
+module _ (turn : Turn) (left tick : ℕ) (snaps : List ℕ) (w v : Waiting) (t : Together) (x y : What)
     (first : whats w t.machine.state ≡ x ∷ whats v t.machine.state) (same : x ≡ y) where
   pub next-tells : rest_of turn left tick snaps w t ≡ at_once tick t.machine.state y ∷ rest_of turn left tick snaps v t
   unfolding rest_of
@@ -19,7 +19,7 @@ module _ (turn : Turn) (left tick now : ℕ) (snaps : List ℕ) (w v : Waiting) 
       ap {A = List What} (λ xs. map (at_once tick s) xs ++ rest_by turn left tick snaps t) first
       ∙ ap {A = What} (λ z. at_once tick s z ∷ (map (at_once tick s) (whats v s) ++ rest_by turn left tick snaps t)) same
 
-  pub next-keeps : IsRun turn left tick now snaps w t → (IsSome v.taken → IsSome w.taken) → IsRun turn left tick now snaps v t
+  pub next-keeps : IsRun turn left tick snaps w t → (IsSome v.taken → IsSome w.taken) → IsRun turn left tick snaps v t
   next-keeps is kept = record {
     stands = is.stands;
     taken = λ some. is.taken (kept some);
@@ -29,16 +29,16 @@ module _ (turn : Turn) (left tick now : ℕ) (snaps : List ℕ) (w v : Waiting) 
   }
 
 -- where nothing waits the turn decides
-module _ (turn : Turn) (left tick now : ℕ) (snaps : List ℕ) (w v : Waiting) (t : Together) (quiet : Quiet w) (kept : v ≡ w)
-    (is : IsRun turn left tick now snaps w t) where
+module _ (turn : Turn) (left tick : ℕ) (snaps : List ℕ) (w v : Waiting) (t : Together) (quiet : Quiet w) (kept : v ≡ w)
+    (is : IsRun turn left tick snaps w t) where
   pub still-quiet : Quiet v
   still-quiet = subst {A = Waiting} Quiet (sym kept) quiet
 
-  pub still-run : IsRun turn left tick now snaps v t
-  still-run = subst {A = Waiting} (λ u. IsRun turn left tick now snaps u t) (sym kept) is
+  pub still-run : IsRun turn left tick snaps v t
+  still-run = subst {A = Waiting} (λ u. IsRun turn left tick snaps u t) (sym kept) is
 
-  pub turn-run : (k : Turn) → turn ≡ k → IsRun k left tick now snaps v t
-  turn-run k same = subst {A = Turn} (λ k. IsRun k left tick now snaps v t) same still-run
+  pub turn-run : (k : Turn) → turn ≡ k → IsRun k left tick snaps v t
+  turn-run k same = subst {A = Turn} (λ k. IsRun k left tick snaps v t) same still-run
 
   pub turn-rest : (k : Turn) → turn ≡ k → rest_of turn left tick snaps w t ≡ rest_by k left tick snaps t
   turn-rest k same =

@@ -106,10 +106,10 @@ show-told left tick x xs t h now =
     (shown-still ds n (scene_of t) o.front tick x
     ∙ ap {A = Overlap} (λ q. once o.state.done tick (Shown x (seen_of q) (ahead_of q))) (sym machine))
 
-rising-same : (x : ℕ) (xs : List ℕ) → AreRising (x + 1) xs → AreRising (x + 1 - 1) xs
+rising-same : (x now : ℕ) (xs : List ℕ) → now ≡ x + 1 → AreRising (x + 1) xs → AreRising (now - 1) xs
 unfolding AreRising
-rising-same x [] is = tt
-rising-same x (y ∷ ys) is = (omega (arith, is.0), is.1)
+rising-same x now [] same is = tt
+rising-same x now (y ∷ ys) same is = (omega (arith, same, is.0), is.1)
 
 -- it is told, and no longer comes
 module _ (left tick x : ℕ) (xs snaps : List ℕ) (w : Waiting) (t : Together) (turn : Turn)
@@ -127,18 +127,18 @@ module _ (left tick x : ℕ) (xs snaps : List ℕ) (w : Waiting) (t : Together) 
       (sym (rest-quiet turns.Before left tick xs w t quiet)
       ∙ ap {A = Turn} (λ k. rest_of k left tick xs w t) (sym before))
 
-  pub show-keeps : IsRun turn left tick (x + 1) xs w t
+  pub show-keeps : IsRun turn left tick xs w t
   show-keeps =
       let told_first = show-tells in
-      let run : IsRun turns.Before left tick (x + 1) xs w t = record {
-        stands = (shown.before, sym shown_first.first.0, rising-same x xs shown_first.first.1);
+      let run : IsRun turns.Before left tick xs w t = record {
+        stands = (shown.before, rising-same x t.machine.now xs shown_first.first.0 shown_first.first.1);
         taken = quiet-taken w t.machine.state (levels_of t.machine ≡ []) quiet;
         in_time =
             let all = subst {A = List Told} AreInTime show-tells shown.in_time in
             subst {A = Turn} (λ k. AreInTime (rest_of k left tick xs w t)) before
             (All-tail (λ (y : Told). (y.tick < 2 ^ 63) × (y.done < 2 ^ 63)) _ (rest_of turn left tick xs w t) all);
       } in
-      subst {A = Turn} (λ k. IsRun k left tick (x + 1) xs w t) (sym before) run
+      subst {A = Turn} (λ k. IsRun k left tick xs w t) (sym before) run
 
 -- ---- at the end
 
@@ -153,7 +153,7 @@ unfolding told_at_end ticks_before
 due-none rests tick [] s late = refl
 due-none rests tick (x ∷ xs) s late = let far : tick + 1 ≤ x = omega (arith, late) in rw (le-ltb x (tick + 1) far) refl
 
-module _ (rests : Bool) (left tick now : ℕ) (snaps : List ℕ) (w : Waiting) (t : Together)
+module _ (rests : Bool) (left tick : ℕ) (snaps : List ℕ) (w : Waiting) (t : Together)
     (none : levels_of t.machine ≡ []) (in_time : AreInTime (told_at_end rests tick snaps t.machine.state)) (quiet : Quiet w) where
   abbrev state : Machine
   state = t.machine.state
@@ -167,7 +167,7 @@ module _ (rests : Bool) (left tick now : ℕ) (snaps : List ℕ) (w : Waiting) (
       ∙ ap {A = List Told} (λ rest. at_once tick state (Ended rests (seen_of t.machine)) ∷ rest)
       (sym (rest-quiet turns.Over left tick snaps w t quiet))
 
-  pub end-keeps : IsRun turns.Over left tick now snaps w t
+  pub end-keeps : IsRun turns.Over left tick snaps w t
   end-keeps = record {
     stands = none;
     taken = quiet-taken w state (levels_of t.machine ≡ []) quiet;
@@ -187,10 +187,10 @@ module _ (rests : Bool) (left tick now : ℕ) (snaps : List ℕ) (w : Waiting) (
         (sym (rest-quiet (turns.AtEnd rests) left tick xs w t quiet)
         ∙ ap {A = Turn} (λ k. rest_of k left tick xs w t) (sym at_end))
 
-    pub last-keeps : IsRun turn left tick now xs w t
+    pub last-keeps : IsRun turn left tick xs w t
     last-keeps =
         let all = subst {A = List Told} AreInTime last-tells in_time in
-        subst {A = Turn} (λ k. IsRun k left tick now xs w t) (sym at_end) (record {
+        subst {A = Turn} (λ k. IsRun k left tick xs w t) (sym at_end) (record {
           stands = none;
           taken = quiet-taken w state (levels_of t.machine ≡ []) quiet;
           in_time =

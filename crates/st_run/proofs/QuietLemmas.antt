@@ -67,7 +67,7 @@ quiet-due m quiet = still-due (is_some m.behind) (interrupt_due m) quiet.open_st
 pub quiet-right : (m : Overlap) → IsQuiet m → m.behind ≡ None
 quiet-right m quiet = still-right m.behind (interrupt_due m) quiet.open_still
 
-quiet-settled : (m : Overlap) → IsQuiet m → passed m ≡ settled_of m
+pub quiet-settled : (m : Overlap) → IsQuiet m → passed m ≡ settled_of m
 quiet-settled m quiet = still-settled m (quiet-due m quiet) quiet.awake (quiet-right m quiet)
 
 same-count : (n : ℕ) → false ≡ nat_lt n n
@@ -122,7 +122,7 @@ module _ (left : ℕ) (old : Together) (m k : Overlap) (xs : List Signal) (cards
 
 -- ---- what waits is nothing, whichever way
 
-none-quiet : Quiet (waits [] None None)
+pub none-quiet : Quiet (waits [] None None)
 unfolding whats
 none-quiet s = refl
 
@@ -131,9 +131,9 @@ pub quiet-rest : (turn : Turn) (left tick : ℕ) (snaps : List ℕ) (w : Waiting
 quiet-rest turn left tick snaps w t quiet =
     rest-quiet turn left tick snaps (waits [] None None) t none-quiet ∙ sym (rest-quiet turn left tick snaps w t quiet)
 
-pub quiet-run : (turn : Turn) (left tick now : ℕ) (snaps : List ℕ) (w : Waiting) (t : Together) → Quiet w
-    → IsRun turn left tick now snaps (waits [] None None) t → IsRun turn left tick now snaps w t
-quiet-run turn left tick now snaps w t quiet is = record {
+pub quiet-run : (turn : Turn) (left tick : ℕ) (snaps : List ℕ) (w : Waiting) (t : Together) → Quiet w
+    → IsRun turn left tick snaps (waits [] None None) t → IsRun turn left tick snaps w t
+quiet-run turn left tick snaps w t quiet is = record {
   stands = is.stands;
   taken = quiet-taken w t.machine.state _ quiet;
   in_time = subst {A = List Told} AreInTime (quiet-rest turn left tick snaps w t quiet) is.in_time;

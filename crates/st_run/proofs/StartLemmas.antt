@@ -293,9 +293,9 @@ module _ (ds : List ℕ) (n : ℕ) (c : Scene) (idle : IsIdle c.machine) (is : I
 
   pub start-run : (budget : ℕ) (snaps : List ℕ) → 1 ≤ n → n ≤ 8 → AreDelays 255 ds → 1 ≤ budget → budget ≤ 10000000
       → c.machine.done ≡ 0 → IsStrictlyIncreasing snaps
-      → IsRun turns.Before (budget - 1) 0 0 snaps none (with_scene (opened ds n c) (due c idle))
+      → IsRun turns.Before (budget - 1) 0 snaps none (with_scene (opened ds n c) (due c idle))
   start-run budget snaps some few are one most zero_done up = record {
-    stands = (opened-before some few are, refl, increasing-rises snaps up);
+    stands = (opened-before some few are, increasing-rises snaps up);
     taken = λ none. absurd (cc none);
     in_time =
         subst {A = List Told} AreInTime (sym (start-told budget snaps one))

@@ -1,16 +1,18 @@
 -- Ticks before the next entry is done, and that at which it is done.
 use Rattle.std.specs.Prelude.{is_none, IfSome}
-use Rattle.std.specs.Option.{option_map_or}
-use Rattle.std.proofs.Common.{◌≡◌, ℕ, zero, suc, ◌+◌, ◌-◌, ◌≤◌, ◌==◌, true, false, if◌then◌else◌, List, Option, None, Some, refl, sym, ◌∙◌, ap, subst, arith}
+use Rattle.std.proofs.Common.{◌≡◌, ℕ, zero, suc, ◌+◌, ◌-◌, ◌<◌, ◌≤◌, ◌==◌, ◌^◌, Bool, true, false, if◌then◌else◌, List, Option, None, Some, refl, sym, ◌∙◌, ap, subst, arith}
 use Rattle.std.proofs.lemmas.Bool.Decides.{nat_tests}
 use Rattle.st_state.specs.Machine.{Machine}
 use Rattle.st_exec.specs.Step.{interrupt, rests}
 use Rattle.st_rows.specs.declared.front.Front.{Front}
 use Rattle.st_ahead.specs.Overlap.{Overlap, seen, oldest_row, interrupt_due}
 use Rattle.st_ahead.specs.Calls.{is_done, completed, row_done, ticked, settled, passed}
-use Rattle.st_ahead.specs.Idle.{after_ticks, IsIdle, AreIdle}
+use Rattle.st_ahead.specs.RunTo.{after_ticks, IsPassed, ArePassed, RunsTo}
 use Rattle.st_ahead.specs.declared.events.Row.{Row}
-use Rattle.st_run.specs.Ticking.{IsReady, at_completion, AreTicked}
+use Rattle.st_ahead.proofs.Idling.{zero-comes}
+use Rattle.st_card.specs.declared.control_cards.Signal.{Signal}
+use Rattle.st_run.specs.Together.{Together, IsBefore}
+use Rattle.st_run.specs.Ticking.{IsReady, at_completion, AreTicked, AreMade, last_for}
 
 -- a machine between two ticks, in which nothing is owed
 abbrev pub calm : List ℕ → ℕ → Machine → Option ℕ → Front → ℕ → Overlap
@@ -44,27 +46,6 @@ none-due : (s : Machine) (t : Option ℕ) → t ≡ interrupt s → (if is_none 
 none-due s None same = sym same
 none-due s (Some i) same = refl
 
--- nothing comes behind a tick at which no entry is done
-pub record IsStill (m : Overlap) : Type 0 where
-  pub owed : m.owed ≡ true
-  pub due : interrupt_due m ≡ None
-  pub awake : rests m.state ≡ false
-  pub right : m.behind ≡ None
-
-calm-still : (ds : List ℕ) (n : ℕ) (s : Machine) (t : Option ℕ) (f : Front) (at : ℕ) → t ≡ interrupt s → rests s ≡ false
-    → is_done (calm ds n s t f at) ≡ false → IsStill (ticked (calm ds n s t f at))
-unfolding ticked
-calm-still ds n s t f at same awake late =
-    let is : ticked (calm ds n s t f at) ≡ record (calm ds n s t f at) { owed = true; closing = None } = rw late refl in
-    subst IsStill (sym is) (record { owed = refl; due = none-due s t same; awake = awake; right = refl })
-
-pub tick-still : (o m : Overlap) (at : ℕ) → IsReady o → m ≡ record o { now = at } → is_done m ≡ false → IsStill (ticked m)
-tick-still o m at h same late =
-    let is : m ≡ calm o.delays o.levels o.state o.taken o.front at =
-    same ∙ ap {A = Overlap} (λ q. record q { now = at }) (ready-calm o h) in
-    subst (λ q. IsStill (ticked q)) (sym is)
-    (calm-still o.delays o.levels o.state o.taken o.front at h.table h.awake (ap is_done (sym is) ∙ late))
-
 -- where nothing comes the tick is settled by passing
 pub still-settled : (m : Overlap) → interrupt_due m ≡ None → rests m.state ≡ false → m.behind ≡ None → passed m ≡ settled m
 unfolding settled
@@ -77,7 +58,7 @@ calm-passes : (ds : List ℕ) (n : ℕ) (s : Machine) (t : Option ℕ) (f : Fron
 unfolding ticked settled
 calm-passes ds n s t f at same awake late = rw (late, none-due s t same, awake) refl
 
-tick-passes : (o m : Overlap) (at : ℕ) → IsReady o → m ≡ record o { now = at } → is_done m ≡ false
+pub tick-passes : (o m : Overlap) (at : ℕ) → IsReady o → m ≡ record o { now = at } → is_done m ≡ false
     → settled (ticked m) ≡ record o { now = at + 1 }
 tick-passes o m at h same late =
     let calm_at : (k : ℕ) → record o { now = k } ≡ calm o.delays o.levels o.state o.taken o.front k =
@@ -86,12 +67,6 @@ tick-passes o m at h same late =
     ap {A = Overlap} (λ q. settled (ticked q)) is
     ∙ calm-passes o.delays o.levels o.state o.taken o.front at h.table h.awake (ap is_done (sym is) ∙ late)
     ∙ sym (calm_at (at + 1))
-
-pub tick-passed : (o m : Overlap) (at : ℕ) → IsReady o → m ≡ record o { now = at } → is_done m ≡ false
-    → passed (ticked m) ≡ record o { now = at + 1 }
-tick-passed o m at h same late =
-    let still = tick-still o m at h same late in
-    still-settled (ticked m) still.due still.awake still.right ∙ tick-passes o m at h same late
 
 -- the next entry is done later
 apart : (c at : ℕ) → at ≤ c → (c == at) ≡ false → at + 1 ≤ c
@@ -106,38 +81,27 @@ tick-early o m at early same late =
     apart (oldest_row o).c at early
     (ap (λ r. r.c == at) (sym (row-same o at)) ∙ ap is_done (sym same) ∙ late)
 
+not-done : (b : Bool) → (b ≡ true → ⊥) → b ≡ false
+not-done true never = absurd (never refl)
+not-done false never = refl
+
 -- so do ticks that are passed over, one after another
-pub after-none : (m : Overlap) → m ≡ after_ticks 0 m
+pub idle-passes : (o : Overlap) (k at : ℕ) (new : Overlap) → IsReady o → at ≤ (oldest_row o).c → ArePassed 0 k (record o { now = at }) new
+    → (new ≡ record o { now = at + k }) × (at + k ≤ (oldest_row o).c)
 unfolding after_ticks
-after-none m = refl
-
-pub idle-passes : (o : Overlap) (k at : ℕ) → IsReady o → at ≤ (oldest_row o).c → AreIdle k (record o { now = at })
-    → (after_ticks k (record o { now = at }) ≡ record o { now = at + k }) × (at + k ≤ (oldest_row o).c)
-unfolding after_ticks
-idle-passes o zero at h early idle = let same : at ≡ at + 0 = omega arith in (ap {A = ℕ} (λ x. record o { now = x }) same, omega arith)
-idle-passes o (suc k) at h early idle =
-    let first : IsIdle (record o { now = at }) = idle 0 (omega arith) in
-    let next : settled (ticked (record o { now = at })) ≡ record o { now = at + 1 } = tick-passes o (record o { now = at }) at h refl first.passed in
-    let later : AreIdle k (record o { now = at + 1 }) =
-    λ i before. subst (λ (m : Overlap). IsIdle (after_ticks i m)) next (idle (suc i) (omega (arith, before))) in
-    let rest = idle-passes o k (at + 1) h (tick-early o (record o { now = at }) at early refl first.passed) later in
-    let same : at + 1 + k ≡ at + suc k = omega arith in (
-      ap {A = Overlap} (after_ticks k) next ∙ rest.0 ∙ ap {A = ℕ} (λ x. record o { now = x }) same,
-      omega (arith, rest.1),
-    )
-
--- up to the tick behind that of the snapshot at the latest
-pub within-limit : (k limit now : ℕ) (snap : Option ℕ) → k ≤ limit - now → IfSome snap (λ x. limit ≤ x + 1) → IfSome snap (λ x. k ≤ x + 1 - now)
-within-limit k limit now None few before = tt
-within-limit k limit now (Some x) few before = omega (arith, before)
-
-pub none-within : (now : ℕ) (snap : Option ℕ) → IfSome snap (λ x. 0 ≤ x + 1 - now)
-none-within now None = tt
-none-within now (Some x) = omega arith
-
-pub over-made : (at k : ℕ) (snap : Option ℕ) → IfSome snap (λ x. at ≤ x + 1) → IfSome snap (λ x. k ≤ x + 1 - at) → IfSome snap (λ x. at + k ≤ x + 1)
-over-made at k None from few = tt
-over-made at k (Some x) from few = omega (arith, from, few)
+idle-passes o zero at new h early idle =
+    let same : at ≡ at + 0 = omega arith in (idle.after ∙ ap {A = ℕ} (λ x. record o { now = x }) same, omega arith)
+idle-passes o (suc k) at new h early idle =
+    let first : IsPassed 0 (record o { now = at }) = idle.each 0 (omega arith) in
+    let late : is_done (record o { now = at }) ≡ false = not-done (is_done (record o { now = at })) (λ done. zero-comes (ticked (record o { now = at })) (first.nothing done)) in
+    let next : settled (ticked (record o { now = at })) ≡ record o { now = at + 1 } = tick-passes o (record o { now = at }) at h refl late in
+    let later : ArePassed 0 k (record o { now = at + 1 }) new = record {
+      each = λ i before. subst (λ (m : Overlap). IsPassed 0 (after_ticks i m)) next (idle.each (suc i) (omega (arith, before)));
+      after = idle.after ∙ ap {A = Overlap} (after_ticks k) next;
+    } in
+    let rest = idle-passes o k (at + 1) new h (tick-early o (record o { now = at }) at early refl late) later in
+    let same : at + 1 + k ≡ at + suc k = omega arith in
+    (rest.0 ∙ ap {A = ℕ} (λ x. record o { now = x }) same, omega (arith, rest.1))
 
 -- it is done at this tick
 pub tick-done : (o m : Overlap) (at : ℕ) → m ≡ record o { now = at } → is_done m ≡ true → at ≡ (oldest_row o).c
@@ -145,31 +109,57 @@ tick-done o m at same done =
     together (oldest_row o).c at
     (ap (λ r. r.c == at) (sym (row-same o at)) ∙ ap is_done (sym same) ∙ done)
 
--- the snapshot's tick is no earlier than this one
-not-last : (at : ℕ) (snap : Option ℕ) → option_map_or (λ x. x + 1 == at) snap false ≡ false → IfSome snap (λ x. at ≤ x + 1)
-    → IfSome snap (λ x. at ≤ x)
-not-last at None test from = tt
-not-last at (Some x) test from = grind (arith, nat_tests)
-
-pub not-made : (at : ℕ) (snap : Option ℕ) → option_map_or (λ x. x + 1 == at) snap false ≡ false → IfSome snap (λ x. at ≤ x + 1)
-    → IfSome snap (λ x. at + 1 ≤ x + 1)
-not-made at snap test from = later snap (not-last at snap test from)
-  where
-    later : (o : Option ℕ) → IfSome o (λ x. at ≤ x) → IfSome o (λ x. at + 1 ≤ x + 1)
-    later None is = tt
-    later (Some x) is = omega arith
-
-done-completed : (o m : Overlap) (at : ℕ) → m ≡ record o { now = at } → is_done m ≡ true → ticked m ≡ completed m
+pub done-completed : (o m : Overlap) (at : ℕ) → m ≡ record o { now = at } → is_done m ≡ true → ticked m ≡ completed m
 unfolding ticked
 done-completed o m at same done = rw done refl
 
-pub tick-answers : (o m new : Overlap) (row : Row) (at : ℕ) (snap : Option ℕ) → m ≡ record o { now = at }
-    → option_map_or (λ x. x + 1 == at) snap false ≡ false → IfSome snap (λ x. at ≤ x + 1)
-    → is_done m ≡ true → new ≡ ticked m → row ≡ row_done m → AreTicked (Some row) snap o new
-tick-answers o m new row at snap same test from done after is =
-    let last : at ≡ (oldest_row o).c = tick-done o m at same done in
-    let at_end : m ≡ at_completion o = same ∙ ap {A = ℕ} (λ k. record o { now = k }) last in (
-      subst (λ k. IfSome snap (λ x. k ≤ x)) last (not-last at snap test from),
-      after ∙ done-completed o m at same done ∙ ap completed at_end,
-      is ∙ ap row_done at_end,
+-- ---- up to the next entry that is done, or a snapshot
+
+until-late : (c now last : ℕ) (snap : Option ℕ) → c ≤ last → last ≡ last_for snap → IfSome snap (λ x. c ≤ x)
+until-late c now last None soon is = tt
+until-late c now last (Some x) soon is = omega (arith, soon, is)
+
+until-made : (o new : Overlap) (last : ℕ) (snap : Option ℕ) → (oldest_row o).c < 2 ^ 63 → o.now ≤ (oldest_row o).c
+    → last ≡ last_for snap → o.now + (last + 1 - o.now) ≤ (oldest_row o).c → IfSome snap (λ x. o.now - 1 ≤ x)
+    → new ≡ record o { now = o.now + (last + 1 - o.now) } → AreTicked None snap o new
+until-made o new last None in_time early is late from after = absurd (omega (arith, in_time, early, is, late))
+until-made o new last (Some x) in_time early is late from after =
+    let same : o.now + (last + 1 - o.now) ≡ x + 1 = omega (arith, in_time, early, is, late, from) in
+    (omega (arith, same, late), after ∙ ap {A = ℕ} (λ k. record o { now = k }) same)
+
+pub ticked-until : (o new : Overlap) (row : Option Row) (last : ℕ) (snap : Option ℕ) → IsReady o → (oldest_row o).c < 2 ^ 63
+    → IfSome snap (λ x. o.now - 1 ≤ x) → last ≡ last_for snap → RunsTo 0 last row o new → AreTicked row snap o new
+ticked-until o new None last snap h in_time from is ran =
+    let all = idle-passes o (last + 1 - o.now) o.now new h h.early ran in
+    until-made o new last snap in_time h.early is all.1 from all.0
+ticked-until o new (Some row) last snap h in_time from is ran =
+    let all = idle-passes o ran.ticks o.now ran.before h h.early ran.passed in
+    let at = o.now + ran.ticks in
+    let same : at ≡ (oldest_row o).c = tick-done o ran.before at all.0 ran.done in
+    let at_end : ran.before ≡ at_completion o = all.0 ∙ ap {A = ℕ} (λ k. record o { now = k }) same in
+    let soon : (oldest_row o).c ≤ last = omega (arith, ran.soon, ap (λ (m : Overlap). m.now) at_end) in (
+      until-late (oldest_row o).c o.now last snap soon is,
+      ran.after ∙ done-completed o ran.before at all.0 ran.done ∙ ap {A = Overlap} completed at_end,
+      ran.row_is ∙ ap {A = Overlap} row_done at_end,
     )
+
+-- the same of the parts of a machine with what is to come to it
+pub made-until : (old : Together) (m new : Overlap) (xs : List Signal) (cards : List (List ℕ))
+    → record { machine = m; signals = xs; cards = cards } ≡ old → IsBefore old → (oldest_row old.machine).c < 2 ^ 63
+    → (snap : Option ℕ) → IfSome snap (λ x. old.machine.now - 1 ≤ x) → (last : ℕ) → last ≡ last_for snap
+    → (row : Option Row) → RunsTo 0 last row m new → AreMade row snap old (record { machine = new; signals = xs; cards = cards })
+made-until old m new xs cards view before in_time snap from last is row ran =
+    let machine : m ≡ old.machine = ap (λ (t : Together). t.machine) view in
+    let ready : IsReady old.machine = record {
+      settled = before.settled;
+      going = before.going;
+      guessed = before.guessed;
+      closed = before.closed;
+      table = before.table;
+      awake = before.awake;
+      early = before.early;
+    } in
+    record {
+      ticked = ticked-until old.machine new row last snap ready in_time from is (subst {A = Overlap} (λ o. RunsTo 0 last row o new) machine ran);
+      kept = ap {A = Together} (λ (t : Together). record t { machine = new }) view;
+    }

@@ -175,8 +175,8 @@ view-none o none = record {
   same = rw none tt;
 }
 
-pub view-run : (turn : Turn) (left tick now : ℕ) (snaps : List ℕ) (w : Waiting) (t : Together) → IsRun turn left tick now snaps w t
+pub view-run : (turn : Turn) (left tick : ℕ) (snaps : List ℕ) (w : Waiting) (t : Together) → IsRun turn left tick snaps w t
     → AreLevels (shown t.machine).levels (ahead_of t.machine)
-view-run turns.Before left tick now snaps w t is = view-before t is.stands.0
-view-run (turns.AtEnd rests) left tick now snaps w t is = view-none t.machine is.stands
-view-run turns.Over left tick now snaps w t is = view-none t.machine is.stands
+view-run turns.Before left tick snaps w t is = view-before t is.stands.0
+view-run (turns.AtEnd rests) left tick snaps w t is = view-none t.machine is.stands
+view-run turns.Over left tick snaps w t is = view-none t.machine is.stands

@@ -1,6 +1,6 @@
 -- What waits to be told, one thing after another.
-use Rattle.std.specs.Prelude.{map, reverse}
-use Rattle.std.proofs.Common.{◌≡◌, ℕ, ◌<◌, false, true, length, arith, List, [], ◌∷◌, ◌++◌, Option, None, Some, refl, ◌∙◌, ap}
+use Rattle.std.specs.Prelude.{map, reverse, is_some, option_map}
+use Rattle.std.proofs.Common.{◌≡◌, ℕ, ◌<◌, ◌≤◌, false, true, length, arith, List, [], ◌∷◌, ◌++◌, Option, None, Some, refl, ◌∙◌, ap}
 use Rattle.std.proofs.lemmas.List.{reverse-append}
 use Rattle.st_state.specs.Machine.{Machine}
 use Rattle.st_run.specs.Told.{Dropped, Printed, Interrupted}
@@ -45,3 +45,15 @@ waiting-same v w drops text taken =
     ap {A = List (ℕ × ℕ)} (λ xs. record v { drops = xs }) drops
     ∙ ap {A = Option (List ℕ)} (λ o. record w { text = o; taken = v.taken }) text
     ∙ ap {A = Option ℕ} (λ o. record w { taken = o }) taken
+
+pub without-items : (xs : List (ℕ × ℕ)) → length xs ≤ 0 → xs ≡ []
+without-items [] none = refl
+without-items (x ∷ xs) none = absurd (omega (arith, none))
+
+pub none-mapped : {A : Type 0} {B : Type 0} (f : A → B) (o : Option A) → is_some o ≡ false → option_map f o ≡ None
+none-mapped f None none = refl
+none-mapped f (Some x) none = absurd (cc none)
+
+pub none-there : {A : Type 0} (o : Option A) → is_some o ≡ false → o ≡ None
+none-there None none = refl
+none-there (Some x) none = absurd (cc none)

@@ -11,3 +11,4 @@ pub mod Telling
 pub mod Ticking
 pub mod Leaving
 pub mod Between
+pub mod RunLaws

@@ -1,5 +1,5 @@
 -- What a run still has to tell, and what it shows.
-use Rattle.std.specs.Prelude.{ℕ, ◌≡◌, ◌+◌, ◌-◌, ◌<◌, ◌^◌, Bool, List, [], ◌∷◌, ◌++◌, map, reverse, replicate, length, All, Option, None, Some, option_map, IsSome, ◌≤◌}
+use Rattle.std.specs.Prelude.{ℕ, ◌≡◌, ◌+◌, ◌-◌, ◌<◌, ◌^◌, Bool, List, [], ◌∷◌, ◌++◌, map, reverse, replicate, length, All, Option, None, Some, option_map, IsSome, ◌≤◌, ⊤}
 use Rattle.std.specs.List.{AllZip}
 use Rattle.st_state.specs.Machine.{Machine}
 use Rattle.st_exec.specs.Step.{rests}
@@ -34,6 +34,22 @@ what_told tells.Printed tick s levels text = Printed text
 what_told (tells.Interrupted i) tick s levels text = Interrupted i s
 what_told (tells.Shown at) tick s levels text = Shown at s levels
 what_told (tells.Ended rests) tick s levels text = Ended rests s
+
+-- an entry that is done
+abbrev pub IsDone : What → Type 0
+IsDone (Done address p r c) = ⊤
+IsDone (Dropped address p) = ⊥
+IsDone (Printed text) = ⊥
+IsDone (Interrupted i s) = ⊥
+IsDone (Shown tick s levels) = ⊥
+IsDone (Ended rests s) = ⊥
+
+-- of what was to be told entries that are done are left out at the front, of which this is the last one, and nothing else
+pub record AreLeftOut (last : Told) (old new : List Told) : Type 0 where
+  pub rows : List Told
+  pub are : All (λ t. IsDone t.what) rows
+  pub is : IsDone last.what
+  pub rest : old ≡ rows ++ last ∷ new
 
 -- ---- what is told between two entries
 
@@ -105,18 +121,18 @@ pub record AreLevels (shown : List (Option LevelView)) (levels : List Level) : T
 -- ---- what a run keeps
 
 -- where the machine stands by the turn: an entry is to be done, or nothing is ahead any more
-abbrev pub IsTurn : Turn → ℕ → List ℕ → Together → Type 0
-IsTurn turns.Before now snaps t = IsBefore t × (now ≡ t.machine.now) × AreRising (now - 1) snaps
-IsTurn (turns.AtEnd rests) now snaps t = levels_of t.machine ≡ []
-IsTurn turns.Over now snaps t = levels_of t.machine ≡ []
+abbrev pub IsTurn : Turn → List ℕ → Together → Type 0
+IsTurn turns.Before snaps t = IsBefore t × AreRising (t.machine.now - 1) snaps
+IsTurn (turns.AtEnd rests) snaps t = levels_of t.machine ≡ []
+IsTurn turns.Over snaps t = levels_of t.machine ≡ []
 
 -- all that is still to be told comes in time
 abbrev pub AreInTime : List Told → Type 0
 AreInTime = All (λ x. (x.tick < 2 ^ 63) × (x.done < 2 ^ 63))
 
 -- where an interrupt waits to be told nothing is ahead, so that the state is shown in which it is taken
-pub record IsRun (turn : Turn) (left tick now : ℕ) (snaps : List ℕ) (w : Waiting) (t : Together) : Type 0 where
-  pub stands : IsTurn turn now snaps t
+pub record IsRun (turn : Turn) (left tick : ℕ) (snaps : List ℕ) (w : Waiting) (t : Together) : Type 0 where
+  pub stands : IsTurn turn snaps t
   pub taken : IsSome w.taken → levels_of t.machine ≡ []
   pub in_time : AreInTime (rest_of turn left tick snaps w t)
 

@@ -1,32 +1,37 @@
 //! How far a run has come, and how it goes on.
-ghost use Rattle.std.specs.Prelude.{◌≡◌, ◌-◌, ◌<◌, ◌≤◌, if◌then◌else◌, [], ◌∷◌, MatchOption, IfSome};
+ghost use Rattle.std.specs.Prelude.{◌≡◌, ◌+◌, ◌-◌, ◌<◌, ◌≤◌, ◌^◌, ℕ, false, if◌then◌else◌, [], ◌∷◌, MatchOption, IfSome};
 ghost use Rattle.st_state.specs.Machine.{Machine};
 ghost use Rattle.st_ahead.specs.Overlap.{levels_of};
 ghost use Rattle.st_run.specs.TimedRun.{timed_from, timed_behind};
 ghost use Rattle.st_run.specs.Told.{told as told_events};
 ghost use Rattle.st_run.specs.Together.{moment_of, standing_of};
-ghost use Rattle.st_run.specs.Telling.{whats, told_at_end, rest_of, told_with, first_tick, IsRun, IsShown, IsLeft, AreInTime};
+ghost use Rattle.st_run.specs.Between.{signal_due};
+ghost use Rattle.st_run.specs.Telling.{whats, told_at_end, rest_of, told_with, first_tick, AreLeftOut, IsRun, IsShown, IsLeft, AreInTime};
+ghost use Rattle.st_run.specs.declared.told.What.TheVariants as tells;
 ghost use Rattle.st_run.specs.declared.turn.Turn.TheVariants as turns;
 
 use crate::driven::Driven;
 use crate::leaving::{leave, levels_ahead, pass_on};
-use crate::ticking::run_until;
+use crate::ticking::{run_many, run_until};
 use crate::told::{Told, What};
 use crate::turn::Turn;
 use crate::waiting::Waiting;
 use arrayvec::{ArrayString, ArrayVec};
+use st_ahead::Row;
+use st_card::Signal;
 use st_state::State;
 
+// No more instructions are done than this number, 2^63 - 1.
+const MOST: u64 = (1 << 63) - 1;
+
 // A run between two things that it tells: the machine with what is still to come to it, the snapshots that are still to
-// come, how many instructions may be done behind the next one, the tick at which the last one was done, the tick that
-// comes next, what waits to be told, the text that was printed last, and the turn.
+// come, how many instructions may be done behind the next one, the tick at which the last one was done, what waits to be told, the text that was printed last, and the turn.
 #[derive(Drop)]
 pub(crate) struct Progress<'a, const N: usize> {
     pub driven: Driven<'a, N>,
     pub snaps: &'a [u64],
     pub left: u64,
     pub tick: u64,
-    pub now: u64,
     pub waiting: Waiting,
     pub printed: ArrayString<64>,
     pub turn: Turn,
@@ -34,8 +39,8 @@ pub(crate) struct Progress<'a, const N: usize> {
 
 // The next thing that is told; `None` exactly where all is told.
 pub(crate) fn tell_next<const N: usize>(run: &mut Progress<N>) -> Option<Told>
-    requires { IsRun run.old.turn run.old.left run.old.tick run.old.now run.old.snaps.now run.old.waiting run.old.driven }
-    ensures kept { IsRun run.new.turn run.new.left run.new.tick run.new.now run.new.snaps.now run.new.waiting run.new.driven }
+    requires { IsRun run.old.turn run.old.left run.old.tick run.old.snaps.now run.old.waiting run.old.driven }
+    ensures kept { IsRun run.new.turn run.new.left run.new.tick run.new.snaps.now run.new.waiting run.new.driven }
     ensures told { MatchOption result
         (rest_of run.old.turn run.old.left run.old.tick run.old.snaps.now run.old.waiting run.old.driven ≡ [])
         (λ t. rest_of run.old.turn run.old.left run.old.tick run.old.snaps.now run.old.waiting run.old.driven
@@ -52,22 +57,86 @@ pub(crate) fn tell_next<const N: usize>(run: &mut Progress<N>) -> Option<Told>
     }
 }
 
-// Before the next entry: a snapshot, or that entry is done.
-fn go<const N: usize>(run: &mut Progress<N>) -> Told
-    requires run { IsRun turns.Before run.old.left run.old.tick run.old.now run.old.snaps.now run.old.waiting run.old.driven }
+// Passes over entries that are done, as so many calls would tell them, as long as nothing else comes between them. The last of
+// them is the result; there is none where something else is told next, or may be.
+#[inline(never)]
+pub(crate) fn pass_entries<const N: usize>(run: &mut Progress<N>) -> Option<Told>
+    requires { IsRun run.old.turn run.old.left run.old.tick run.old.snaps.now run.old.waiting run.old.driven }
+    ensures kept { IsRun run.new.turn run.new.left run.new.tick run.new.snaps.now run.new.waiting run.new.driven }
+    ensures told { MatchOption result
+        (rest_of run.new.turn run.new.left run.new.tick run.new.snaps.now run.new.waiting run.new.driven
+        ≡ rest_of run.old.turn run.old.left run.old.tick run.old.snaps.now run.old.waiting run.old.driven)
+        (λ t. AreLeftOut (told_with t run.new.driven.machine run.new.printed.bytes)
+        (rest_of run.old.turn run.old.left run.old.tick run.old.snaps.now run.old.waiting run.old.driven)
+        (rest_of run.new.turn run.new.left run.new.tick run.new.snaps.now run.new.waiting run.new.driven)) }
+{
+    let Turn::Before = run.turn else {
+        return None;
+    };
+    if !run.snaps.is_empty() {
+        return None;
+    }
+    if !run.waiting.is_empty() {
+        return None;
+    }
+    Some(go_far(run))
+}
+
+// Before the next entry, where no snapshot is to come: it is done, and those behind it between which nothing comes.
+fn go_far<const N: usize>(run: &mut Progress<N>) -> Told
+    requires run { IsRun turns.Before run.old.left run.old.tick run.old.snaps.now run.old.waiting run.old.driven }
     requires turn { run.old.turn ≡ turns.Before }
     requires waits { (s : Machine) → whats run.old.waiting s ≡ [] }
-    ensures kept { IsRun run.new.turn run.new.left run.new.tick run.new.now run.new.snaps.now run.new.waiting run.new.driven }
-    ensures told { told_events (timed_behind run.old.driven.machine.delays run.old.driven.machine.levels run.old.left
-        (standing_of run.old.tick run.old.driven) run.old.snaps.now)
-        ≡ told_with result run.new.driven.machine run.new.printed.bytes
-        ∷ rest_of run.new.turn run.new.left run.new.tick run.new.snaps.now run.new.waiting run.new.driven }
+    requires snaps { run.old.snaps.now ≡ [] }
+    ensures kept { IsRun run.new.turn run.new.left run.new.tick run.new.snaps.now run.new.waiting run.new.driven }
+    ensures told { AreLeftOut (told_with result run.new.driven.machine run.new.printed.bytes)
+        (told_events (timed_behind run.old.driven.machine.delays run.old.driven.machine.levels run.old.left
+        (standing_of run.old.tick run.old.driven) run.old.snaps.now))
+        (rest_of run.new.turn run.new.left run.new.tick run.new.snaps.now run.new.waiting run.new.driven) }
 {
-    let snap = first_of(run.snaps);
-    let Some(row) = run_until(&mut run.driven, run.now, snap) else {
-        return show(run);
+    let done = done_of(&run.driven);
+    let count = count_of(&run.driven, done, run.left);
+    let Some(row) = run_many(&mut run.driven, count) else {
+        return at_once(&run.driven, run.tick, What::Shown(0));
     };
+    run.left -= row.number - 1 - done;
     leave_entry(run, row.c);
+    told_of(row)
+}
+
+// The number of instructions after which something else may come than entries that are done: where the budget is used up, or a
+// signal comes; 2^63 at most.
+fn count_of<const N: usize>(driven: &Driven<N>, done: u64, left: u64) -> u64
+    requires { done < 2 ^ 63 }
+    ensures few { result ≤ 2 ^ 63 }
+    ensures left { result ≤ done + left + 1 }
+    ensures signal { (d : ℕ) → d < result → signal_due d driven.now.signals ≡ false }
+{
+    count_before(driven.signals, done, left)
+}
+
+// The same by the signals that are still to come.
+fn count_before(signals: &[Signal], done: u64, left: u64) -> u64
+    requires { done < 2 ^ 63 }
+    ensures few { result ≤ 2 ^ 63 }
+    ensures left { result ≤ done + left + 1 }
+    ensures signal { (d : ℕ) → d < result → signal_due d signals.now ≡ false }
+{
+    let most = if left > MOST - done {
+        MOST
+    } else {
+        done + left + 1
+    };
+    match signals {
+        [first, ..] => first.count.min(most),
+        [] => most,
+    }
+}
+
+// An entry that is done.
+fn told_of(row: Row) -> Told
+    ensures { result ≡ record { done = row.number; tick = row.c; what = tells.Done row.address row.p row.r } }
+{
     Told {
         done: row.number,
         tick: row.c,
@@ -79,12 +148,31 @@ fn go<const N: usize>(run: &mut Progress<N>) -> Told
     }
 }
 
+// Before the next entry: a snapshot, or that entry is done.
+fn go<const N: usize>(run: &mut Progress<N>) -> Told
+    requires run { IsRun turns.Before run.old.left run.old.tick run.old.snaps.now run.old.waiting run.old.driven }
+    requires turn { run.old.turn ≡ turns.Before }
+    requires waits { (s : Machine) → whats run.old.waiting s ≡ [] }
+    ensures kept { IsRun run.new.turn run.new.left run.new.tick run.new.snaps.now run.new.waiting run.new.driven }
+    ensures told { told_events (timed_behind run.old.driven.machine.delays run.old.driven.machine.levels run.old.left
+        (standing_of run.old.tick run.old.driven) run.old.snaps.now)
+        ≡ told_with result run.new.driven.machine run.new.printed.bytes
+        ∷ rest_of run.new.turn run.new.left run.new.tick run.new.snaps.now run.new.waiting run.new.driven }
+{
+    let snap = first_of(run.snaps);
+    let Some(row) = run_until(&mut run.driven, snap) else {
+        return show(run);
+    };
+    leave_entry(run, row.c);
+    told_of(row)
+}
+
 // The snapshot whose tick was made last.
 fn show<const N: usize>(run: &mut Progress<N>) -> Told
     requires shown { IsShown run.old.left run.old.tick run.old.snaps.now run.old.driven }
     requires turn { run.old.turn ≡ turns.Before }
     requires waits { (s : Machine) → whats run.old.waiting s ≡ [] }
-    ensures kept { IsRun run.new.turn run.new.left run.new.tick run.new.now run.new.snaps.now run.new.waiting run.new.driven }
+    ensures kept { IsRun run.new.turn run.new.left run.new.tick run.new.snaps.now run.new.waiting run.new.driven }
     ensures told { told_events (timed_behind run.old.driven.machine.delays run.old.driven.machine.levels run.old.left
         (standing_of run.old.tick run.old.driven) run.old.snaps.now)
         ≡ told_with result run.new.driven.machine run.new.printed.bytes
@@ -94,7 +182,6 @@ fn show<const N: usize>(run: &mut Progress<N>) -> Told
         return at_once(&run.driven, run.tick, What::Shown(0));
     };
     run.snaps = after;
-    run.now = at + 1;
     at_once(&run.driven, run.tick, What::Shown(at))
 }
 
@@ -103,7 +190,7 @@ fn leave_entry<const N: usize>(run: &mut Progress<N>, tick: u64)
     requires left { IsLeft run.old.left run.old.snaps.now tick run.old.driven }
     requires turn { run.old.turn ≡ turns.Before }
     requires waits { (s : Machine) → whats run.old.waiting s ≡ [] }
-    ensures kept { IsRun run.new.turn run.new.left run.new.tick run.new.now run.new.snaps.now run.new.waiting run.new.driven }
+    ensures kept { IsRun run.new.turn run.new.left run.new.tick run.new.snaps.now run.new.waiting run.new.driven }
     ensures told { told_events (timed_from run.old.driven.machine.delays run.old.driven.machine.levels run.old.left
         (moment_of run.old.driven) run.old.snaps.now)
         ≡ rest_of run.new.turn run.new.left run.new.tick run.new.snaps.now run.new.waiting run.new.driven }
@@ -113,7 +200,6 @@ fn leave_entry<const N: usize>(run: &mut Progress<N>, tick: u64)
         return;
     }
     run.tick = tick;
-    run.now = tick + 1;
     run.left = one_less(run.left);
 }
 
@@ -121,7 +207,7 @@ fn leave_entry<const N: usize>(run: &mut Progress<N>, tick: u64)
 #[inline(never)]
 fn leave_fully<const N: usize>(run: &mut Progress<N>, tick: u64)
     requires left { IsLeft run.old.left run.old.snaps.now tick run.old.driven }
-    ensures kept { IsRun run.new.turn run.new.left run.new.tick run.new.now run.new.snaps.now run.new.waiting run.new.driven }
+    ensures kept { IsRun run.new.turn run.new.left run.new.tick run.new.snaps.now run.new.waiting run.new.driven }
     ensures told { told_events (timed_from run.old.driven.machine.delays run.old.driven.machine.levels run.old.left
         (moment_of run.old.driven) run.old.snaps.now)
         ≡ rest_of run.new.turn run.new.left run.new.tick run.new.snaps.now run.new.waiting run.new.driven }
@@ -136,7 +222,6 @@ fn leave_fully<const N: usize>(run: &mut Progress<N>, tick: u64)
     };
     run.turn = decided.turn;
     run.tick = tick;
-    run.now = tick + 1;
     run.left = one_less(run.left);
 }
 
@@ -146,7 +231,7 @@ fn finish<const N: usize>(run: &mut Progress<N>, rests: bool) -> Told
     requires levels { levels_of run.old.driven.machine ≡ [] }
     requires in_time { AreInTime (told_at_end rests run.old.tick run.old.snaps.now run.old.driven.machine.state) }
     requires waits { (s : Machine) → whats run.old.waiting s ≡ [] }
-    ensures kept { IsRun run.new.turn run.new.left run.new.tick run.new.now run.new.snaps.now run.new.waiting run.new.driven }
+    ensures kept { IsRun run.new.turn run.new.left run.new.tick run.new.snaps.now run.new.waiting run.new.driven }
     ensures told { told_at_end rests run.old.tick run.old.snaps.now run.old.driven.machine.state
         ≡ told_with result run.new.driven.machine run.new.printed.bytes
         ∷ rest_of run.new.turn run.new.left run.new.tick run.new.snaps.now run.new.waiting run.new.driven }
@@ -164,10 +249,17 @@ fn at_once<const N: usize>(driven: &Driven<N>, tick: u64, what: What) -> Told
     ensures { result ≡ record { done = driven.now.machine.state.done; tick = tick; what = what } }
 {
     Told {
-        done: done_in(driven.machine.state()),
+        done: done_of(driven),
         tick,
         what,
     }
+}
+
+// The number of instructions that a machine has done.
+fn done_of<const N: usize>(driven: &Driven<N>) -> u64
+    ensures { result ≡ driven.now.machine.state.done }
+{
+    done_in(driven.machine.state())
 }
 
 // The number of instructions done.

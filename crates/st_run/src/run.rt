@@ -7,10 +7,10 @@ ghost use Rattle.st_card.specs.Limits.{is_signal};
 ghost use Rattle.st_run.specs.Scenes.{IsCard};
 ghost use Rattle.st_run.specs.Told.{told as told_events};
 ghost use Rattle.st_run.specs.TimedRun.{timed_run};
-ghost use Rattle.st_run.specs.Telling.{what_told, AreLevels};
+ghost use Rattle.st_run.specs.Telling.{what_told, AreLeftOut, AreLevels};
 
 use crate::driven::{Driven, take_due_signals, view_of};
-use crate::progress::{Progress, tell_next};
+use crate::progress::{Progress, pass_entries, tell_next};
 use crate::seen::Seen;
 use crate::told::Told;
 use crate::turn::Turn;
@@ -43,8 +43,7 @@ impl<'a, const N: usize> Model for Run<'a, N> {
       text = r.progress.printed.bytes;
     } };
 
-    ghost invariant = { λ r. IsRun r.progress.turn r.progress.left r.progress.tick r.progress.now r.progress.snaps.now
-        r.progress.waiting r.progress.driven };
+    ghost invariant = { λ r. IsRun r.progress.turn r.progress.left r.progress.tick r.progress.snaps.now r.progress.waiting r.progress.driven };
 }
 
 impl<'a, const N: usize> Run<'a, N> {
@@ -54,7 +53,7 @@ impl<'a, const N: usize> Run<'a, N> {
     ghost use Rattle.st_run.specs.Scenes.{IsCard};
     ghost use Rattle.st_run.specs.Told.{told as told_events};
     ghost use Rattle.st_run.specs.TimedRun.{timed_run};
-    ghost use Rattle.st_run.specs.Telling.{what_told, AreLevels};
+    ghost use Rattle.st_run.specs.Telling.{what_told, AreLeftOut, AreLevels};
 
     /// A run from a state that nothing has happened in, with the signals and the reader's cards that come to it, the ticks
     /// of the snapshots, and how many instructions may be done, at most 10,000,000.
@@ -95,7 +94,6 @@ impl<'a, const N: usize> Run<'a, N> {
                 snaps,
                 left: budget - 1,
                 tick: 0,
-                now: 0,
                 waiting: Waiting::new(),
                 printed: ArrayString::new(),
                 turn: Turn::Before,
@@ -112,6 +110,18 @@ impl<'a, const N: usize> Run<'a, N> {
         } ∷ self.new.rest) }
     {
         tell_next(&mut self.progress)
+    }
+
+    /// Passes over entries that are done, as so many calls of `next` would tell them, as long as nothing else comes between them. The
+    /// last of them is the result; there is none where something else is told next, or may be, as long as snapshots are to come.
+    pub fn pass_entries(&mut self) -> Option<Told>
+        ensures { MatchOption result (self.new.rest ≡ self.old.rest) (λ t. AreLeftOut (record {
+          done = t.done;
+          tick = t.tick;
+          what = what_told t.what t.tick self.new.seen self.new.ahead self.new.text;
+        }) self.old.rest self.new.rest) }
+    {
+        pass_entries(&mut self.progress)
     }
 
     /// The state that is shown.

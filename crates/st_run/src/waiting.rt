@@ -1,5 +1,5 @@
 //! What is told between two entries.
-ghost use Rattle.std.specs.Prelude.{◌≡◌, ℕ, [], ◌∷◌, None, MatchOption, IfSome, IsSome, List};
+ghost use Rattle.std.specs.Prelude.{◌≡◌, ℕ, [], ◌∷◌, None, MatchOption, IfSome, IsSome, List, true};
 ghost use Rattle.std.specs.Option.{IfNone};
 ghost use Rattle.st_state.specs.Machine.{Machine};
 ghost use Rattle.st_run.specs.Events.{Level};
@@ -39,6 +39,22 @@ impl Waiting {
             text: None,
             taken: None,
         }
+    }
+
+    /// Whether nothing waits.
+    pub fn is_empty(&self) -> bool
+        ensures { result ≡ true → (s : Machine) → whats_of self.now s ≡ [] }
+    {
+        if self.drops.len() > 0 {
+            return false;
+        }
+        if self.text.is_some() {
+            return false;
+        }
+        if self.taken.is_some() {
+            return false;
+        }
+        true
     }
 
     /// What is told next, and no longer waits: the youngest entry that is dropped, the text, which is then the one that was

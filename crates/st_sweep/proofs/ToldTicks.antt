@@ -1,16 +1,14 @@
 -- The last tick that is told.
 use Rattle.st_card.specs.declared.control_cards.Signal.{Signal}
-use Rattle.std.proofs.Common.{◌≡◌, ℕ, List, [], ◌∷◌, refl, ◌∙◌, ap}
+use Rattle.std.proofs.Common.{◌≡◌, ℕ, ◌<◌, List, [], ◌∷◌, ◌++◌, length, refl, sym, subst, ◌∙◌, ap, arith}
 use Rattle.st_state.specs.Machine.{Machine}
 use Rattle.st_run.specs.Events.{Timed}
 use Rattle.st_run.specs.Order.{last_tick}
 use Rattle.st_run.specs.TimedRun.{timed_run}
 use Rattle.st_run.specs.Told.{Told, told}
+use Rattle.st_run.specs.Telling.{AreLeftOut}
+use Rattle.st_sweep.specs.Starts.{last_told}
 use Rattle.st_sweep.specs.Sweep.{without_cards, ticks}
-
-unfoldable pub last_told : ℕ → List Told → ℕ
-last_told t [] = t
-last_told t (x ∷ xs) = last_told x.tick xs
 
 pub told-last : (t : ℕ) (xs : List Timed) → last_told t (told xs) ≡ last_tick t xs
 unfolding last_told told last_tick
@@ -24,6 +22,22 @@ last_told-next t x xs rest same = rw same refl
 pub last_told-end : (t : ℕ) (rest : List Told) → rest ≡ [] → last_told t rest ≡ t
 unfolding last_told
 last_told-end t rest same = rw same refl
+
+-- entries that are left out
+rows-last : (rows new : List Told) (last : Told) (t : ℕ) → last_told t (rows ++ last ∷ new) ≡ last_told last.tick new
+unfolding last_told
+rows-last [] new last t = refl
+rows-last (x ∷ rows) new last t = rows-last rows new last x.tick
+
+pub last_told-left_out : (last : Told) (old new : List Told) → AreLeftOut last old new → (t : ℕ) → last_told t old ≡ last_told last.tick new
+last_told-left_out last old new is t = ap (last_told t) is.rest ∙ rows-last is.rows new last t
+
+rows-fewer : (rows new : List Told) (last : Told) → length new < length (rows ++ last ∷ new)
+rows-fewer [] new last = omega arith
+rows-fewer (x ∷ rows) new last = let fewer = rows-fewer rows new last in omega (arith, fewer)
+
+pub left_out-fewer : (last : Told) (old new : List Told) → AreLeftOut last old new → length new < length old
+left_out-fewer last old new is = subst (λ xs. length new < length xs) (sym is.rest) (rows-fewer is.rows new last)
 
 -- what a whole run tells
 pub told-whole : (ds : List ℕ) (n left : ℕ) (s : Machine) (xs : List Signal) (cards : List (List ℕ)) (rest : List Told)

@@ -1,11 +1,11 @@
 //! Machines before their first entry, and the ticks of their runs.
-ghost use Rattle.std.specs.Prelude.{◌≡◌, ◌≤◌, ◌<◌, ◌^◌, ℕ, [], ◌∷◌, length, slice_index, IfOk};
+ghost use Rattle.std.specs.Prelude.{◌≡◌, ◌≤◌, ◌<◌, ◌^◌, ℕ, [], ◌∷◌, length, slice_index, IfOk, IfSome, MatchOption};
 ghost use Rattle.std.specs.List.{AllPass};
 ghost use Rattle.st_bits.specs.Storage.{words_of_storage};
 ghost use Rattle.st_bits.specs.declared.limits.TheConstants.{MOST_INSTRUCTIONS};
 ghost use Rattle.st_bits.specs.declared.register.TheConstants.{FIRST_STORAGE_WORD};
 ghost use Rattle.st_card.specs.Limits.{is_signal};
-ghost use Rattle.st_sweep.specs.Starts.{ticks_from, start_of};
+ghost use Rattle.st_sweep.specs.Starts.{ticks_from, start_of, last_told};
 ghost use Rattle.st_sweep.specs.SideBySide.{four_of};
 
 use st_banks::Delays;
@@ -53,6 +53,21 @@ impl Start {
     }
 }
 
+// The tick of what a run tells next, or of the last one of the entries that are passed over.
+fn next_tick<const N: usize>(run: &mut Run<'_, N>) -> Option<u64>
+    ensures told { MatchOption result (run.old.rest ≡ [])
+        (λ tick. (t : ℕ) → last_told t run.old.rest ≡ last_told tick run.new.rest) }
+    ensures fewer { IfSome result (λ tick. length run.new.rest < length run.old.rest) }
+{
+    if let Some(told) = run.pass_entries() {
+        return Some(told.tick);
+    }
+    match run.next() {
+        Some(told) => Some(told.tick),
+        None => None,
+    }
+}
+
 // The tick at which the last entry of a run is done on N levels, 0 where none is.
 fn ticks<const N: usize>(start: Start, signals: &[Signal], budget: u64) -> u64
     requires some { 1 ≤ N }
@@ -65,8 +80,8 @@ fn ticks<const N: usize>(start: Start, signals: &[Signal], budget: u64) -> u64
     let Start { state, delays } = start;
     let mut run = Run::<N>::new(state, delays, signals, Hopper::empty(), &[], budget);
     let mut tick = 0;
-    'run: while let Some(told) = run.next() {
-        tick = told.tick;
+    'run: while let Some(next) = next_tick(&mut run) {
+        tick = next;
     }
     tick
 }

@@ -1,6 +1,6 @@
 -- Writing the report of a run: what is told, one thing after another, and the lines before and behind it.
-use Rattle.std.proofs.Common.{◌≡◌, ℕ, List, [], ◌∷◌, ◌++◌, refl, sym, ◌∙◌, ap, subst}
-use Rattle.std.specs.Prelude.{Result, Ok, Err, IsErr}
+use Rattle.std.proofs.Common.{◌≡◌, ℕ, ◌≤◌, false, length, List, [], ◌∷◌, ◌++◌, arith, refl, sym, ◌∙◌, ap, subst}
+use Rattle.std.specs.Prelude.{All, Result, Ok, Err, IsErr}
 use Rattle.st_card.specs.Controls.{Asked}
 use Rattle.st_io.specs.Output.{OutputState}
 use Rattle.st_io.specs.declared.Failed.{Failed}
@@ -8,9 +8,10 @@ use Rattle.st_io.specs.Lines.{WritesLines}
 use Rattle.st_io.specs.Event.{Event, at_moment, StoppedAt}
 use Rattle.st_io.proofs.Writing.{wrote_at_moment, stopped_at_moment, wrote_events, events_before, events_after}
 use Rattle.st_io.proofs.Progress.{EventsSoFar, events_none, events_more, events_stopped, events_whole}
-use Rattle.st_run.specs.Told.{Told}
+use Rattle.st_run.specs.Told.{What, Done, Dropped, Printed, Interrupted, Shown, Ended, Told}
+use Rattle.st_run.specs.Telling.{IsDone, AreLeftOut}
 use Rattle.st_top.specs.Report.{report, lines_at, lines_told}
-use Rattle.st_top.specs.Running.{WritesEvents, moment_of, last_moment}
+use Rattle.st_top.specs.Running.{WritesEvents, WritesNothing, moment_of, last_moment}
 use Rattle.st_top.specs.declared.moment.Moment.{Moment}
 
 -- ---- one thing told after another
@@ -22,6 +23,66 @@ pub record ToldSoFar (s t : OutputState) (asked : Asked) (m now : Moment) (all r
 
 pub told_begins : (s : OutputState) (asked : Asked) (m : Moment) (all : List Told) → ToldSoFar s s asked m m all all
 told_begins s asked m all = record { so_far = events_none s (report asked all); last = refl }
+
+-- of what is left out nothing is written
+pub told_skips : (s t : OutputState) (asked : Asked) (m now n : Moment) (all rest more : List Told) → WritesNothing asked now rest n more
+    → ToldSoFar s t asked m now all rest → ToldSoFar s t asked m n all more
+told_skips s t asked m now n all rest more skips h = record {
+  so_far = subst (λ xs. EventsSoFar s t (report asked all) xs) skips.lines h.so_far;
+  last = sym skips.last ∙ h.last;
+}
+
+row-lines : (asked : Asked) (done tick : ℕ) (what : What) → asked.trace ≡ false → asked.chart ≡ false → IsDone what
+    → lines_at asked done tick what ≡ []
+row-lines asked done tick (Done address p r c) trace chart is = rw (trace, chart) refl
+row-lines asked done tick (Dropped address p) trace chart is = absurd is
+row-lines asked done tick (Printed text) trace chart is = absurd is
+row-lines asked done tick (Interrupted i s) trace chart is = absurd is
+row-lines asked done tick (Shown at s levels) trace chart is = absurd is
+row-lines asked done tick (Ended rests s) trace chart is = absurd is
+
+row-report : (asked : Asked) (x : Told) (xs : List Told) → asked.trace ≡ false → asked.chart ≡ false → IsDone x.what
+    → report asked (x ∷ xs) ≡ report asked xs
+unfolding report
+row-report asked x xs trace chart is =
+    ap (λ lines. at_moment x.done x.tick lines ++ report asked xs) (row-lines asked x.done x.tick x.what trace chart is)
+
+rows-report : (asked : Asked) (rows new : List Told) → asked.trace ≡ false → asked.chart ≡ false → All (λ x. IsDone x.what) rows
+    → report asked (rows ++ new) ≡ report asked new
+rows-report asked [] new trace chart are = refl
+rows-report asked (x ∷ rows) new trace chart are =
+    row-report asked x (rows ++ new) trace chart are.0 ∙ rows-report asked rows new trace chart are.1
+
+rows-moment : (m : Moment) (rows new : List Told) (last : Told) → last_moment m (rows ++ last ∷ new) ≡ last_moment (moment_of last) new
+unfolding last_moment
+rows-moment m [] new last = refl
+rows-moment m (x ∷ rows) new last = rows-moment (moment_of x) rows new last
+
+rows-fewer : (rows new : List Told) (last : Told) → length new ≤ length (rows ++ last ∷ new)
+rows-fewer [] new last = omega arith
+rows-fewer (x ∷ rows) new last = let fewer = rows-fewer rows new last in omega (arith, fewer)
+
+-- rows that are only counted
+pub counted_skips : (asked : Asked) (m n : Moment) (last : Told) (old new : List Told) → asked.trace ≡ false → asked.chart ≡ false
+    → AreLeftOut last old new → n ≡ moment_of last → WritesNothing asked m old n new
+counted_skips asked m n last old new trace chart is same = record {
+  lines =
+      ap (report asked) is.rest ∙ rows-report asked is.rows (last ∷ new) trace chart is.are ∙ row-report asked last new trace chart is.is;
+  last = ap (last_moment m) is.rest ∙ rows-moment m is.rows new last ∙ ap (λ (k : Moment). last_moment k new) (sym same);
+  fewer = subst (λ xs. length new ≤ length xs) (sym is.rest) (rows-fewer is.rows new last);
+}
+
+pub none_skips : (asked : Asked) (m : Moment) (old new : List Told) → new ≡ old → WritesNothing asked m old m new
+none_skips asked m old new same = record {
+  lines = ap (report asked) (sym same);
+  last = ap (last_moment m) (sym same);
+  fewer = subst (λ xs. length xs ≤ length old) (sym same) (omega arith);
+}
+
+-- and then what is told next
+pub skips_then : (asked : Asked) (m n : Moment) (old rest more : List Told) → rest ≡ more → WritesNothing asked m old n rest
+    → WritesNothing asked m old n more
+skips_then asked m n old rest more same skips = subst (λ xs. WritesNothing asked m old n xs) same skips
 
 -- the next part is written
 pub told_more : (s t u : OutputState) (asked : Asked) (m now n : Moment) (all rest more : List Told) (x : Told) (y : Unit {0})

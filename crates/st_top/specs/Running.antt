@@ -1,5 +1,6 @@
 -- What is written of a run, and up to which moment.
-use Rattle.std.specs.Prelude.{◌≡◌, ℕ, List, [], ◌∷◌, Option, None, Some, Result, OnOk, OnErr}
+use Rattle.std.specs.Prelude.{◌≡◌, ℕ, ◌≤◌, length, List, [], ◌∷◌, Option, None, Some, Result, OnOk, OnErr}
+use Rattle.st_card.specs.Controls.{Asked}
 use Rattle.st_io.specs.Output.{OutputState, Wrote}
 use Rattle.st_io.specs.declared.Failed.{Failed}
 use Rattle.st_io.specs.Lines.{text}
@@ -8,6 +9,7 @@ use Rattle.st_report.specs.Line.{lev_line}
 use Rattle.st_ahead.specs.declared.events.LevelView.{LevelView}
 use Rattle.st_time.specs.Shown.{change_of}
 use Rattle.st_run.specs.Told.{Told}
+use Rattle.st_top.specs.Report.{report}
 use Rattle.st_top.specs.declared.moment.Moment.{Moment}
 
 -- when something is told
@@ -18,6 +20,12 @@ moment_of t = record { done = t.done; tick = t.tick }
 unfoldable pub last_moment : Moment → List Told → Moment
 last_moment m [] = m
 last_moment m (t ∷ ts) = last_moment (moment_of t) ts
+
+-- nothing is written of what is left out from one moment up to a later one, and the same is left to write
+pub record WritesNothing (asked : Asked) (m : Moment) (old : List Told) (now : Moment) (new : List Told) : Type 0 where
+  pub lines : report asked old ≡ report asked new
+  pub last : last_moment m old ≡ last_moment now new
+  pub fewer : length new ≤ length old
 
 -- the lines of the levels that are shown at the front
 unfoldable pub views_lines : List (Option LevelView) → List (List ℕ)

@@ -8,7 +8,7 @@ ghost use Rattle.st_time.specs.Shown.{standing, change_of};
 ghost use Rattle.st_run.specs.Events.{Level};
 ghost use Rattle.st_run.specs.Telling.{AreLevels, what_told};
 ghost use Rattle.st_top.specs.Report.{block, line_if, done_lines, interrupt_lines, snapshot_lines, end_lines, lines_told, report};
-ghost use Rattle.st_top.specs.Running.{WritesEvents, last_moment, views_lines};
+ghost use Rattle.st_top.specs.Running.{WritesEvents, WritesNothing, last_moment, views_lines};
 
 use crate::block::{put, write_block};
 use crate::moment::Moment;
@@ -327,6 +327,38 @@ fn write_told<K: Sink, const N: usize>(
     }
 }
 
+// Passes over entries that are done and of which nothing is written. The moment is that of the last one.
+fn pass_counted<const N: usize>(run: &mut Run<'_, N>, moment: &mut Moment, controls: &Controls)
+    ensures { WritesNothing controls.now moment.old run.old.rest moment.new run.new.rest }
+{
+    if is_traced(controls) {
+        return;
+    }
+    if is_charted(controls) {
+        return;
+    }
+    if let Some(told) = run.pass_entries() {
+        *moment = moment_of(&told);
+    }
+}
+
+// What a run tells next, behind entries that are done and of which nothing is written.
+fn next_told<const N: usize>(
+    run: &mut Run<'_, N>,
+    moment: &mut Moment,
+    controls: &Controls,
+) -> Option<Told>
+    ensures { MatchOption result (WritesNothing controls.now moment.old run.old.rest moment.new [])
+        (λ t. WritesNothing controls.now moment.old run.old.rest moment.new (record {
+          done = t.done;
+          tick = t.tick;
+          what = what_told t.what t.tick run.new.seen run.new.ahead run.new.text;
+        } ∷ run.new.rest)) }
+{
+    pass_counted(run, moment, controls);
+    run.next()
+}
+
 /// Writes the report of all that a run still has to tell. After a failed write `moment` is that of the line, else that of
 /// the end.
 pub fn write_run<K: Sink, const N: usize>(
@@ -339,7 +371,7 @@ pub fn write_run<K: Sink, const N: usize>(
     ensures { WritesEvents (K.output out.old) (K.output out.new) (report controls.now run.old.rest)
         (last_moment moment.old run.old.rest) moment.new result }
 {
-    'telling: while let Some(told) = run.next() {
+    'telling: while let Some(told) = next_told(run, moment, controls) {
         *moment = moment_of(&told);
         write_told(out, run, *moment, told.what, controls)?;
     }

@@ -15,14 +15,14 @@ pub returns-clause-held : goal.returns-clause-held
 returns-clause-held c = λ ds n now w t s f v few look opened above done.
     let is = look-goes ds n now t s f v look in
     let run = c.open_levels_run_ahead.ensures ds n now t s f v is.ahead is.prepared is.not_done opened in
-    let before = c.next_entries_are_known.ensures ds n now t s f v is.machine is.indicator is.ahead is.not_done few run in
+    let before = c.next_entries_are_known.ensures ds n now now t s f v is.machine is.indicator is.ahead is.not_done few run in
     sym (before.storage w above done)
 
 pub returns-clause-words : goal.returns-clause-words
 returns-clause-words c = λ ds n now t s f v few look opened done.
     let is = look-goes ds n now t s f v look in
     let run = c.open_levels_run_ahead.ensures ds n now t s f v is.ahead is.prepared is.not_done opened in
-    let before = c.next_entries_are_known.ensures ds n now t s f v is.machine is.indicator is.ahead is.not_done few run in
+    let before = c.next_entries_are_known.ensures ds n now now t s f v is.machine is.indicator is.ahead is.not_done few run in
     let next = (next-known ds n now now t s f v is opened).0 in
     let k = table_behind (count v) t in
     let u = guesses (count v) t s in

@@ -8,4 +8,4 @@ returns c = λ ds n now t s f v some most are few early is planned due.
     let opened : is_open v ≡ true = planned-open (is_open v) ds n (now + 1) t s v is.next planned in
     let run = c.open_levels_run_ahead.ensures ds n now t s f v is.ahead is.prepared is.not_done opened in
     becomes-level ds n now t s f v some most are few early is planned due run
-    (c.next_entries_are_known.ensures ds n now t s f v is.machine is.indicator is.ahead is.not_done (omega arith) run)
+    (c.next_entries_are_known.ensures ds n now now t s f v is.machine is.indicator is.ahead is.not_done (omega arith) run)

@@ -1,3 +1,4 @@
+use Rattle.st_ahead.proofs.Gone.{outlook-of}
 use Rattle.st_ahead.proofs.Later.{AreOrdered, look-later}
 use Rattle.st_ahead.proofs.look_laws.looks_are_levels.Goals as goal
 
@@ -10,5 +11,5 @@ returns c = λ ds n tick now t s f v some most are soon few is.
       behind = c.reads_are_wanted_in_time.ensures.«data» ds n;
     } in
     let order = c.levels_come_in_order.ensures.completed ds n tick t s f v.front v.levels is.machine is.indicator is.ahead in
-    let later = look-later ds n tick now t s f v ordered soon is order in
+    let later = look-later ds n tick now t s f v ordered soon (outlook-of ds n tick now t s f v is) order in
     (c.levels_are_the_entries_ahead.ensures.prepared ds n tick now n t s f v.front v.levels is.ahead is.prepared later.prepared few).0

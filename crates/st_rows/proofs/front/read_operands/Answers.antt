@@ -2,6 +2,7 @@ use Rattle.std.proofs.Common.{◌+◌, ◌-◌, ◌*◌, ◌^◌, sym, subst, ar
 use Rattle.st_rows.specs.BusTimes.{Reading}
 use Rattle.st_rows.specs.Ranges.{IsReadingWithin}
 use Rattle.st_rows.specs.Rows.{reading_of}
+use Rattle.st_rows.proofs.Noted.{runs-noted}
 use Rattle.st_rows.proofs.Within.{AreDelays-list, reading-weaker}
 use Rattle.st_rows.proofs.Stages.{read_sixteen-within}
 use Rattle.st_rows.proofs.front.read_operands.Goals as goal
@@ -15,3 +16,8 @@ read_on-requires-clause-room c =
     (reading-weaker (m + 16 * 256) (2 ^ 64 - 2 ^ 16) _ (omega arith)
     (read_sixteen-within 255 c.args.delays.now (AreDelays-list c.args.delays.now c.shape.ensures) c.args.past.now c.args.p
     c.args.entry.now.reads.one.first c.args.entry.now.reads.one.len m _ c.requires.entry.one_few start c.requires.early))
+
+pub returns-clause-log : goal.returns-clause-log
+returns-clause-log c =
+    runs-noted c.args.delays.now c.args.past.now c.args.p c.args.entry.now.reads (reading_of c.args.operands.now) (reading_of c.read_run-fills.new.operands) c.args.log.now
+    c.read_run-fills.new.log c.read_on.new.log c.read_run-fills.ensures.value c.read_run-fills.ensures.log c.read_on.ensures.log

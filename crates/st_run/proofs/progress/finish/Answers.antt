@@ -8,12 +8,12 @@ use Rattle.st_run.proofs.progress.finish.Goals as goal
 pub returns-in_default-clause-kept : goal.returns-in_default-clause-kept
 returns-in_default-clause-kept g c =
     let run = c.args.run.now in
-    end-keeps c.args.rests run.left run.tick run.now run.snaps.now run.waiting run.driven c.requires.levels c.requires.in_time c.requires.waits
+    end-keeps c.args.rests run.left run.tick run.snaps.now run.waiting run.driven c.requires.levels c.requires.in_time c.requires.waits
 
 pub returns-in_default-clause-told : goal.returns-in_default-clause-told
 returns-in_default-clause-told g c =
     let run = c.args.run.now in
-    end-tells c.args.rests run.left run.tick run.now run.snaps.now run.waiting run.driven c.requires.levels c.requires.in_time c.requires.waits
+    end-tells c.args.rests run.left run.tick run.snaps.now run.waiting run.driven c.requires.levels c.requires.in_time c.requires.waits
     c.in_default.ensures
     ∙ ap {A = Told} (λ t. told_with t run.driven.machine run.printed.bytes ∷ rest_of turns.Over run.left run.tick run.snaps.now run.waiting run.driven)
     (sym c.at_once.ensures)
@@ -22,14 +22,14 @@ pub returns-clause-kept : goal.returns-clause-kept
 returns-clause-kept g c =
     let run = c.args.run.now in
     let split = c.in-Some.ensures in
-    last-keeps c.args.rests run.left run.tick run.now run.snaps.now run.waiting run.driven c.requires.levels c.requires.in_time c.requires.waits
+    last-keeps c.args.rests run.left run.tick run.snaps.now run.waiting run.driven c.requires.levels c.requires.in_time c.requires.waits
     c.in-Some.at c.in-Some.after.now run.turn split.0 split.1 c.requires.turn
 
 pub returns-clause-told : goal.returns-clause-told
 returns-clause-told g c =
     let run = c.args.run.now in
     let split = c.in-Some.ensures in
-    last-tells c.args.rests run.left run.tick run.now run.snaps.now run.waiting run.driven c.requires.levels c.requires.in_time c.requires.waits
+    last-tells c.args.rests run.left run.tick run.snaps.now run.waiting run.driven c.requires.levels c.requires.in_time c.requires.waits
     c.in-Some.at c.in-Some.after.now run.turn split.0 split.1 c.requires.turn
     ∙ ap {A = Told} (λ t. told_with t run.driven.machine run.printed.bytes ∷ rest_of run.turn run.left run.tick c.in-Some.after.now run.waiting run.driven)
     (sym c.at_once-2.ensures)

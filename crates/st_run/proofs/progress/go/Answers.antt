@@ -1,8 +1,8 @@
 use Rattle.std.specs.Prelude.{IfSome}
-use Rattle.std.proofs.Common.{◌≤◌, ◌-◌, ℕ, Option, List, sym, subst, arith}
-use Rattle.st_run.specs.Order.{AreRising}
+use Rattle.std.proofs.Common.{◌≤◌, ◌-◌, ◌∷◌, ◌∙◌, ap, ℕ, Option, List, sym, subst, arith}
 use Rattle.st_run.specs.Told.{Told}
-use Rattle.st_run.specs.Telling.{AreInTime}
+use Rattle.st_run.specs.Telling.{rest_of, told_with, AreInTime}
+use Rattle.st_run.specs.declared.told.Told.{Told as ToldNext}
 use Rattle.st_run.specs.declared.turn.Turn.TheVariants as turns
 use Rattle.st_run.proofs.ProgressLemmas.{rest-quiet}
 use Rattle.st_run.proofs.LeftLemmas.{oldest-in_time, done-in_time}
@@ -18,13 +18,11 @@ run_until-requires g c =
       (
         stands.0,
         (
-          stands.1,
+          oldest-in_time run.left run.tick run.snaps.now run.driven stands.0 in_time,
           (
-            oldest-in_time run.left run.tick run.snaps.now run.driven stands.0 in_time,
-            (
-              done-in_time run.left run.tick run.snaps.now run.driven stands.0 in_time,
-              subst {A = Option ℕ} (λ o. IfSome o (λ x. run.now - 1 ≤ x)) (sym c.first_of-snap.ensures) (first-late run.now run.snaps.now stands.2),
-            ),
+            done-in_time run.left run.tick run.snaps.now run.driven stands.0 in_time,
+            subst {A = Option ℕ} (λ o. IfSome o (λ x. run.driven.machine.now - 1 ≤ x)) (sym c.first_of-snap.ensures)
+                (first-late run.driven.machine.now run.snaps.now stands.1),
           ),
         ),
       ),
@@ -35,7 +33,7 @@ show-requires g c =
     let run = c.args.run.now in
     let stands = c.requires.run.stands in
     let in_time = subst {A = List Told} AreInTime (rest-quiet turns.Before run.left run.tick run.snaps.now run.waiting run.driven c.requires.waits) c.requires.run.in_time in
-    let rising = subst {A = ℕ} (λ k. AreRising (k - 1) run.snaps.now) stands.1 stands.2 in (
+    let rising = stands.1 in (
       omega arith,
       (
         go-shows run.left run.tick run.snaps.now run.driven c.run_until.new.driven stands.0 rising in_time
@@ -49,7 +47,7 @@ leave_entry-requires g c =
     let run = c.args.run.now in
     let stands = c.requires.run.stands in
     let in_time = subst {A = List Told} AreInTime (rest-quiet turns.Before run.left run.tick run.snaps.now run.waiting run.driven c.requires.waits) c.requires.run.in_time in
-    let rising = subst {A = ℕ} (λ k. AreRising (k - 1) run.snaps.now) stands.1 stands.2 in (
+    let rising = stands.1 in (
       omega arith,
       (
         go-leaves run.left run.tick run.snaps.now run.driven c.run_until.new.driven stands.0 rising in_time
@@ -63,6 +61,9 @@ returns-clause-told g c =
     let run = c.args.run.now in
     let stands = c.requires.run.stands in
     let in_time = subst {A = List Told} AreInTime (rest-quiet turns.Before run.left run.tick run.snaps.now run.waiting run.driven c.requires.waits) c.requires.run.in_time in
-    let rising = subst {A = ℕ} (λ k. AreRising (k - 1) run.snaps.now) stands.1 stands.2 in
+    let rising = stands.1 in
+    let run_new = c.leave_entry.new.run in
     go-tells run.left run.tick run.snaps.now run.driven c.run_until.new.driven stands.0 rising in_time
     c.in-Some.row c.first_of-snap.result c.first_of-snap.ensures c.in-Some.ensures _ c.leave_entry.ensures.told
+    ∙ ap {A = ToldNext} (λ t. told_with t run_new.driven.machine run_new.printed.bytes
+    ∷ rest_of run_new.turn run_new.left run_new.tick run_new.snaps.now run_new.waiting run_new.driven) (sym c.told_of.ensures)

@@ -14,9 +14,9 @@ returns-clause-kept g c =
     let passed = c.pass_on.ensures in
     let kept = left-keeps run.left c.args.tick run.snaps.now run.driven t nothing_decided []
     c.requires.left (passed.decided c.if-not-pass_on.false) passed.delays passed.levels refl in
-    let same = subst {A = ℕ} (λ k. IsRun turns.Before k c.args.tick (c.args.tick + 1) run.snaps.now run.waiting t) (sym c.one_less-run.ensures)
-    (quiet-run turns.Before (run.left - 1) c.args.tick (c.args.tick + 1) run.snaps.now run.waiting t c.requires.waits kept) in
-    subst {A = Turn} (λ k. IsRun k c.one_less-run.result c.args.tick (c.args.tick + 1) run.snaps.now run.waiting t) (sym c.requires.turn) same
+    let same = subst {A = ℕ} (λ k. IsRun turns.Before k c.args.tick run.snaps.now run.waiting t) (sym c.one_less-run.ensures)
+    (quiet-run turns.Before (run.left - 1) c.args.tick run.snaps.now run.waiting t c.requires.waits kept) in
+    subst {A = Turn} (λ k. IsRun k c.one_less-run.result c.args.tick run.snaps.now run.waiting t) (sym c.requires.turn) same
 
 pub returns-clause-told : goal.returns-clause-told
 returns-clause-told g c =

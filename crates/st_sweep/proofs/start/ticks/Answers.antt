@@ -1,6 +1,6 @@
 use Rattle.std.proofs.Common.{sym, ◌∙◌, ap}
 use Rattle.st_sweep.specs.Starts.{ticks_from}
-use Rattle.st_sweep.proofs.ToldTicks.{told-whole, last_told-next, last_told-end}
+use Rattle.st_sweep.proofs.ToldTicks.{told-whole, last_told-end}
 use Rattle.st_sweep.proofs.start.ticks.Goals as goal
 
 pub run-init : goal.run-init
@@ -11,7 +11,7 @@ run-init g c = record {
 }
 
 pub run-preserved : goal.run-preserved
-run-preserved g c = record { same = sym (last_told-next c.run.tick _ _ _ c.in-Some.ensures) ∙ c.run.invariant.same }
+run-preserved g c = record { same = sym (c.in-Some.ensures.told c.run.tick) ∙ c.run.invariant.same }
 
 pub returns : goal.returns
 returns g c = sym (last_told-end c.run.tick _ c.in_default.ensures) ∙ c.run.invariant.same

@@ -1,14 +1,16 @@
-use Rattle.std.proofs.Common.{◌≡◌, ℕ, ◌+◌, ◌<◌, ◌≤◌, true, List, ◌++◌, refl, sym, subst, ◌∙◌, ap, arith}
+use Rattle.std.proofs.Common.{◌≡◌, ℕ, ◌+◌, ◌<◌, ◌≤◌, true, List, [], ◌∷◌, ◌++◌, length, length-append, refl, sym, subst, ◌∙◌, ap, arith}
 use Rattle.st_prep.specs.Plan.{plan}
+use Rattle.st_rows.specs.Asked.{prepared_asked}
+use Rattle.st_rows.specs.Notes.{noted}
 use Rattle.st_rows.specs.Ranges.{IsEntry, IsTight}
 use Rattle.st_rows.specs.Rows.{row, after, fills, tick_a, bus_a, tick_p}
+use Rattle.st_rows.specs.declared.bus.Bus.{Bus}
 use Rattle.st_rows.specs.declared.entry.Entry.{Entry}
 use Rattle.st_rows.specs.declared.fetching.Fetching.{Fetching}
 use Rattle.st_rows.specs.declared.front.Front.{Front}
 use Rattle.st_rows.specs.declared.front.Row.{Row}
 use Rattle.st_rows.specs.declared.front.Formed.{Formed}
 use Rattle.st_rows.proofs.Within.{AreDelays-list}
-use Rattle.st_port.specs.Parts.{runs_asked}
 use Rattle.st_segment.specs.Entries.{entry}
 use Rattle.st_segment.specs.Guesses.{guesses, table_behind}
 use Rattle.st_levels.specs.Levels.{AreAhead}
@@ -16,9 +18,14 @@ use Rattle.st_next.specs.Known.{IsBefore}
 use Rattle.st_next.specs.declared.next.Next.{Next}
 use Rattle.st_ahead.specs.Look.{LookView, count}
 use Rattle.st_ahead.specs.Going.{IsGoing}
-use Rattle.st_ahead.proofs.Due.{row-p, after-p}
-use Rattle.st_ahead.proofs.Pushed.{data-reads, going-pushed}
+use Rattle.st_ring.specs.declared.level.Level.{Level}
+use Rattle.st_ahead.proofs.Due.{row-p}
+use Rattle.st_ahead.proofs.Pushed.{going-pushed}
 use Rattle.st_ahead.proofs.look.Look.push.Goals as goal
+
+-- no word is fetched yet
+abbrev begun : Bus → Fetching
+begun b = record { bus = b; answered = 0; awaited = 0 }
 
 pub prepare-requires-clause-ready : goal.prepare-requires-clause-ready
 prepare-requires-clause-ready g c =
@@ -28,7 +35,7 @@ prepare-requires-clause-ready g c =
     let t = c.requires.going.table in
     let s = c.args.state.now in
     let f = c.requires.going.front in
-    let view : LookView = record { levels = c.self.inside.levels; front = c.self.inside.front; port = c.self.inside.port; next = c.self.inside.next } in
+    let view : LookView = record { levels = c.self.inside.levels; front = c.self.inside.front; log = c.self.inside.log; next = c.self.inside.next } in
     let is = subst (λ (w : LookView). IsGoing ds n now (now + 1) t s f w) (sym c.self.view_is) c.requires.going.going in
     let planned : view.next.planned ≡ true = ap (λ (w : LookView). w.next.planned) c.self.view_is ∙ c.requires.planned in
     let due : view.next.formed.p ≡ now = ap (λ (w : LookView). w.next.formed.p) c.self.view_is ∙ c.requires.due in
@@ -56,7 +63,7 @@ fill-filled-requires g c =
     let t = c.requires.going.table in
     let s = c.args.state.now in
     let f = c.requires.going.front in
-    let view : LookView = record { levels = c.self.inside.levels; front = c.self.inside.front; port = c.self.inside.port; next = c.self.inside.next } in
+    let view : LookView = record { levels = c.self.inside.levels; front = c.self.inside.front; log = c.self.inside.log; next = c.self.inside.next } in
     let is = subst (λ (w : LookView). IsGoing ds n now (now + 1) t s f w) (sym c.self.view_is) c.requires.going.going in
     let planned : view.next.planned ≡ true = ap (λ (w : LookView). w.next.planned) c.self.view_is ∙ c.requires.planned in
     let due : view.next.formed.p ≡ now = ap (λ (w : LookView). w.next.formed.p) c.self.view_is ∙ c.requires.due in
@@ -75,31 +82,13 @@ fill-filled-requires g c =
       tick = ap (λ (x : Formed). x.p) formed_is ∙ becomes.tick ∙ ap (tick_p ds n view.front) (sym entry_is);
     }
 
-pub returns-clause-prepared : goal.returns-clause-prepared
-returns-clause-prepared g c =
-    let ds = c.args.delays.now in
-    let n = g.row.N in
-    let now = c.args.now in
-    let t = c.requires.going.table in
-    let s = c.args.state.now in
-    let f = c.requires.going.front in
-    let view : LookView = record { levels = c.self.inside.levels; front = c.self.inside.front; port = c.self.inside.port; next = c.self.inside.next } in
-    let is = subst (λ (w : LookView). IsGoing ds n now (now + 1) t s f w) (sym c.self.view_is) c.requires.going.going in
-    let planned : view.next.planned ≡ true = ap (λ (w : LookView). w.next.planned) c.self.view_is ∙ c.requires.planned in
-    let due : view.next.formed.p ≡ now = ap (λ (w : LookView). w.next.formed.p) c.self.view_is ∙ c.requires.due in
-    let becomes = c.planned_entries_become_levels.ensures ds n now t s f view c.requires.some c.requires.few
-    (AreDelays-list ds c.shape.ensures) (omega (arith, c.len-few.ensures.value, c.len-few.ensures.within)) c.requires.early is planned due in
-    let entry_is : c.prepare.new.self.entry ≡ view.next.entry = ap (λ (next : Next). next.entry) c.prepare.ensures.rest in
-    ap (λ (x : Front). x.p) (c.pass.ensures ds n c.fill-filled.ensures.value c.fill-filled.ensures.bus
-    ∙ ap (after ds n view.front) entry_is) ∙ after-p ds n view.front view.next.entry ∙ sym becomes.tick ∙ due
-
 pub returns-clause-going : goal.returns-clause-going
 returns-clause-going g c = λ t f given.
     let ds = c.args.delays.now in
     let n = g.row.N in
     let now = c.args.now in
     let s = c.args.state.now in
-    let view : LookView = record { levels = c.self.inside.levels; front = c.self.inside.front; port = c.self.inside.port; next = c.self.inside.next } in
+    let view : LookView = record { levels = c.self.inside.levels; front = c.self.inside.front; log = c.self.inside.log; next = c.self.inside.next } in
     let is = subst (λ (w : LookView). IsGoing ds n now (now + 1) t s f w) (sym c.self.view_is) given in
     let planned : view.next.planned ≡ true = ap (λ (w : LookView). w.next.planned) c.self.view_is ∙ c.requires.planned in
     let due : view.next.formed.p ≡ now = ap (λ (w : LookView). w.next.formed.p) c.self.view_is ∙ c.requires.due in
@@ -109,7 +98,7 @@ returns-clause-going g c = λ t f given.
     let k = table_behind (count view) t in
     let u = guesses (count view) t s in
     let x = view.next.entry in
-    let new : LookView = record { levels = c.push.new.self; front = c.pass.new.self; port = c.ask_following.new.self; next = c.restart.new.self } in
+    let new : LookView = record { levels = c.push.new.self; front = c.pass.new.self; log = c.fill-filled.new.log; next = c.restart.new.self } in
     let filled = c.fill-filled.result in
     let same : x ≡ entry k u = becomes.same in
     let serial : (entry k u).serial ≡ true → u ≡ s = λ alone. becomes.alone (ap (λ (e : Entry). e.serial) same ∙ alone) in
@@ -131,12 +120,18 @@ returns-clause-going g c = λ t f given.
     let ahead = subst (λ (h : Front). AreAhead ds n now t s f h new.levels) (ap (after ds n view.front) (sym same) ∙ sym front) pushed in
     going-pushed ds n now t s f view new _ c.prepare.new.self.prepared is becomes planned due c.push.ensures.ring p_is
     (c.push.ensures.not_done now is.not_done late) ahead front tight bound plan_is
-    (λ i y place. c.restart.ensures.next ds n i y (c.place_behind-place.ensures ∙ place))
-    (λ i y from. c.restart.ensures.rests now i y from)
-    c.restart.ensures.unplanned c.restart.ensures.own c.restart.ensures.target c.restart.ensures.words
-    (c.restart.ensures.reads ds) c.restart.ensures.none
-    (c.ask_following.ensures.bus ∙ c.ask_operands.ensures.bus)
-    (data-reads ds n now view.front c.prepare.new.self.entry x c.fill-filled.result.following view.port.reads c.ask_operands.new.port.reads new.port.reads
-    entry_is (ap (tick_p ds n view.front) entry_is ∙ sym becomes.tick ∙ due) c.fill-filled.ensures.following
-    (c.ask_operands.ensures.reads ∙ ap (λ (e : Entry). view.port.reads ++ runs_asked view.front.past e.reads now) (sym entry_is)) (c.ask_following.ensures.reads ds))
-    (omega (arith, c.ask_following.ensures.few, c.ask_operands.ensures.few)) (c.guesses_leave_the_rest.ensures.counter (count view) t s)
+    (c.restart.ensures.place ∙ c.place_behind-place.ensures)
+    c.restart.ensures.unplanned c.restart.ensures.own c.restart.ensures.target
+    (c.restart.ensures.words ∙ ap (λ (b : Bus). begun b) (c.fill-filled.ensures.bus ∙ ap (λ (e : Entry). (after ds n view.front e).bus) entry_is ∙ ap (λ (h : Front). h.bus) (sym front)))
+    (c.fill-filled.ensures.log
+    ∙ ap (λ (e : Entry). noted ds (prepared_asked ds n view.front e) c.prepare.new.self.words.bus view.log) entry_is
+    ∙ ap (λ (w : Fetching). noted ds (prepared_asked ds n view.front x) w.bus view.log) (ap (λ (next : Next). next.words) c.prepare.ensures.rest))
+    (c.guesses_leave_the_rest.ensures.counter (count view) t s)
+
+pub returns-clause-count : goal.returns-clause-count
+returns-clause-count g c =
+    let view : LookView = record { levels = c.self.inside.levels; front = c.self.inside.front; log = c.self.inside.log; next = c.self.inside.next } in
+    ap length c.push.ensures.ring ∙ one-more view.levels.ring _ ∙ ap (λ (w : LookView). count w + 1) c.self.view_is
+  where
+    one-more : (l : List Level) (x : Level) → length (l ++ x ∷ []) ≡ length l + 1
+    one-more l x = length-append l (x ∷ [])

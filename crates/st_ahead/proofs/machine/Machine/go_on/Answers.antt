@@ -25,7 +25,12 @@ go_on-requires g c =
           c.self.invariant.few,
           (
             both.1,
-            record { table = i.taken; front = f; going = look-goes i.delays g.row.N i.now i.taken i.state f i.look both.0 },
+            record {
+              table = i.taken;
+              front = f;
+              since = i.now;
+              goes = record { tick = i.now; going = look-goes i.delays g.row.N i.now i.taken i.state f i.look both.0; behind = omega arith; soon = omega arith };
+            },
           ),
         ),
       ),
@@ -49,7 +54,7 @@ invariant_of-self g c =
     let right = subst (λ (m : Overlap). m.behind ≡ None) (sym c.self.view_is) c.requires.right in
     let both = going-look n i.delays i.state i.taken i.behind i.now i.owed i.ended i.fresh i.look c.self.invariant owes c.if-self.false right in
     let f = oldest_front i.look.levels.plans i.look.front in
-    let look = c.go_on.ensures i.taken f (look-goes i.delays n i.now i.taken i.state f i.look both.0) both.0.full in
+    let look = c.go_on.ensures i.taken f both.0 in
     (go-inside n i.delays i.state i.taken i.behind i.now i.owed i.ended i.fresh i.look w c.self.invariant owes c.if-self.false right
     (subst (λ (m : Overlap). interrupt_due m ≡ None) (sym c.self.view_is) c.requires.due)
     (subst (λ (m : Overlap). rests m.state ≡ false) (sym c.self.view_is) c.requires.goes)
@@ -64,7 +69,7 @@ returns g c =
     let right = subst (λ (m : Overlap). m.behind ≡ None) (sym c.self.view_is) c.requires.right in
     let both = going-look n i.delays i.state i.taken i.behind i.now i.owed i.ended i.fresh i.look c.self.invariant owes c.if-self.false right in
     let f = oldest_front i.look.levels.plans i.look.front in
-    let look = c.go_on.ensures i.taken f (look-goes i.delays n i.now i.taken i.state f i.look both.0) both.0.full in
+    let look = c.go_on.ensures i.taken f both.0 in
     subst (λ (m : Overlap). standing n i.delays i.state i.taken i.behind (i.now + 1) false i.ended false w ≡ passed m) c.self.view_is
     (go-inside n i.delays i.state i.taken i.behind i.now i.owed i.ended i.fresh i.look w c.self.invariant owes c.if-self.false right
     (subst (λ (m : Overlap). interrupt_due m ≡ None) (sym c.self.view_is) c.requires.due)

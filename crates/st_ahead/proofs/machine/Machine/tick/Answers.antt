@@ -11,6 +11,7 @@ use Rattle.st_ahead.specs.Calls.{is_done, row_done, ticked}
 use Rattle.st_ahead.specs.Look.{count}
 use Rattle.st_ahead.specs.Ticked.{IsTicked}
 use Rattle.st_ahead.specs.Inside.{standing}
+use Rattle.st_ahead.proofs.Gone.{outlook-of}
 use Rattle.st_ahead.proofs.Standing.{idle, not-first, passed-tick, done-tick, guess-seen, row-tick, banks-at, some-due, told}
 use Rattle.st_ahead.proofs.TickCases.{unprepared}
 use Rattle.st_ahead.proofs.machine.Machine.tick.Goals as goal
@@ -96,12 +97,13 @@ invariant_of-self-2 g c =
     let some = some-due (count v) (λ empty. unprepared i.delays n (count v) i.now i.taken i.state f c.self.invariant.some empty are
     (c.entries_are_in_range.ensures.ranges i.taken i.state m t) at.look.oldest levels by.due) in
     let next = not-first i.now v.levels.ring at.look.prepared some in
-    let banks = banks-at n i.delays i.state i.taken i.now v (c.the_banks_are_left.ensures i.delays n (i.now - 1) i.now i.taken i.state f v
-    c.self.invariant.some c.self.invariant.few are next most some at.look by.due) in
+    let left = c.the_banks_are_left.ensures i.delays n (i.now - 1) i.now i.taken i.state f v
+    c.self.invariant.some c.self.invariant.few are next most some (outlook-of i.delays n (i.now - 1) i.now i.taken i.state f v at.look) by.due in
+    let banks = banks-at n i.delays i.state i.taken i.now v left.0 in
     let guessed = guess-seen i.taken i.state u (is_missed (plan i.state i.taken) i.state) done.missed refl by.state by.told.missed
     (c.steps_are_guesses.ensures.right i.taken i.state m t) (c.steps_are_guesses.ensures.missed i.taken i.state m t) in
     let front = c.levels_are_the_entries_ahead.ensures.oldest i.delays n i.now None (guess i.taken i.state) (after i.delays n f (entry i.taken i.state)) w.front w.levels by.look.ahead in
-    let all = done-tick n i.delays i.state u i.taken i.behind i.now i.owed i.ended i.fresh v w done c.self.invariant owes early by front banks guessed in
+    let all = done-tick n i.delays i.state u i.taken i.behind i.now i.owed i.ended i.fresh v w done c.self.invariant owes early by front banks left.1 guessed in
     all.0
 
 pub returns-clause-event : goal.returns-clause-event
@@ -127,12 +129,13 @@ returns-clause-event g c =
     let some = some-due (count v) (λ empty. unprepared i.delays n (count v) i.now i.taken i.state f c.self.invariant.some empty are
     (c.entries_are_in_range.ensures.ranges i.taken i.state m t) at.look.oldest levels by.due) in
     let next = not-first i.now v.levels.ring at.look.prepared some in
-    let banks = banks-at n i.delays i.state i.taken i.now v (c.the_banks_are_left.ensures i.delays n (i.now - 1) i.now i.taken i.state f v
-    c.self.invariant.some c.self.invariant.few are next most some at.look by.due) in
+    let left = c.the_banks_are_left.ensures i.delays n (i.now - 1) i.now i.taken i.state f v
+    c.self.invariant.some c.self.invariant.few are next most some (outlook-of i.delays n (i.now - 1) i.now i.taken i.state f v at.look) by.due in
+    let banks = banks-at n i.delays i.state i.taken i.now v left.0 in
     let guessed = guess-seen i.taken i.state u (is_missed (plan i.state i.taken) i.state) done.missed refl by.state by.told.missed
     (c.steps_are_guesses.ensures.right i.taken i.state m t) (c.steps_are_guesses.ensures.missed i.taken i.state m t) in
     let front = c.levels_are_the_entries_ahead.ensures.oldest i.delays n i.now None (guess i.taken i.state) (after i.delays n f (entry i.taken i.state)) w.front w.levels by.look.ahead in
-    let all = done-tick n i.delays i.state u i.taken i.behind i.now i.owed i.ended i.fresh v w done c.self.invariant owes early by front banks guessed in
+    let all = done-tick n i.delays i.state u i.taken i.behind i.now i.owed i.ended i.fresh v w done c.self.invariant owes early by front banks left.1 guessed in
     let row = row-tick n i.delays i.state u i.taken i.behind i.now i.owed i.ended i.fresh v w done c.self.invariant owes by
     (c.entries_count_as_one.ensures (plan i.state i.taken) i.state) in
     subst (λ (m : Overlap). (is_done m ≡ true) × (told c.done_in-number.result done.address done.p done.r i.now ≡ row_done m)) c.self.view_is (all.1, ap (λ k. told k done.address done.p done.r i.now) c.done_in-number.ensures ∙ row)
@@ -160,10 +163,11 @@ returns-clause-after g c =
     let some = some-due (count v) (λ empty. unprepared i.delays n (count v) i.now i.taken i.state f c.self.invariant.some empty are
     (c.entries_are_in_range.ensures.ranges i.taken i.state m t) at.look.oldest levels by.due) in
     let next = not-first i.now v.levels.ring at.look.prepared some in
-    let banks = banks-at n i.delays i.state i.taken i.now v (c.the_banks_are_left.ensures i.delays n (i.now - 1) i.now i.taken i.state f v
-    c.self.invariant.some c.self.invariant.few are next most some at.look by.due) in
+    let left = c.the_banks_are_left.ensures i.delays n (i.now - 1) i.now i.taken i.state f v
+    c.self.invariant.some c.self.invariant.few are next most some (outlook-of i.delays n (i.now - 1) i.now i.taken i.state f v at.look) by.due in
+    let banks = banks-at n i.delays i.state i.taken i.now v left.0 in
     let guessed = guess-seen i.taken i.state u (is_missed (plan i.state i.taken) i.state) done.missed refl by.state by.told.missed
     (c.steps_are_guesses.ensures.right i.taken i.state m t) (c.steps_are_guesses.ensures.missed i.taken i.state m t) in
     let front = c.levels_are_the_entries_ahead.ensures.oldest i.delays n i.now None (guess i.taken i.state) (after i.delays n f (entry i.taken i.state)) w.front w.levels by.look.ahead in
-    let all = done-tick n i.delays i.state u i.taken i.behind i.now i.owed i.ended i.fresh v w done c.self.invariant owes early by front banks guessed in
+    let all = done-tick n i.delays i.state u i.taken i.behind i.now i.owed i.ended i.fresh v w done c.self.invariant owes early by front banks left.1 guessed in
     subst (λ (m : Overlap). standing n i.delays u None done.missed i.now true i.ended true w ≡ ticked m) c.self.view_is all.2

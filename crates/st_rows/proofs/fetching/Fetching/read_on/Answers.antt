@@ -1,8 +1,11 @@
-use Rattle.std.proofs.Common.{◌+◌, ◌-◌, ◌*◌, ◌^◌, ◌∙◌, sym, subst, arith}
+use Rattle.std.proofs.Common.{◌≡◌, ◌+◌, ◌-◌, ◌*◌, ◌^◌, ◌∙◌, sym, subst, arith}
 use Rattle.st_bits.specs.Storage.{words_of_storage_is}
+use Rattle.st_rows.specs.Asked.{operands_asked}
 use Rattle.st_rows.specs.BusTimes.{Reading}
+use Rattle.st_rows.specs.Notes.{noted}
 use Rattle.st_rows.specs.Ranges.{IsReadingWithin}
 use Rattle.st_rows.specs.Rows.{reading_of}
+use Rattle.st_rows.proofs.Noted.{operand-turn}
 use Rattle.st_rows.proofs.Turns.{read-turn}
 use Rattle.st_rows.proofs.Within.{AreDelays-list, past-weaker, reading-weaker, read_word-within}
 use Rattle.st_rows.proofs.fetching.Fetching.read_on.Goals as goal
@@ -22,6 +25,9 @@ words-preserved c =
       value = read-turn c.args.delays.now c.args.past.now c.words.w c.args.p (reading_of c.words.self) (reading_of c.read.new.self) c.words.left
           c.read.ensures.after (omega arith)
           ∙ c.words.invariant.value;
+      log = operand-turn c.args.delays.now c.args.past.now c.args.p c.words.w (reading_of c.words.self) (reading_of c.read.new.self) c.words.left c.words.log c.read.new.log
+          c.read.ensures.after c.read.ensures.log (omega arith)
+          ∙ c.words.invariant.log;
       room = reading-weaker (m + 256) _ (reading_of c.read.new.self) (omega arith)
           (subst (λ (s : Reading). IsReadingWithin (m + 256) s) (sym c.read.ensures.after)
           (read_word-within 255 c.args.delays.now are c.args.past.now (reading_of c.words.self) c.words.w c.args.p m c.words.invariant.room (omega arith)));
@@ -29,3 +35,7 @@ words-preserved c =
       above = λ some. omega (arith, c.words.invariant.above (omega arith));
       inside = λ some. omega (arith, c.words.invariant.inside (omega arith));
     }
+
+pub returns-clause-log : goal.returns-clause-log
+unfolding operands_asked noted
+returns-clause-log c = let none : c.words.left ≡ 0 = omega arith in rw none at c.words.invariant.log

@@ -1,11 +1,16 @@
 use Rattle.std.proofs.Common.{◌≡◌, ℕ, ◌+◌, ◌-◌, ◌*◌, ◌^◌, List, refl, sym, subst, ap, ap₂, ◌∙◌, arith}
+use Rattle.st_rows.specs.Asked.{runs_asked, following_asked, prepared_asked}
 use Rattle.st_rows.specs.BusTimes.{Reading}
+use Rattle.st_rows.specs.Notes.{noted}
 use Rattle.st_rows.specs.Ranges.{IsReadingWithin}
 use Rattle.st_rows.specs.Rows.{reading_of, operands_read, bus_a, tick_p, operands, tick_c, row, after}
 use Rattle.st_rows.specs.declared.bus.Bus.{Bus}
 use Rattle.st_rows.specs.declared.entry.Entry.{Entry}
 use Rattle.st_rows.specs.declared.front.Front.{Front}
+use Rattle.st_rows.specs.declared.log.Made.{Made}
 use Rattle.st_rows.proofs.Within.{AreDelays-list, bus-weaker}
+use Rattle.st_rows.proofs.Noted.{noted-two}
+use Rattle.st_rows.proofs.Served.{served-runs}
 use Rattle.st_rows.proofs.Stages.{bus_a-within, p-within, operands_of-within}
 use Rattle.st_rows.proofs.front.Front.fill.Goals as goal
 
@@ -14,6 +19,17 @@ all-read : (ds : List ℕ) (n : ℕ) (f : Front) (e : Entry) (s : Reading) (b : 
     → p ≡ tick_p ds n f e → s ≡ operands ds n f e
 unfolding operands
 all-read ds n f e s b p is bus tick = is ∙ ap₂ (λ (x : Bus) (y : ℕ). operands_read ds f.past x e.reads y) bus tick
+
+-- and these are noted
+all-noted : (ds : List ℕ) (n : ℕ) (f : Front) (e : Entry) (b d : Bus) (p : ℕ) (log one two : List Made) → b ≡ bus_a ds f e → d ≡ (operands ds n f e).bus
+    → p ≡ tick_p ds n f e → one ≡ noted ds (runs_asked f.past e.reads p) b log → two ≡ noted ds (following_asked ds d e p) d one
+    → two ≡ noted ds (prepared_asked ds n f e) b log
+all-noted ds n f e b d p log one two bus then_bus tick one_is two_is =
+    let noted_one : one ≡ noted ds (runs_asked f.past e.reads (tick_p ds n f e)) (bus_a ds f e) log = one_is ∙ rw (bus, tick) refl in
+    rw bus
+    (two_is
+    ∙ rw (then_bus, tick) (noted-two ds (runs_asked f.past e.reads (tick_p ds n f e)) (following_asked ds (operands ds n f e).bus e (tick_p ds n f e)) (bus_a ds f e)
+    (operands ds n f e).bus log one (sym (served-runs ds n f e)) noted_one))
 
 pub read_operands-fills-requires-clause-room : goal.read_operands-fills-requires-clause-room
 read_operands-fills-requires-clause-room c =
@@ -39,8 +55,8 @@ overflow_add-c c =
     (operands_of-within 255 c.args.delays.now are c.args.self.now c.args.entry.now c.requires.entry c.requires.tight c.args.levels) in
     omega (arith, read.answered)
 
-pub follow-following-requires-clause-room : goal.follow-following-requires-clause-room
-follow-following-requires-clause-room c =
+pub follow-requires-clause-room : goal.follow-requires-clause-room
+follow-requires-clause-room c =
     let reads = all-read c.args.delays.now c.args.levels c.args.self.now c.args.entry.now (reading_of c.read_operands-fills.new.operands)
     c.args.words.now.bus c.args.formed.p c.read_operands-fills.ensures.value c.requires.bus c.requires.tick in
     let f = c.args.self.now in
@@ -49,8 +65,8 @@ follow-following-requires-clause-room c =
     (bus-weaker (f.c + 40 * 255 + 41) (2 ^ 64 - 1024) _ (omega arith)
     (operands_of-within 255 c.args.delays.now are f c.args.entry.now c.requires.entry c.requires.tight c.args.levels).bus)
 
-pub follow-following-requires-clause-early : goal.follow-following-requires-clause-early
-follow-following-requires-clause-early c =
+pub follow-requires-clause-early : goal.follow-requires-clause-early
+follow-requires-clause-early c =
     let are = AreDelays-list c.args.delays.now c.shape.ensures in
     rw c.requires.tick
     (omega (arith, p-within 255 c.args.delays.now are c.args.self.now c.args.entry.now c.requires.entry c.requires.tight c.args.levels))
@@ -67,10 +83,12 @@ unfolding after
 returns-clause-bus c =
     let reads = all-read c.args.delays.now c.args.levels c.args.self.now c.args.entry.now (reading_of c.read_operands-fills.new.operands)
     c.args.words.now.bus c.args.formed.p c.read_operands-fills.ensures.value c.requires.bus c.requires.tick in
-    rw (c.follow-following.ensures.after, ap (λ (s : Reading). s.bus) reads, c.requires.tick) refl
+    rw (c.follow.ensures.after, ap (λ (s : Reading). s.bus) reads, c.requires.tick) refl
 
-pub returns-clause-following : goal.returns-clause-following
-returns-clause-following c =
+pub returns-clause-log : goal.returns-clause-log
+returns-clause-log c =
     let reads = all-read c.args.delays.now c.args.levels c.args.self.now c.args.entry.now (reading_of c.read_operands-fills.new.operands)
     c.args.words.now.bus c.args.formed.p c.read_operands-fills.ensures.value c.requires.bus c.requires.tick in
-    rw (c.follow-following.ensures.asked, ap (λ (s : Reading). s.bus) reads, c.requires.tick) refl
+    all-noted c.args.delays.now c.args.levels c.args.self.now c.args.entry.now c.args.words.now.bus c.read_operands-fills.new.operands.bus c.args.formed.p
+    c.args.log.now c.read_operands-fills.new.log c.follow.new.log c.requires.bus (ap (λ (s : Reading). s.bus) reads) c.requires.tick c.read_operands-fills.ensures.log
+    c.follow.ensures.log

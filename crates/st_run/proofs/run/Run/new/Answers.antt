@@ -18,8 +18,8 @@ invariant_of-result g c =
     let same = c.take_due_signals.ensures
     ∙ ap {A = Overlap} (λ m. with_scene (record { machine = m; signals = scene.signals; cards = scene.cards })
     (with_due_signals m.state scene.signals scene.cards)) c.new.ensures in
-    subst {A = Waiting} (λ w. IsRun turns.Before (c.args.budget - 1) 0 0 c.args.snaps.now w c.take_due_signals.new.driven) (sym c.new-2.ensures)
-    (subst {A = Together} (λ t. IsRun turns.Before (c.args.budget - 1) 0 0 c.args.snaps.now none t) (sym same)
+    subst {A = Waiting} (λ w. IsRun turns.Before (c.args.budget - 1) 0 c.args.snaps.now w c.take_due_signals.new.driven) (sym c.new-2.ensures)
+    (subst {A = Together} (λ t. IsRun turns.Before (c.args.budget - 1) 0 c.args.snaps.now none t) (sym same)
     (start-run c.args.delays g.row.N scene idle is c.args.budget c.args.snaps.now r.some r.few (AreDelays-list c.args.delays c.shape-2.ensures)
     r.some_done r.few_done r.done r.snaps))
 

@@ -9,4 +9,4 @@ returns g c =
     let run = c.self.inside.progress in
     subst {A = Telling} (λ s. AreLevels c.view_of.result.levels s.ahead) c.self.view_is
     (subst {A = View} (λ v. AreLevels v.levels (ahead_of run.driven.machine)) (sym c.view_of.ensures)
-    (view-run run.turn run.left run.tick run.now run.snaps.now run.waiting run.driven c.self.invariant))
+    (view-run run.turn run.left run.tick run.snaps.now run.waiting run.driven c.self.invariant))

@@ -1,0 +1,131 @@
+-- Ticks that are passed, and entries that are done at some of them.
+use Rattle.std.specs.Prelude.{nat_le, nat_lt, max, is_some}
+use Rattle.std.proofs.Common.{◌≡◌, ◌⊎◌, inl, inr, ℕ, zero, suc, ◌+◌, ◌-◌, ◌<◌, ◌≤◌, ◌^◌, ◌||◌, if◌then◌else◌, Bool, true, false, Option, None, Some, refl, sym, subst, ◌∙◌, ap, arith}
+use Rattle.std.proofs.lemmas.Bool.Decides.{nat_tests}
+use Rattle.st_state.specs.Machine.{Machine}
+use Rattle.st_exec.specs.Step.{rests}
+use Rattle.st_ahead.specs.Overlap.{Overlap, interrupt_due}
+use Rattle.st_ahead.specs.Calls.{IsEvent, is_done, row_done, completed, ticked, passed, settled, answer, answer_by}
+use Rattle.st_ahead.specs.RunTo.{after_ticks, may_come, IsPassed, ArePassed, StopsAt}
+use Rattle.st_ahead.specs.declared.events.Row.{Row}
+use Rattle.st_ahead.specs.declared.events.Event.{Event}
+use Rattle.st_ahead.specs.declared.events.Event.TheVariants.{Passed, Done}
+use Rattle.st_ahead.specs.declared.events.Settled.TheVariants.{Goes}
+use Rattle.st_ahead.proofs.Idling.{first-none, less-than, zero-comes, goes-passed, late-ticked, idle-kept, passed-none}
+
+-- ---- ticks behind ticks
+
+after-join : (j k : ℕ) (m : Overlap) → after_ticks (j + k) m ≡ after_ticks k (after_ticks j m)
+unfolding after_ticks
+after-join zero k m = let same : 0 + k ≡ k = omega arith in ap {A = ℕ} (λ i. after_ticks i m) same
+after-join (suc j) k m =
+    let same : suc j + k ≡ suc (j + k) = omega arith in
+    ap {A = ℕ} (λ i. after_ticks i m) same ∙ after-join j k (settled (ticked m))
+
+below : (i j : ℕ) → nat_lt i j ≡ true → i < j
+below i j test = grind (arith, nat_tests)
+
+above : (i j : ℕ) → nat_lt i j ≡ false → j ≤ i
+above i j test = grind (arith, nat_tests)
+
+pub passed-join : (count j k : ℕ) (old m new : Overlap) → ArePassed count j old m → ArePassed count k m new → ArePassed count (j + k) old new
+passed-join count j k old m new first second =
+    record {
+      each = λ i before. each-by i before (nat_lt i j) refl;
+      after = second.after ∙ ap {A = Overlap} (after_ticks k) first.after ∙ sym (after-join j k old);
+    }
+  where
+    each-by : (i : ℕ) → i < j + k → (b : Bool) → nat_lt i j ≡ b → IsPassed count (after_ticks i old)
+    each-by i before true test = first.each i (below i j test)
+    each-by i before false test =
+        let far = above i j test in
+        let same : i ≡ j + (i - j) = omega (arith, far) in
+        let there : after_ticks i old ≡ after_ticks (i - j) m =
+        ap {A = ℕ} (λ x. after_ticks x old) same ∙ after-join j (i - j) old ∙ ap {A = Overlap} (after_ticks (i - j)) (sym first.after) in
+        subst {A = Overlap} (IsPassed count) (sym there) (second.each (i - j) (omega (arith, before, far)))
+
+pub passed-one : (count : ℕ) (m new : Overlap) → IsPassed count m → new ≡ settled (ticked m) → ArePassed count 1 m new
+unfolding after_ticks
+passed-one count m new is after = record {
+  each =
+      λ i before. let first : 0 ≡ i = omega (arith, before) in subst {A = ℕ} (λ x. IsPassed count (after_ticks x m)) first is;
+  after = after;
+}
+
+-- where no entry is done the number of instructions does not count
+pub passed-any : (count k : ℕ) (old new : Overlap) → ArePassed 0 k old new → ArePassed count k old new
+passed-any count k old new are = record {
+  each = λ i before. record {
+    goes = (are.each i before).goes;
+    nothing = λ done. absurd (zero-comes (ticked (after_ticks i old)) ((are.each i before).nothing done));
+  };
+  after = are.after;
+}
+
+-- ---- a tick
+
+pub ticked-owed : (m : Overlap) → (ticked m).owed ≡ true
+unfolding ticked completed
+ticked-owed m = by (is_done m)
+  where
+    by : (b : Bool) → (if b then completed m else record m { owed = true; closing = None }).owed ≡ true
+    by true = refl
+    by false = refl
+
+pub event-closing : (m t : Overlap) (event : Event) → IsEvent m event → t ≡ ticked m → event ≡ Passed → t.closing ≡ None
+event-closing m t event is after passes =
+    let late : is_done m ≡ false = subst {A = Event} (IsEvent m) passes is in
+    ap (λ (x : Overlap). x.closing) (after ∙ late-ticked m late)
+
+pub goes-answers : (m : Overlap) → interrupt_due m ≡ None → rests m.state ≡ false → m.behind ≡ None → answer m ≡ Goes
+unfolding answer
+goes-answers m due awake right = rw (due, awake, right) refl
+
+not-goes : (due behind : Option ℕ) (at_rest : Bool) (m : Overlap) → (is_some behind || is_some due || at_rest) ≡ true
+    → answer_by due at_rest behind m ≡ Goes → ⊥
+not-goes (Some i) behind at_rest m some goes = cc goes
+not-goes None behind true m some goes = cc goes
+not-goes None (Some h) false m some goes = cc goes
+not-goes None None false m some goes = cc some
+
+-- what is not that the machine goes on
+pub stops-not : (m : Overlap) (b : Bool) → (is_some m.behind || is_some (interrupt_due m) || rests m.state) ≡ true → answer m ≡ Goes → b ≡ true
+unfolding answer
+stops-not m b some goes = absurd (not-goes (interrupt_due m) m.behind (rests m.state) m some goes)
+
+pub ticked-now : (m : Overlap) → (ticked m).now ≡ m.now
+unfolding ticked completed
+ticked-now m = by (is_done m)
+  where
+    by : (b : Bool) → (if b then completed m else record m { owed = true; closing = None }).now ≡ m.now
+    by true = refl
+    by false = refl
+
+few-none : (count : ℕ) (t : Overlap) → count ≤ 2 ^ 63 → may_come count t ≡ false → t.state.done < 2 ^ 63
+few-none count t few none = omega (arith, less-than count t.state.done (first-none (nat_le count t.state.done) _ none), few)
+
+-- what a tick that is passed leaves
+pub passed-keeps : (count : ℕ) (m : Overlap) → IsPassed count m → count ≤ 2 ^ 63 → m.state.done < 2 ^ 63
+    → ((settled (ticked m)).owed ≡ false) × ((settled (ticked m)).now ≡ m.now + 1) × ((settled (ticked m)).state.done < 2 ^ 63)
+passed-keeps count m is few small =
+    let same : settled (ticked m) ≡ passed (ticked m) = goes-passed (ticked m) is.goes in (
+      ap (λ (x : Overlap). x.owed) same,
+      ap (λ (x : Overlap). x.now) same ∙ ap (λ (k : ℕ). k + 1) (ticked-now m),
+      subst {A = Overlap} (λ x. x.state.done < 2 ^ 63) (sym same) (by (is_done m) refl),
+    )
+  where
+    by : (b : Bool) → is_done m ≡ b → (ticked m).state.done < 2 ^ 63
+    by true done = few-none count (ticked m) few (is.nothing done)
+    by false late = let state = ap (λ (x : Overlap). x.state.done) (late-ticked m late) in omega (arith, state, small)
+
+-- each tick that is passed counts
+pub passed-now : (k count : ℕ) (m new : Overlap) → ArePassed count k m new → new.now ≡ m.now + k
+unfolding after_ticks
+passed-now zero count m new are = let same = ap (λ (x : Overlap). x.now) are.after in omega (arith, same)
+passed-now (suc k) count m new are =
+    let goes = (are.each 0 (omega arith)).goes in
+    let next : (settled (ticked m)).now ≡ m.now + 1 =
+    ap (λ (x : Overlap). x.now) (goes-passed (ticked m) goes) ∙ ap (λ (x : ℕ). x + 1) (ticked-now m) in
+    let rest = passed-now k count (settled (ticked m)) new
+    (record { each = λ i before. are.each (suc i) (omega (arith, before)); after = are.after }) in
+    omega (arith, next, rest)

@@ -1,0 +1,202 @@
+-- What runs ahead of a machine makes ticks, and entries are done at some of them.
+use Rattle.std.specs.Prelude.{All, is_none, is_some, ◌-◌, ◌^◌}
+use Rattle.std.proofs.Common.{◌≡◌, ℕ, zero, suc, ◌+◌, ◌<◌, ◌≤◌, ◌||◌, if◌then◌else◌, Bool, true, false, List, ◌++◌, Option, None, Some, refl, sym, subst, ◌∙◌, ap, arith}
+use Rattle.std.specs.Option.{IfSome}
+use Rattle.std.proofs.lemmas.Bool.{eq-eqb}
+use Rattle.std.proofs.lemmas.List.Elements.{All-weaker}
+use Rattle.st_state.specs.Machine.{Machine, IsMachine}
+use Rattle.st_banks.specs.declared.answers.LastAnswers.{LastAnswers}
+use Rattle.st_prep.specs.Plan.{plan}
+use Rattle.st_exec.specs.Completion.{executed, guess, is_missed}
+use Rattle.st_exec.specs.Step.{interrupt, rests}
+use Rattle.st_rows.specs.Asked.{asked, made_before}
+use Rattle.st_rows.specs.Rows.{row, after}
+use Rattle.st_rows.specs.declared.front.Front.{Front}
+use Rattle.st_ring.specs.declared.level.Level.{Level}
+use Rattle.st_segment.specs.Ahead.{ahead, reads_before}
+use Rattle.st_segment.specs.Entries.{entry}
+use Rattle.st_levels.specs.Levels.{IsCompleted}
+use Rattle.st_levels.specs.declared.levels.Completed.{Completed}
+use Rattle.st_levels.proofs.RestLemmas.{ahead-rests}
+use Rattle.st_ahead.specs.Overlap.{Overlap, seen, oldest_row, interrupt_due, banks_at_its_end}
+use Rattle.st_ahead.specs.Calls.{is_done, completed, ticked, passed, settled, answer, answer_by}
+use Rattle.st_ahead.specs.RunTo.{may_come, IsPassed, ArePassed}
+use Rattle.st_ahead.specs.Running.{between, IsAwake, comes, IsRunning, HasPassed, HasStopped}
+use Rattle.st_ahead.specs.Look.{LookView, IsLook, IsOutlook}
+use Rattle.st_ahead.specs.Going.{IsGoing, IsDueAt}
+use Rattle.st_ahead.specs.Inside.{answers_before}
+use Rattle.st_ahead.specs.declared.events.Settled.TheVariants.{Goes}
+use Rattle.st_ahead.proofs.Idling.{are-idle, goes-passed, passed-none}
+use Rattle.st_ahead.proofs.Passing.{passed-join, passed-one, passed-any, goes-answers}
+use Rattle.st_ahead.proofs.LevelTicks.{done-after, done-later}
+use Rattle.st_ahead.proofs.Settling.{look-runs}
+use Rattle.st_ahead.proofs.Standing.{chosen, answers-same, same-answers, after-c}
+
+-- ---- an entry is done at a tick
+
+module _ (ds : List ℕ) (n now : ℕ) (t : Option ℕ) (s : Machine) (f : Front) (due : (row ds n f (entry t s)).c ≡ now) where
+  abbrev before : Overlap
+  before = between ds n s t f now
+
+  pub is-due : is_done before ≡ true
+  unfolding seen oldest_row
+  is-due = eq-eqb (row ds n f (entry t s)).c now due
+
+  pub ticked-done : ticked before ≡ completed before
+  unfolding ticked
+  ticked-done = chosen _ _ _ is-due
+
+  module _ (right : is_missed (plan s t) s ≡ false) (none : interrupt (executed t s) ≡ None) (awake : rests (executed t s) ≡ false) where
+    goes-done : answer (ticked before) ≡ Goes
+    unfolding completed seen
+    goes-done = ap {A = Overlap} answer ticked-done ∙ goes-answers (completed before) none awake (rw right refl)
+
+    next-done : settled (ticked before) ≡ between ds n (executed t s) None (after ds n f (entry t s)) (now + 1)
+    unfolding completed seen
+    next-done = goes-passed (ticked before) goes-done ∙ ap {A = Overlap} passed ticked-done
+
+    pub one-passed : (count : ℕ) → comes count (executed t s) ≡ false
+        → ArePassed count 1 before (between ds n (executed t s) None (after ds n f (entry t s)) (now + 1))
+    unfolding completed seen
+    one-passed count nothing =
+        passed-one count before _ (record {
+          goes = goes-done;
+          nothing = λ done. ap {A = Overlap} (may_come count) ticked-done ∙ nothing;
+        }) (sym next-done)
+
+-- what goes on has nothing due, and was not misled
+goes-parts : (due behind : Option ℕ) (at_rest : Bool) (m : Overlap) → answer_by due at_rest behind m ≡ Goes
+    → (due ≡ None) × (at_rest ≡ false) × (behind ≡ None)
+goes-parts (Some i) behind at_rest m goes = absurd (cc goes)
+goes-parts None behind true m goes = absurd (cc goes)
+goes-parts None (Some h) false m goes = absurd (cc goes)
+goes-parts None None false m goes = (refl, refl, refl)
+
+by-none : (b : Bool) → (b ≡ false → ⊥) → b ≡ true
+by-none true never = refl
+by-none false never = absurd (never refl)
+
+pub stopped-comes : (ds : List ℕ) (n count now : ℕ) (t : Option ℕ) (s : Machine) (f : Front) → (row ds n f (entry t s)).c ≡ now
+    → (comes count (executed t s) ≡ false → (if is_missed (plan s t) s then Some (plan s t).following else None) ≡ None
+    → interrupt (executed t s) ≡ None → rests (executed t s) ≡ false → ⊥)
+    → answer (ticked (between ds n s t f now)) ≡ Goes → may_come count (ticked (between ds n s t f now)) ≡ true
+unfolding answer completed seen
+stopped-comes ds n count now t s f due stops goes =
+    let m = completed (between ds n s t f now) in
+    let same = ticked-done ds n now t s f due in
+    let goes_on : answer m ≡ Goes = ap {A = Overlap} answer (sym same) ∙ goes in
+    let parts = goes-parts (interrupt_due m) m.behind (rests m.state) m goes_on in
+    ap {A = Overlap} (may_come count) same ∙ by-none (comes count (executed t s)) (λ nothing. stops nothing parts.2 parts.0 parts.1)
+
+-- ---- ticks at which none is
+
+move : (ds : List ℕ) (n count k j now to at : ℕ) (t x : Option ℕ) (s u : Machine) (f g : Front) → k ≡ j → to ≡ at
+    → ArePassed count k (between ds n s t f now) (between ds n u x g to) → ArePassed count j (between ds n s t f now) (between ds n u x g at)
+move ds n count k j now to at t x s u f g same there are =
+    subst (λ (i : ℕ). ArePassed count j (between ds n s t f now) (between ds n u x g i)) there
+    (subst (λ (i : ℕ). ArePassed count i (between ds n s t f now) (between ds n u x g to)) same are)
+
+pub running-idle : (ds : List ℕ) (n count last now to : ℕ) (t k : Option ℕ) (s u : Machine) (f : Front) (v : LookView)
+    (is : IsRunning ds n count last now t s f k u v) → is.tick < to → to ≤ (row ds n is.front (entry k u)).c
+    → ArePassed count (to - now) (between ds n s t f now) (between ds n u k is.front to)
+running-idle ds n count last now to t k s u f v is later soon =
+    let idle = are-idle ds n u k is.front is.awake.due is.awake.goes (to - (is.tick + 1)) (is.tick + 1) (omega (arith, later, soon)) in
+    move ds n count _ _ now _ _ t k s u f is.front (omega (arith, later, is.behind)) (omega (arith, later))
+    (passed-join count (is.tick + 1 - now) (to - (is.tick + 1)) _ _ _ is.passed (passed-any count (to - (is.tick + 1)) _ _ idle))
+
+-- ---- it starts
+
+start-by : (ds : List ℕ) (n count now : ℕ) (t : Option ℕ) (s : Machine) (f : Front) → IsMachine s → IfSome t (λ i. i < 64) → IsAwake t s
+    → ArePassed count (now - 1 + 1 - now) (between ds n s t f now) (between ds n s t f (now - 1 + 1))
+start-by ds n count zero t s f m some awake =
+    move ds n count _ _ 0 _ _ t t s s f f (omega arith) (omega arith)
+    (passed-any count 1 _ _ (are-idle ds n s t f awake.due awake.goes 1 0 (omega (arith, done-later ds n t s f m some))))
+start-by ds n count (suc now) t s f m some awake =
+    move ds n count 0 _ (suc now) (suc now) _ t t s s f f (omega arith) (omega arith) (passed-none count (between ds n s t f (suc now)))
+
+pub running-starts : (ds : List ℕ) (n count last now : ℕ) (t : Option ℕ) (s : Machine) (f : Front) (v : LookView)
+    → IsLook ds n (now - 1) now t s f v → now ≤ last → IsAwake t s → IsRunning ds n count last now t s f t s v
+running-starts ds n count last now t s f v is soon awake = record {
+  tick = now - 1;
+  front = f;
+  passed = start-by ds n count now t s f is.machine is.indicator awake;
+  behind = omega arith;
+  soon = omega (arith, soon);
+  awake = awake;
+  going = look-runs ds n now t s f v is;
+}
+
+-- ---- behind an entry that is done it goes on
+
+going-done : (ds : List ℕ) (n due : ℕ) (s : Machine) (f : Front) (v : LookView) → f.c ≡ due → IsOutlook ds n (due - 1) due None s f v
+    → IsGoing ds n due due None s f v
+going-done ds n due s f v at is =
+    let ahead_ = ahead-rests (due - 1) due (omega arith) ds n None s f v.front v.levels is.ahead in
+    record {
+      machine = is.machine;
+      indicator = is.indicator;
+      ahead = ahead_;
+      prepared = All-weaker (λ (x : Level). x.p < due) (λ x. x.p ≤ due) (λ x h. omega (arith, h)) v.levels.ring is.prepared;
+      not_done = done-after ds n due due None s f v.front v.levels.ring v.levels.plans is.machine tt ahead_.levels
+          (omega (arith, at, done-later ds n None s f is.machine tt));
+      oldest = is.oldest;
+      tight = is.tight;
+      start = omega (arith, is.start);
+      early = omega (arith, is.early);
+      next = is.next;
+      late = is.late;
+      logged = is.logged;
+    }
+
+missed-none : (b : Bool) (h : ℕ) → (if b then Some h else None) ≡ None → b ≡ false
+missed-none true h e = absurd (cc e)
+missed-none false h e = refl
+
+module _ (ds : List ℕ) (n count last now due : ℕ) (t k : Option ℕ) (s u x : Machine) (f : Front) (v w new : LookView) (done : Completed)
+    (is : IsRunning ds n count last now t s f k u v) (at : IsDueAt ds n is.tick last due k u is.front w)
+    (state : x ≡ executed k u) (told : IsCompleted ds n k u is.front done) where
+  pub running-on : IsOutlook ds n (due - 1) due None (guess k u) (after ds n is.front (entry k u)) new
+      → comes count x ≡ false → done.missed ≡ None → interrupt x ≡ None → rests x ≡ false
+      → (is_missed (plan u k) u ≡ false → guess k u ≡ executed k u)
+      → IsRunning ds n count last now t s f None x new
+  running-on out nothing missed none awake guessed =
+      let right : is_missed (plan u k) u ≡ false = missed-none (is_missed (plan u k) u) (plan u k).following (sym told.missed ∙ missed) in
+      let front = after ds n is.front (entry k u) in
+      let c : front.c ≡ due = after-c ds n is.front (entry k u) ∙ at.row_is in
+      let same : guess k u ≡ x = guessed right ∙ sym state in
+      let outlook = subst (λ (m : Machine). IsOutlook ds n (due - 1) due None m front new) same out in
+      let one = one-passed ds n due k u is.front at.row_is right (ap {A = Machine} interrupt (sym state) ∙ none) (ap {A = Machine} rests (sym state) ∙ awake) count
+      (ap {A = Machine} (comes count) (sym state) ∙ nothing) in
+      let idle = running-idle ds n count last now due t k s u f v is at.later (omega (arith, at.row_is)) in
+      record {
+        tick = due;
+        front = front;
+        passed =
+            subst (λ (m : Machine). ArePassed count (due + 1 - now) (between ds n s t f now) (between ds n m None front (due + 1))) (sym state)
+            (move ds n count _ _ now _ _ t None s (executed k u) f front (omega (arith, at.later, is.behind)) refl
+            (passed-join count (due - now) 1 _ _ _ idle one));
+        behind = omega (arith, at.later, is.behind);
+        soon = at.soon;
+        awake = record { due = none; goes = awake };
+        going = going-done ds n due x front new c outlook;
+      }
+
+-- ---- it ends
+
+pub running-ends : (ds : List ℕ) (n count last now : ℕ) (t k : Option ℕ) (s u : Machine) (f : Front) (v w : LookView)
+    (is : IsRunning ds n count last now t s f k u v) → last < (row ds n is.front (entry k u)).c → IsLook ds n last (last + 1) k u is.front w
+    → HasPassed ds n count last now t s f k u w
+running-ends ds n count last now t k s u f v w is late look = record {
+  front = is.front;
+  passed = running-idle ds n count last now (last + 1) t k s u f v is (omega (arith, is.soon)) (omega (arith, late));
+  awake = is.awake;
+  look = look;
+}
+
+-- the answers of the banks at the end of a segment
+pub banks-between : (ds : List ℕ) (n now : ℕ) (t : Option ℕ) (s : Machine) (f : Front) (v : LookView)
+    → (made_before ds now (asked ds n f (entry t s) ++ reads_before ds n now (ahead ds n (suc n) None (guess t s) (after ds n f (entry t s)))) f.bus).banks.ticks
+    ≡ (answers_before now v).ticks
+    → banks_at_its_end (between ds n s t f now) ≡ answers_before now v
+unfolding seen banks_at_its_end
+banks-between ds n now t s f v h = same-answers _ _ h

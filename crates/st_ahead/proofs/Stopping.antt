@@ -1,0 +1,141 @@
+-- What a machine keeps once ticks are made in one call.
+use Rattle.std.specs.Prelude.{All, is_none, ◌-◌, ◌^◌}
+use Rattle.std.proofs.Common.{◌≡◌, ℕ, ◌+◌, ◌<◌, ◌≤◌, Bool, true, false, if◌then◌else◌, List, Option, None, Some, refl, sym, subst, ◌∙◌, ap, arith}
+use Rattle.st_state.specs.Machine.{Machine}
+use Rattle.st_banks.specs.declared.answers.LastAnswers.{LastAnswers}
+use Rattle.st_prep.specs.Plan.{plan}
+use Rattle.st_exec.specs.Completion.{executed, guess}
+use Rattle.st_exec.specs.Step.{interrupt, rests}
+use Rattle.st_rows.specs.Rows.{row, after}
+use Rattle.st_rows.specs.declared.front.Front.{Front}
+use Rattle.st_segment.specs.Entries.{entry}
+use Rattle.st_levels.specs.Levels.{oldest_front}
+use Rattle.st_levels.specs.declared.levels.Completed.{Completed}
+use Rattle.st_ahead.specs.Overlap.{Overlap, seen, oldest_row, with_counter}
+use Rattle.st_ahead.specs.Calls.{row_done, completed, ticked, answer}
+use Rattle.st_ahead.specs.RunTo.{may_come, ArePassed, StopsAt}
+use Rattle.st_ahead.specs.Running.{between, IsAwake, HasPassed, HasStopped}
+use Rattle.st_ahead.specs.Look.{LookView, IsLook}
+use Rattle.st_ahead.specs.Inside.{standing, answers_before, IsInside}
+use Rattle.st_ahead.specs.declared.events.Row.{Row}
+use Rattle.st_ahead.specs.declared.events.Settled.TheVariants.{Goes}
+use Rattle.st_ahead.proofs.Runs.{is-due, ticked-done}
+use Rattle.st_ahead.proofs.Standing.{same-fields, same-row, told, after-c}
+
+-- a machine that nothing is owed of may be awake
+pub awake-inside : (n : ℕ) (ds : List ℕ) (s : Machine) (t b : Option ℕ) (now : ℕ) (owed ended fresh : Bool) (v : LookView)
+    → IsInside (standing n ds s t b now owed ended fresh v) fresh v → owed ≡ false → IsAwake t s
+awake-inside n ds s t b now true ended fresh v is e = absurd (cc e)
+awake-inside n ds s t b now false ended true v is e = absurd (cc (is.fresh_owed refl))
+awake-inside n ds s t b now false ended false v is e = let quiet = is.quiet refl in record { due = quiet.0; goes = quiet.1 }
+
+-- all ticks up to `last` are passed
+passed-calm : (n : ℕ) (ds : List ℕ) (s u : Machine) (t k : Option ℕ) (now last count : ℕ) (v w : LookView)
+    → IsInside (standing n ds s t None now false false false v) false v → last < 2 ^ 63
+    → (is : HasPassed ds n count last now t s (oldest_front v.levels.plans v.front) k u w) → oldest_front w.levels.plans w.front ≡ is.front
+    → IsInside (standing n ds u k None (last + 1) false false false w) false w
+    × ArePassed count (last + 1 - now) (standing n ds s t None now false false false v) (standing n ds u k None (last + 1) false false false w)
+unfolding seen
+passed-calm n ds s u t k now last count v w is early by front = (
+  record {
+    some = is.some;
+    few = is.few;
+    looking =
+        let same : last ≡ last + 1 - 1 = omega arith in
+        subst (λ (x : ℕ). IsLook ds n x (last + 1) k u (oldest_front w.levels.plans w.front) w) same
+        (subst (λ (g : Front). IsLook ds n last (last + 1) k u g w) (sym front) by.look);
+    indicator = by.look.indicator;
+    in_time = omega (arith, early);
+    fresh_owed = λ e. absurd (cc e);
+    ended_owed = λ e. absurd (cc e);
+    behind_fresh = λ e. refl;
+    done_now = λ e. absurd (cc e);
+    none_taken = λ e. absurd (cc e);
+    quiet = λ e. (by.awake.due, by.awake.goes);
+    unstarted = λ e first. absurd (omega (arith, first));
+    near = λ e. absurd (cc e);
+  },
+  subst (λ (g : Front). ArePassed count (last + 1 - now) (standing n ds s t None now false false false v) (between ds n u k g (last + 1))) (sym front) by.passed,
+)
+
+pub passed-machine : (n : ℕ) (ds : List ℕ) (s u : Machine) (t k b : Option ℕ) (now last count : ℕ) (owed ended fresh : Bool) (v w : LookView)
+    → IsInside (standing n ds s t b now owed ended fresh v) fresh v → owed ≡ false → last < 2 ^ 63
+    → (is : HasPassed ds n count last now t s (oldest_front v.levels.plans v.front) k u w) → oldest_front w.levels.plans w.front ≡ is.front
+    → IsInside (standing n ds u k b (last + 1) owed ended fresh w) fresh w
+    × ArePassed count (last + 1 - now) (standing n ds s t b now owed ended fresh v) (standing n ds u k b (last + 1) owed ended fresh w)
+passed-machine n ds s u t k b now last count true ended fresh v w is e early by front = absurd (cc e)
+passed-machine n ds s u t k b now last count false true fresh v w is e early by front = absurd (cc (is.ended_owed refl))
+passed-machine n ds s u t k b now last count false false true v w is e early by front = absurd (cc (is.fresh_owed refl))
+passed-machine n ds s u t k (Some h) now last count false false false v w is e early by front = absurd (cc (is.behind_fresh refl))
+passed-machine n ds s u t k None now last count false false false v w is e early by front = passed-calm n ds s u t k now last count v w is early by front
+
+-- an entry is done, behind which something may come
+row-between : (n : ℕ) (ds : List ℕ) (s u : Machine) (t : Option ℕ) (f : Front) (tick number : ℕ) (done : Completed)
+    → number ≡ s.done + 1 → done.address ≡ (plan s t).place.address → done.p ≡ (row ds n f (entry t s)).p → done.r ≡ (row ds n f (entry t s)).r
+    → told number done.address done.p done.r tick ≡ row_done (between ds n s t f tick)
+unfolding seen oldest_row
+row-between n ds s u t f tick number done counted address p r =
+    same-row number done.address done.p done.r tick _ _ _ _ counted address p r
+
+stopped-calm : (n : ℕ) (ds : List ℕ) (s u : Machine) (t : Option ℕ) (now last count tick number : ℕ) (v w : LookView) (done : Completed)
+    → IsInside (standing n ds s t None now false false false v) false v → last < 2 ^ 63
+    → (is : HasStopped ds n count last now tick t s (oldest_front v.levels.plans v.front) None u w done)
+    → oldest_front w.levels.plans w.front ≡ after ds n is.front (entry is.table is.state)
+    → with_counter done.missed u ≡ guess is.table is.state → number ≡ is.state.done + 1
+    → IsInside (standing n ds u None done.missed tick true false true w) true w
+    × StopsAt count last (told number done.address done.p done.r tick) (standing n ds s t None now false false false v)
+    (standing n ds u None done.missed tick true false true w)
+unfolding seen completed
+stopped-calm n ds s u t now last count tick number v w done is early by front guessed counted =
+    let f = by.front in
+    let at = by.done_at in
+    let state = between ds n by.state by.table f tick in
+    let new = standing n ds u None done.missed tick true false true w in
+    let after_ : new ≡ ticked state =
+    same-fields ds n u (executed by.table by.state) None done.missed _ _ (after ds n f (entry by.table by.state)) tick true false _ _ at.state at.told.missed front
+    (ap Some (sym by.banks))
+    ∙ sym (ticked-done ds n tick by.table by.state f at.due) in (
+      record {
+        some = is.some;
+        few = is.few;
+        looking =
+            subst (λ (x : Machine). IsLook ds n tick tick None x (oldest_front w.levels.plans w.front) w) (sym guessed)
+            (subst (λ (g : Front). IsLook ds n tick tick None (guess by.table by.state) g w) (sym front) at.look);
+        indicator = tt;
+        in_time = omega (arith, early, by.soon);
+        fresh_owed = λ e. refl;
+        ended_owed = λ e. refl;
+        behind_fresh = λ e. absurd (cc e);
+        done_now = λ e g. ap (λ (x : Front). x.c) front ∙ after-c ds n f (entry by.table by.state) ∙ at.due;
+        none_taken = λ e. refl;
+        quiet = λ e. absurd (cc e);
+        unstarted = λ e. absurd (cc e);
+        near = λ e. by.near;
+      },
+      record {
+        ticks = tick - now;
+        before = state;
+        passed = by.passed;
+        done = is-due ds n tick by.table by.state f at.due;
+        soon = by.soon;
+        row_is = row-between n ds by.state u by.table f tick number done counted at.told.address at.told.p at.told.r;
+        after = after_;
+        stops = λ goes. ap {A = Overlap} (may_come count) after_ ∙ by.stops (ap {A = Overlap} answer (sym after_) ∙ goes);
+      },
+    )
+
+pub stopped-machine : (n : ℕ) (ds : List ℕ) (s u : Machine) (t k b : Option ℕ) (now last count tick number : ℕ) (owed ended fresh : Bool) (v w : LookView) (done : Completed)
+    → IsInside (standing n ds s t b now owed ended fresh v) fresh v → owed ≡ false → last < 2 ^ 63
+    → (is : HasStopped ds n count last now tick t s (oldest_front v.levels.plans v.front) k u w done)
+    → oldest_front w.levels.plans w.front ≡ after ds n is.front (entry is.table is.state)
+    → with_counter done.missed u ≡ guess is.table is.state → number ≡ is.state.done + 1
+    → IsInside (standing n ds u k done.missed tick true ended true w) true w
+    × StopsAt count last (told number done.address done.p done.r tick) (standing n ds s t b now owed ended fresh v)
+    (standing n ds u k done.missed tick true ended true w)
+stopped-machine n ds s u t k b now last count tick number true ended fresh v w done is e early by front guessed counted = absurd (cc e)
+stopped-machine n ds s u t k b now last count tick number false true fresh v w done is e early by front guessed counted = absurd (cc (is.ended_owed refl))
+stopped-machine n ds s u t k b now last count tick number false false true v w done is e early by front guessed counted = absurd (cc (is.fresh_owed refl))
+stopped-machine n ds s u t k (Some h) now last count tick number false false false v w done is e early by front guessed counted = absurd (cc (is.behind_fresh refl))
+stopped-machine n ds s u t (Some i) None now last count tick number false false false v w done is e early by front guessed counted = absurd (cc by.none_taken)
+stopped-machine n ds s u t None None now last count tick number false false false v w done is e early by front guessed counted =
+    stopped-calm n ds s u t now last count tick number v w done is early by front guessed counted

@@ -1,0 +1,121 @@
+use Rattle.std.proofs.Common.{◌≡◌, ◌+◌, ◌-◌, ◌<◌, ◌≤◌, ◌^◌, true, false, Option, None, Some, refl, sym, subst, ◌∙◌, ap, arith}
+use Rattle.st_state.specs.Machine.{Machine}
+use Rattle.st_prep.specs.Plan.{plan}
+use Rattle.st_exec.specs.Completion.{guess, is_missed}
+use Rattle.st_rows.specs.Rows.{after}
+use Rattle.st_segment.specs.Entries.{entry}
+use Rattle.st_levels.specs.Levels.{oldest_front}
+use Rattle.st_ahead.specs.Overlap.{Overlap}
+use Rattle.st_ahead.specs.RunTo.{ArePassed, StopsAt}
+use Rattle.st_ahead.specs.Running.{HasRun}
+use Rattle.st_ahead.specs.Inside.{standing}
+use Rattle.st_ahead.specs.declared.look_run.Stop.{Stop}
+use Rattle.st_ahead.proofs.Idling.{passed-none}
+use Rattle.st_ahead.proofs.Standing.{idle, guess-seen, told as told_row}
+use Rattle.st_ahead.proofs.Stopping.{awake-inside, passed-machine, stopped-machine}
+use Rattle.st_ahead.proofs.machine.Machine.run_to.Goals as goal
+
+pub returns-then-now-last : goal.returns-then-now-last
+returns-then-now-last g c =
+    let now : c.args.last < c.args.self.now.now = subst (λ (m : Overlap). c.args.last < m.now) c.self.view_is (omega (arith, c.if-now-last.true)) in
+    let none : 0 ≡ c.args.last + 1 - c.args.self.now.now = omega (arith, now) in
+    subst (λ k. ArePassed c.args.count k c.args.self.now c.args.self.now) none (passed-none c.args.count c.args.self.now)
+
+pub run_to-stop-requires : goal.run_to-stop-requires
+run_to-stop-requires g c =
+    let n = g.row.N in
+    let i = c.self.inside in
+    let owes = subst (λ (m : Overlap). m.owed ≡ false) (sym c.self.view_is) c.requires.settled in
+    let few = subst (λ (m : Overlap). m.state.done < 2 ^ 63) (sym c.self.view_is) c.requires.done in
+    let at = idle n i.delays i.state i.taken i.behind i.now i.owed i.ended i.fresh i.look c.self.invariant owes in (
+      omega arith,
+      (c.self.invariant.some, (c.self.invariant.few, (c.requires.last, (c.requires.count, (few, record {
+        front = oldest_front i.look.levels.plans i.look.front;
+        now = i.now;
+        look = at.look;
+        soon = omega (arith, c.if-now-last.false);
+        awake = awake-inside n i.delays i.state i.taken i.behind i.now i.owed i.ended i.fresh i.look c.self.invariant owes;
+      }))))),
+    )
+
+pub invariant_of-self : goal.invariant_of-self
+invariant_of-self g c =
+    let n = g.row.N in
+    let i = c.self.inside in
+    let v = i.look in
+    let w = c.run_to-stop.new.self in
+    let f = oldest_front v.levels.plans v.front in
+    let owes = subst (λ (m : Overlap). m.owed ≡ false) (sym c.self.view_is) c.requires.settled in
+    let at = idle n i.delays i.state i.taken i.behind i.now i.owed i.ended i.fresh v c.self.invariant owes in
+    let awake = awake-inside n i.delays i.state i.taken i.behind i.now i.owed i.ended i.fresh v c.self.invariant owes in
+    let by = subst (λ (x : Option Stop). HasRun i.delays n c.args.count c.args.last i.now i.taken i.state f c.run_to-stop.new.taken c.run_to-stop.new.state w x) c.in_default.is
+    (c.run_to-stop.ensures f i.now at.look (omega (arith, c.if-now-last.false)) awake) in
+    let front = c.levels_are_the_entries_ahead.ensures.oldest i.delays n c.args.last c.run_to-stop.new.taken c.run_to-stop.new.state by.front w.front w.levels by.look.ahead in
+    let all = passed-machine n i.delays i.state c.run_to-stop.new.state i.taken c.run_to-stop.new.taken i.behind i.now c.args.last c.args.count i.owed i.ended i.fresh v w
+    c.self.invariant owes c.requires.last by front in
+    all.0
+
+pub returns-in_default : goal.returns-in_default
+returns-in_default g c =
+    let n = g.row.N in
+    let i = c.self.inside in
+    let v = i.look in
+    let w = c.run_to-stop.new.self in
+    let f = oldest_front v.levels.plans v.front in
+    let owes = subst (λ (m : Overlap). m.owed ≡ false) (sym c.self.view_is) c.requires.settled in
+    let at = idle n i.delays i.state i.taken i.behind i.now i.owed i.ended i.fresh v c.self.invariant owes in
+    let awake = awake-inside n i.delays i.state i.taken i.behind i.now i.owed i.ended i.fresh v c.self.invariant owes in
+    let by = subst (λ (x : Option Stop). HasRun i.delays n c.args.count c.args.last i.now i.taken i.state f c.run_to-stop.new.taken c.run_to-stop.new.state w x) c.in_default.is
+    (c.run_to-stop.ensures f i.now at.look (omega (arith, c.if-now-last.false)) awake) in
+    let front = c.levels_are_the_entries_ahead.ensures.oldest i.delays n c.args.last c.run_to-stop.new.taken c.run_to-stop.new.state by.front w.front w.levels by.look.ahead in
+    let all = passed-machine n i.delays i.state c.run_to-stop.new.state i.taken c.run_to-stop.new.taken i.behind i.now c.args.last c.args.count i.owed i.ended i.fresh v w
+    c.self.invariant owes c.requires.last by front in
+    subst (λ (m : Overlap). ArePassed c.args.count (c.args.last + 1 - m.now) m (standing n i.delays c.run_to-stop.new.state c.run_to-stop.new.taken i.behind (c.args.last + 1) i.owed i.ended i.fresh w))
+    c.self.view_is all.1
+
+pub invariant_of-self-2 : goal.invariant_of-self-2
+invariant_of-self-2 g c =
+    let n = g.row.N in
+    let i = c.self.inside in
+    let v = i.look in
+    let w = c.run_to-stop.new.self in
+    let f = oldest_front v.levels.plans v.front in
+    let owes = subst (λ (m : Overlap). m.owed ≡ false) (sym c.self.view_is) c.requires.settled in
+    let at = idle n i.delays i.state i.taken i.behind i.now i.owed i.ended i.fresh v c.self.invariant owes in
+    let awake = awake-inside n i.delays i.state i.taken i.behind i.now i.owed i.ended i.fresh v c.self.invariant owes in
+    let by = subst (λ (x : Option Stop). HasRun i.delays n c.args.count c.args.last i.now i.taken i.state f c.run_to-stop.new.taken c.run_to-stop.new.state w x) c.in-Some.is
+    (c.run_to-stop.ensures f i.now at.look (omega (arith, c.if-now-last.false)) awake) in
+    let stop = c.in-Some.stop in
+    let told = by.done_at in
+    let front = c.levels_are_the_entries_ahead.ensures.oldest i.delays n stop.tick None (guess by.table by.state) (after i.delays n by.front (entry by.table by.state)) w.front w.levels
+    told.look.ahead in
+    let guessed = guess-seen by.table by.state c.run_to-stop.new.state (is_missed (plan by.state by.table) by.state) stop.done.missed refl told.state told.told.missed
+    (c.steps_are_guesses.ensures.right by.table by.state by.machine by.indicator) (c.steps_are_guesses.ensures.missed by.table by.state by.machine by.indicator) in
+    let counted = c.done_in-number.ensures ∙ ap (λ (m : Machine). m.done) told.state ∙ c.entries_count_as_one.ensures (plan by.state by.table) by.state in
+    let all = stopped-machine n i.delays i.state c.run_to-stop.new.state i.taken c.run_to-stop.new.taken i.behind i.now c.args.last c.args.count stop.tick c.done_in-number.result
+    i.owed i.ended i.fresh v w stop.done c.self.invariant owes c.requires.last by front guessed counted in
+    all.0
+
+pub returns : goal.returns
+returns g c =
+    let n = g.row.N in
+    let i = c.self.inside in
+    let v = i.look in
+    let w = c.run_to-stop.new.self in
+    let f = oldest_front v.levels.plans v.front in
+    let owes = subst (λ (m : Overlap). m.owed ≡ false) (sym c.self.view_is) c.requires.settled in
+    let at = idle n i.delays i.state i.taken i.behind i.now i.owed i.ended i.fresh v c.self.invariant owes in
+    let awake = awake-inside n i.delays i.state i.taken i.behind i.now i.owed i.ended i.fresh v c.self.invariant owes in
+    let by = subst (λ (x : Option Stop). HasRun i.delays n c.args.count c.args.last i.now i.taken i.state f c.run_to-stop.new.taken c.run_to-stop.new.state w x) c.in-Some.is
+    (c.run_to-stop.ensures f i.now at.look (omega (arith, c.if-now-last.false)) awake) in
+    let stop = c.in-Some.stop in
+    let told = by.done_at in
+    let front = c.levels_are_the_entries_ahead.ensures.oldest i.delays n stop.tick None (guess by.table by.state) (after i.delays n by.front (entry by.table by.state)) w.front w.levels
+    told.look.ahead in
+    let guessed = guess-seen by.table by.state c.run_to-stop.new.state (is_missed (plan by.state by.table) by.state) stop.done.missed refl told.state told.told.missed
+    (c.steps_are_guesses.ensures.right by.table by.state by.machine by.indicator) (c.steps_are_guesses.ensures.missed by.table by.state by.machine by.indicator) in
+    let counted = c.done_in-number.ensures ∙ ap (λ (m : Machine). m.done) told.state ∙ c.entries_count_as_one.ensures (plan by.state by.table) by.state in
+    let all = stopped-machine n i.delays i.state c.run_to-stop.new.state i.taken c.run_to-stop.new.taken i.behind i.now c.args.last c.args.count stop.tick c.done_in-number.result
+    i.owed i.ended i.fresh v w stop.done c.self.invariant owes c.requires.last by front guessed counted in
+    subst (λ (m : Overlap). StopsAt c.args.count c.args.last (told_row c.done_in-number.result stop.done.address stop.done.p stop.done.r stop.tick) m
+    (standing n i.delays c.run_to-stop.new.state c.run_to-stop.new.taken stop.done.missed stop.tick true i.ended true w)) c.self.view_is all.1

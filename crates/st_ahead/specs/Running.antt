@@ -1,0 +1,87 @@
+-- What runs ahead of a machine that makes ticks and goes on behind each.
+use Rattle.std.specs.Prelude.{ℕ, ◌≡◌, ◌+◌, ◌-◌, ◌≤◌, ◌<◌, ◌||◌, nat_le, Bool, true, false, All, List, Option, None, Some, IfSome, is_none, if◌then◌else◌}
+use Rattle.st_state.specs.Machine.{Machine, IsMachine}
+use Rattle.st_state.specs.Orders.{is_due}
+use Rattle.st_exec.specs.Step.{interrupt, rests}
+use Rattle.st_rows.specs.declared.front.Front.{Front}
+use Rattle.st_levels.specs.declared.levels.Completed.{Completed}
+use Rattle.st_ahead.specs.Overlap.{Overlap, banks_at_its_end}
+use Rattle.st_ahead.specs.Calls.{ticked, answer}
+use Rattle.st_ahead.specs.RunTo.{may_come, ArePassed}
+use Rattle.st_ahead.specs.Look.{LookView, IsLook}
+use Rattle.st_ahead.specs.Going.{IsGoing}
+use Rattle.st_ahead.specs.Ticked.{IsDoneAt}
+use Rattle.st_ahead.specs.Inside.{answers_before}
+use Rattle.st_ahead.specs.declared.look_run.Stop.{Stop}
+use Rattle.st_ahead.specs.declared.events.Settled.TheVariants.{Goes}
+
+-- a machine between two ticks
+abbrev pub between : List ℕ → ℕ → Machine → Option ℕ → Front → ℕ → Overlap
+between ds n s t f now = record {
+  delays = ds;
+  levels = n;
+  state = s;
+  taken = t;
+  behind = None;
+  front = f;
+  now = now;
+  owed = false;
+  ended = false;
+  closing = None;
+}
+
+-- no interrupt is due, and it is not at rest
+pub record IsAwake (t : Option ℕ) (s : Machine) : Type 0 where
+  pub due : (if is_none t then interrupt s else None) ≡ None
+  pub goes : rests s ≡ false
+
+-- behind an entry that is done something may come from outside: so many instructions are done, or an order is due
+abbrev pub comes : ℕ → Machine → Bool
+comes count s = nat_le count s.done || (is_due s.done s.reader || is_due s.done s.printer)
+
+-- from the tick `now` on all ticks are passed up to a tick, `last` at the latest; v runs ahead of the state u, and k says whether its next entry is a
+-- table instruction
+pub record IsRunning (ds : List ℕ) (n count last now : ℕ) (t : Option ℕ) (s : Machine) (f : Front) (k : Option ℕ) (u : Machine) (v : LookView) : Type 0 where
+  pub tick : ℕ
+  pub front : Front
+  pub passed : ArePassed count (tick + 1 - now) (between ds n s t f now) (between ds n u k front (tick + 1))
+  pub behind : now ≤ tick + 1
+  pub soon : tick ≤ last
+  pub awake : IsAwake k u
+  pub going : IsGoing ds n tick tick k u front v
+
+-- there is such a start
+pub record Starts (ds : List ℕ) (n last : ℕ) (t : Option ℕ) (s : Machine) (v : LookView) : Type 0 where
+  pub front : Front
+  pub now : ℕ
+  pub look : IsLook ds n (now - 1) now t s front v
+  pub soon : now ≤ last
+  pub awake : IsAwake t s
+
+-- all ticks up to `last` are passed
+pub record HasPassed (ds : List ℕ) (n count last now : ℕ) (t : Option ℕ) (s : Machine) (f : Front) (k : Option ℕ) (u : Machine) (v : LookView) : Type 0 where
+  pub front : Front
+  pub passed : ArePassed count (last + 1 - now) (between ds n s t f now) (between ds n u k front (last + 1))
+  pub awake : IsAwake k u
+  pub look : IsLook ds n last (last + 1) k u front v
+
+-- the ticks before the tick `tick` are passed, and at that one an entry is done behind which something may come
+pub record HasStopped (ds : List ℕ) (n count last now tick : ℕ) (t : Option ℕ) (s : Machine) (f : Front) (k : Option ℕ) (u : Machine) (v : LookView) (done : Completed) : Type 0 where
+  pub table : Option ℕ
+  pub state : Machine
+  pub front : Front
+  pub ahead : LookView
+  pub passed : ArePassed count (tick - now) (between ds n s t f now) (between ds n state table front tick)
+  pub soon : tick ≤ last
+  pub none_taken : k ≡ None
+  pub machine : IsMachine state
+  pub indicator : IfSome table (λ i. i < 64)
+  pub done_at : IsDoneAt ds n tick table state front ahead u v done
+  pub banks : banks_at_its_end (between ds n state table front tick) ≡ answers_before tick v
+  pub near : All (λ b. b ≤ tick + 255) (answers_before tick v).ticks
+  pub stops : answer (ticked (between ds n state table front tick)) ≡ Goes → may_come count (ticked (between ds n state table front tick)) ≡ true
+
+-- by the entry that it stops behind
+abbrev pub HasRun : List ℕ → ℕ → ℕ → ℕ → ℕ → Option ℕ → Machine → Front → Option ℕ → Machine → LookView → Option Stop → Type 0
+HasRun ds n count last now t s f k u v None = HasPassed ds n count last now t s f k u v
+HasRun ds n count last now t s f k u v (Some stop) = HasStopped ds n count last now stop.tick t s f k u v stop.done

@@ -1,0 +1,97 @@
+//! What runs ahead makes ticks, up to an entry that is done behind which something may come.
+ghost use Rattle.std.specs.Prelude.{◌≡◌, ℕ, ◌+◌, ◌-◌, ◌<◌, ◌≤◌, ◌^◌, true, false, None};
+ghost use Rattle.st_exec.specs.Step.{interrupt as interrupt_of, rests};
+ghost use Rattle.st_rows.specs.declared.front.Front.{Front as FrontOf};
+ghost use Rattle.st_ahead.specs.Running.{IsAwake, comes};
+
+use crate::look::Look;
+use crate::look_laws::{looks_are_levels, the_banks_are_left};
+use st_banks::Delays;
+use st_exec::{entries_count_as_one, interrupt, is_at_rest};
+use st_levels::Completed;
+use st_segment::steps_are_guesses;
+use st_state::{State, is_due};
+
+/// An entry that is done, behind which something may come.
+#[derive(Clone, Copy, Debug, PartialEq, Eq)]
+pub struct Stop {
+    /// What is told of it.
+    pub done: Completed,
+    /// The tick at which it is done.
+    pub tick: u64,
+}
+
+impl<const N: usize> Look<N> {
+    ghost use Rattle.st_ahead.specs.Look.{IsLook};
+    ghost use Rattle.st_ahead.specs.Running.{Starts, HasRun};
+
+    /// Makes ticks and goes on behind each, up to the tick `last`, below 2^63, until an entry is done behind which something may come: `count`
+    /// instructions are done by then, an order is due, or the next decision is not that it goes on. The result is what was done, with its tick. `taken` is
+    /// the indicator whose table instruction comes next. Fewer than 2^63 instructions are done, and `count` is 2^63 at most.
+    #[inline(never)]
+    pub fn run_to(
+        &mut self,
+        count: u64,
+        last: u64,
+        taken: &mut Option<u8>,
+        state: &mut State,
+        delays: &Delays,
+    ) -> Option<Stop>
+        requires some { 1 ≤ N }
+        requires few { N ≤ 8 }
+        requires early { last < 2 ^ 63 }
+        requires count { count ≤ 2 ^ 63 }
+        requires done { state.old.done < 2 ^ 63 }
+        requires starts { Starts delays.now N last taken.old state.old self.old }
+        ensures { (f : FrontOf) (now : ℕ) →
+            IsLook delays.now N (now - 1) now taken.old state.old f self.old → now ≤ last → IsAwake taken.old state.old →
+            HasRun delays.now N count last now taken.old state.old f taken.new state.new self.new result }
+    {
+        looks_are_levels();
+        the_banks_are_left();
+        steps_are_guesses();
+        entries_count_as_one();
+        delays.shape();
+        'entries: loop {
+            let Some(tick) = self.go_to(last, state, delays) else {
+                self.fill(state, last);
+                self.shape();
+                return None;
+            };
+            self.shape();
+            let done = self.complete(state);
+            *taken = None;
+            if is_stopped(&done, state, count) {
+                self.fill(state, tick);
+                return Some(Stop { done, tick });
+            }
+        }
+    }
+}
+
+// Whether something may come behind an entry that is done, or the next decision is not that the run goes on.
+#[inline(always)]
+fn is_stopped(done: &Completed, state: &State, count: u64) -> bool
+    ensures goes { result ≡ false → (comes count state.now ≡ false) × (done.now.missed ≡ None) × (interrupt_of state.now ≡ None)
+        × (rests state.now ≡ false) }
+    ensures stops { result ≡ true → comes count state.now ≡ false → done.now.missed ≡ None → interrupt_of state.now ≡ None → rests state.now ≡ false → ⊥ }
+{
+    if may_come(state, count) {
+        return true;
+    }
+    if done.missed.is_some() {
+        return true;
+    }
+    if interrupt(state).is_some() {
+        return true;
+    }
+    is_at_rest(state)
+}
+
+// Whether something may come from outside behind an entry that has just been done: so many instructions are done, or an order is due.
+#[inline(always)]
+fn may_come(state: &State, count: u64) -> bool
+    ensures { result ≡ comes count state.now }
+{
+    count <= state.done || (is_due(state.reader, state.done) || is_due(state.printer, state.done))
+}

@@ -1,0 +1,31 @@
+//! What runs ahead goes on to the next tick.
+ghost use Rattle.std.specs.Prelude.{◌≡◌, ℕ, ◌+◌, ◌<◌, ◌≤◌, ◌^◌, Option};
+ghost use Rattle.st_rows.specs.declared.front.Front.{Front as FrontOf};
+
+use crate::look::Look;
+use crate::look_laws::looks_are_levels;
+use st_banks::Delays;
+use st_state::State;
+
+impl<const N: usize> Look<N> {
+    ghost use Rattle.st_ahead.specs.Look.{IsLook};
+    ghost use Rattle.st_ahead.specs.Going.{Reaches};
+
+    /// Goes on at the tick `now`, below 2^63, once the entry that is done at it, if there is one, is executed: entries that are prepared by now become
+    /// levels.
+    pub fn go_on(&mut self, now: u64, state: &State, delays: &Delays)
+        requires some { 1 ≤ N }
+        requires few { N ≤ 8 }
+        requires early { now < 2 ^ 63 }
+        requires going { Reaches delays.now N now state.now self.old }
+        ensures { (t : Option ℕ) (f : FrontOf) →
+            IsLook delays.now N now now t state.now f self.old →
+            IsLook delays.now N now (now + 1) t state.now f self.new }
+    {
+        looks_are_levels();
+        self.shape();
+        delays.shape();
+        self.go_to(now, state, delays);
+        self.fill(state, now);
+    }
+}

@@ -1,0 +1,71 @@
+use Rattle.std.proofs.Common.{◌+◌, ◌-◌, ◌≤◌, refl, sym, subst, ◌∙◌, ap, arith}
+use Rattle.st_rows.specs.Ranges.{IsEntry}
+use Rattle.st_rows.specs.Rows.{tick_a, bus_a, tick_p}
+use Rattle.st_next.proofs.Goes.{goes-then, goes-waits, known-then}
+use Rattle.st_next.proofs.Steps.{plan-goes}
+use Rattle.st_next.proofs.Asking.{known-seen, plan-words, plan-asks, further-then, further-nothing}
+use Rattle.st_next.proofs.next.Next.plan_before.Goals as goal
+
+pub returns-then-waits_for-due-clause-next : goal.returns-then-waits_for-due-clause-next
+returns-then-waits_for-due-clause-next c =
+    goes-waits _ _ _ _ _ _ _ _ c.requires.unplanned (omega (arith, c.waits_for.ensures, c.if-waits_for-due.true))
+
+pub returns-then-waits_for-due-clause-further : goal.returns-then-waits_for-due-clause-further
+returns-then-waits_for-due-clause-further c = further-nothing _ _ _ _
+
+pub prepare_before-requires-clause-known : goal.prepare_before-requires-clause-known
+prepare_before-requires-clause-known c = (c.requires.known (omega (arith, c.waits_for.ensures, c.if-waits_for-due.false)))
+
+pub returns-then-not-prepare_before-clause-still : goal.returns-then-not-prepare_before-clause-still
+returns-then-not-prepare_before-clause-still c late = absurd (omega (arith, late, c.waits_for.ensures, c.if-waits_for-due.false))
+
+pub returns-clause-still : goal.returns-clause-still
+returns-clause-still c late = absurd (omega (arith, late, c.waits_for.ensures, c.if-waits_for-due.false))
+
+pub form-self-requires-clause-entry : goal.form-self-requires-clause-entry
+form-self-requires-clause-entry c =
+    let p = (c.if-not-prepare_before.ensures.prepared refl) in
+    subst IsEntry (sym p.entry) (known-seen _ _ _ _ _ _ _ c.if-not-prepare_before.ensures.unplanned (known-then _ _ _ _ _ _ _ _ _ (c.requires.known (omega (arith, c.waits_for.ensures, c.if-waits_for-due.false))) c.if-not-prepare_before.ensures.next) p.done _ refl _ p.found)
+
+pub form-self-requires-clause-words : goal.form-self-requires-clause-words
+form-self-requires-clause-words c =
+    let p = (c.if-not-prepare_before.ensures.prepared refl) in
+    rw p.entry (plan-words _ _ _ _ _ _ _ c.if-not-prepare_before.ensures.unplanned (known-then _ _ _ _ _ _ _ _ _ (c.requires.known (omega (arith, c.waits_for.ensures, c.if-waits_for-due.false))) c.if-not-prepare_before.ensures.next) p.done _ refl _ p.found)
+
+pub returns-clause-next : goal.returns-clause-next
+returns-clause-next c =
+    let p = (c.if-not-prepare_before.ensures.prepared refl) in
+    goes-then _ _ _ _ _ _ _ _ _ _ _ c.if-not-prepare_before.ensures.next
+    (plan-goes _ _ _ _ _ _ _ c.if-not-prepare_before.ensures.unplanned p.done _ refl _ _ _ p.found (record {
+      place = refl;
+      own = refl;
+      target = refl;
+      awaited = c.form-self.ensures.awaited;
+      planned = refl;
+      found = refl;
+      needed = p.needed;
+      ready = p.ready;
+      entry = p.entry;
+      address = c.form-self.ensures.address ∙ ap (tick_a c.args.delays.now c.args.front.now) p.entry;
+      bus = c.form-self.ensures.bus ∙ ap (bus_a c.args.delays.now c.args.front.now) p.entry;
+      tick = c.form-self.ensures.tick ∙ ap (tick_p c.args.delays.now c.args.levels c.args.front.now) p.entry;
+    }))
+
+pub returns-clause-further : goal.returns-clause-further
+returns-clause-further c =
+    let p = (c.if-not-prepare_before.ensures.prepared refl) in
+    further-then _ _ _ _ _ _ _ _ c.if-not-prepare_before.ensures.further
+    (plan-asks _ _ _ _ _ _ _ c.if-not-prepare_before.ensures.unplanned (known-then _ _ _ _ _ _ _ _ _ (c.requires.known (omega (arith, c.waits_for.ensures, c.if-waits_for-due.false))) c.if-not-prepare_before.ensures.next) p.done _ refl _ p.found _ _ _ (record {
+      place = refl;
+      own = refl;
+      target = refl;
+      awaited = c.form-self.ensures.awaited;
+      planned = refl;
+      found = refl;
+      needed = p.needed;
+      ready = p.ready;
+      entry = p.entry;
+      address = c.form-self.ensures.address ∙ ap (tick_a c.args.delays.now c.args.front.now) p.entry;
+      bus = c.form-self.ensures.bus ∙ ap (bus_a c.args.delays.now c.args.front.now) p.entry;
+      tick = c.form-self.ensures.tick ∙ ap (tick_p c.args.delays.now c.args.levels c.args.front.now) p.entry;
+    }) c.form-self.ensures.log)

@@ -1,0 +1,73 @@
+-- The laws of machines that calls within the protocol lead to.
+use Rattle.std.specs.Prelude.{if◌then◌else◌}
+use Rattle.std.proofs.Common.{◌≡◌, ℕ, zero, suc, ◌+◌, ◌-◌, ◌<◌, ◌≤◌, ◌^◌, true, false, None, Some, refl, sym, subst, ◌∙◌, ap, arith}
+use Rattle.st_ahead.specs.Overlap.{Overlap}
+use Rattle.st_ahead.specs.Calls.{is_done, ticked, settled}
+use Rattle.st_ahead.specs.RunTo.{after_ticks, ArePassed, RunsTo}
+use Rattle.st_ahead.specs.declared.events.Row.{Row}
+use Rattle.st_ahead.proofs.Passing.{ticked-owed, passed-keeps, passed-now}
+use Rattle.st_refine.specs.Reached.{IsReached, MayTick, Ticks, Settles}
+use Rattle.st_refine.specs.Laws.{IsLedTo, RunsAreReached}
+use Rattle.st_refine.proofs.Kept.{made-settled}
+use Rattle.st_refine.proofs.InTime.{made-ticks}
+
+-- where no settle is owed
+record IsLed (made k : ℕ) (m new : Overlap) : Type 0 where
+  pub led : IsLedTo (made + k) new
+  pub settled : new.owed ≡ false
+  pub now : new.now ≡ m.now + k
+  pub done : new.state.done < 2 ^ 63
+
+led-by : (k count made since : ℕ) (m new : Overlap) → IsReached m made since → m.owed ≡ false → m.state.done < 2 ^ 63 → m.now + k ≤ 2 ^ 63
+    → count ≤ 2 ^ 63 → ArePassed count k m new → IsLed made k m new
+unfolding after_ticks
+led-by zero count made since m new from owes few soon most are =
+    let same : made ≡ made + 0 = omega arith in
+    subst {A = Overlap} (λ x. IsLed made 0 m x) (sym are.after) (record {
+      led = record { since = since; reached = subst {A = ℕ} (λ k. IsReached m k since) same from };
+      settled = owes;
+      now = omega arith;
+      done = few;
+    })
+led-by (suc k) count made since m new from owes few soon most are =
+    let keeps = passed-keeps count m (are.each 0 (omega arith)) most few in
+    let tick = Ticks m made since from (record { settled = owes; tick = omega arith; done = few }) in
+    let next = Settles (ticked m) (made + 1) (if is_done m then 0 else since + 1) tick (ticked-owed m) in
+    let rest = led-by k count (made + 1) (if is_done m then 0 else since + 1) (settled (ticked m)) new next keeps.0 keeps.2
+    (omega (arith, keeps.1, soon)) most (record { each = λ i before. are.each (suc i) (omega (arith, before)); after = are.after }) in
+    let same : made + 1 + k ≡ made + suc k = omega arith in
+    record {
+      led = subst {A = ℕ} (λ x. IsLedTo x new) same rest.led;
+      settled = rest.settled;
+      now = omega (arith, rest.now, keeps.1);
+      done = rest.done;
+    }
+
+done-reached : (m new : Overlap) (made since count last : ℕ) (row : Row) → IsReached m made since → MayTick m →
+    count ≤ 2 ^ 63 → last < 2 ^ 63 → RunsTo count last (Some row) m new → IsReached new (row.c + 1) 0
+done-reached m new made since count last row from may most soon ran =
+    let at : ran.before.now ≡ m.now + ran.ticks = passed-now ran.ticks count m ran.before ran.passed in
+    let led = led-by ran.ticks count made since m ran.before from may.settled may.done (omega (arith, at, ran.soon, soon)) most ran.passed in
+    let ticks = Ticks ran.before (made + ran.ticks) led.led.since led.led.reached (record {
+      settled = led.settled;
+      tick = omega (arith, ran.soon, soon);
+      done = led.done;
+    }) in
+    let all : made ≡ m.now = made-ticks from ∙ made-settled m.owed m.now may.settled in
+    let row_c : row.c ≡ ran.before.now = ap (λ (r : Row). r.c) ran.row_is in
+    let same : made + ran.ticks + 1 ≡ row.c + 1 = omega (arith, all, at, row_c) in
+    let none : (if is_done ran.before then 0 else led.led.since + 1) ≡ 0 = rw ran.done refl in
+    subst {A = Overlap} (λ x. IsReached x (row.c + 1) 0) (sym ran.after)
+    (subst {A = ℕ} (λ k. IsReached (ticked ran.before) k 0) same
+    (subst {A = ℕ} (λ k. IsReached (ticked ran.before) (made + ran.ticks + 1) k) none ticks))
+
+passed-led : (m new : Overlap) (made since count last : ℕ) → IsReached m made since → MayTick m →
+    count ≤ 2 ^ 63 → last < 2 ^ 63 → RunsTo count last None m new → IsLedTo (made + (last + 1 - m.now)) new
+passed-led m new made since count last from may most soon ran =
+    (led-by (last + 1 - m.now) count made since m new from may.settled may.done (omega (arith, may.tick, soon)) most ran).led
+
+pub runs_are_reached : RunsAreReached
+runs_are_reached = record {
+  done = done-reached;
+  passed = passed-led;
+}

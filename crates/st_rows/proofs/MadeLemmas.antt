@@ -1,0 +1,73 @@
+-- Reads that are made before a tick.
+use Rattle.std.specs.Prelude.{nat_lt}
+use Rattle.std.proofs.Common.{◌≡◌, ℕ, ◌+◌, ◌<◌, ◌≤◌, true, false, List, [], ◌∷◌, ◌++◌, All, refl, ap, inl, inr, ◌⊎◌, arith}
+use Rattle.std.proofs.lemmas.Bool.{cases_Bool, ltb-true, lt-ltb, ltb-false}
+use Rattle.std.proofs.lemmas.List.Elements.{All-head}
+use Rattle.st_rows.specs.Asked.{Read, after_one, served, made_before}
+use Rattle.st_rows.specs.BusTimes.{accept_at}
+use Rattle.st_rows.specs.declared.bus.Bus.{Bus}
+use Rattle.st_rows.proofs.Served.{free-one_if}
+
+-- a read is accepted before a tick, or it is not
+pub before-cases : (a t : ℕ) → ((nat_lt a t ≡ true) × (a < t)) ⊎ ((nat_lt a t ≡ false) × (t ≤ a))
+before-cases a t = elim (cases_Bool (nat_lt a t)) [ inl y ↦ inl (y, ltb-true a t y) | inr n ↦ inr (n, ltb-false a t n) ]
+
+pub not-before : (a t : ℕ) → t ≤ a → nat_lt a t ≡ false
+not-before a t late = elim (before-cases a t) [ inl y ↦ let no : ⊥ = omega (arith, y.1) in absurd no | inr n ↦ n.0 ]
+
+module _ (ds : List ℕ) where
+  -- the bus is free one tick after a read
+  pub free-one : (b : Bus) (r : Read) → (after_one ds b r).free ≡ accept_at b r.w r.want + 1
+  free-one b r = free-one_if ds r.fetch b r.w r.want
+
+  -- ---- free only rises
+
+  pub free-served : (xs : List Read) (b : Bus) → b.free ≤ (served ds xs b).free
+  unfolding served
+  free-served [] b = omega arith
+  free-served (r ∷ xs) b = omega (arith, free-one b r, free-served xs (after_one ds b r))
+
+  pub free-made : (t : ℕ) (xs : List Read) (b : Bus) → b.free ≤ (made_before ds t xs b).free
+  unfolding made_before
+  free-made t [] b = omega arith
+  free-made t (r ∷ xs) b = elim (before-cases (accept_at b r.w r.want) t) [
+    | inl y ↦ rw y.0 (omega (arith, free-one b r, free-made t xs (after_one ds b r)))
+    | inr n ↦ rw n.0 (omega arith)
+  ]
+
+  pub free-at : (t : ℕ) (xs : List Read) (b : Bus) → b.free ≤ t → (made_before ds t xs b).free ≤ t
+  unfolding made_before
+  free-at t [] b low = low
+  free-at t (r ∷ xs) b low = elim (before-cases (accept_at b r.w r.want) t) [
+    | inl y ↦ rw y.0 (free-at t xs (after_one ds b r) (omega (arith, y.1, free-one b r)))
+    | inr n ↦ rw n.0 low
+  ]
+
+  -- ---- all of them
+
+  pub all-made : (t : ℕ) (xs : List Read) (b : Bus) → (served ds xs b).free ≤ t → made_before ds t xs b ≡ served ds xs b
+  unfolding made_before served
+  all-made t [] b low = refl
+  all-made t (r ∷ xs) b low =
+      let early : accept_at b r.w r.want < t = omega (arith, free-one b r, free-served xs (after_one ds b r)) in
+      rw (lt-ltb (accept_at b r.w r.want) t early) (all-made t xs (after_one ds b r) low)
+
+  -- then others are made on the bus behind them
+  pub made-behind : (t : ℕ) (xs ys : List Read) (b : Bus) → (served ds xs b).free ≤ t → made_before ds t (xs ++ ys) b ≡ made_before ds t ys (served ds xs b)
+  unfolding made_before served
+  made-behind t [] ys b low = refl
+  made-behind t (r ∷ xs) ys b low =
+      let early : accept_at b r.w r.want < t = omega (arith, free-one b r, free-served xs (after_one ds b r)) in
+      rw (lt-ltb (accept_at b r.w r.want) t early) (made-behind t xs ys (after_one ds b r) low)
+
+  -- ---- none of them
+
+  -- reads that are wanted at a tick or later, behind others, change nothing of those that are made before
+  pub made-more : (t : ℕ) (xs ys : List Read) (b : Bus) → All (λ (r : Read). t ≤ r.want) ys → made_before ds t (xs ++ ys) b ≡ made_before ds t xs b
+  unfolding made_before
+  made-more t [] [] b late = refl
+  made-more t [] (r ∷ ys) b late = rw (not-before (accept_at b r.w r.want) t (omega (arith, All-head (λ (r : Read). t ≤ r.want) r ys late))) refl
+  made-more t (x ∷ xs) ys b late = elim (before-cases (accept_at b x.w x.want) t) [
+    | inl y ↦ rw y.0 (made-more t xs ys (after_one ds b x) late)
+    | inr n ↦ rw n.0 refl
+  ]

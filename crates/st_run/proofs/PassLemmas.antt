@@ -1,0 +1,330 @@
+-- Entries that are done one after another, between which nothing comes.
+use Rattle.std.specs.Prelude.{All, IfSome, is_some, nat_le}
+use Rattle.std.proofs.Common.{◌≡◌, ◌≢◌, ℕ, zero, suc, ◌+◌, ◌-◌, ◌<◌, ◌≤◌, ◌^◌, ◌||◌, Bool, true, false, List, [], ◌∷◌, ◌++◌, Option, None, Some, refl, sym, ◌∙◌, ap, subst, arith, append_assoc}
+use Rattle.std.proofs.lemmas.Bool.Decides.{nat_tests}
+use Rattle.std.proofs.lemmas.List.Elements.{All-nil, All-cons, All-append}
+use Rattle.st_state.specs.Machine.{Machine}
+use Rattle.st_state.specs.Orders.{is_due}
+use Rattle.st_exec.specs.Step.{rests}
+use Rattle.st_card.specs.declared.control_cards.Signal.{Signal}
+use Rattle.st_ahead.specs.Overlap.{Overlap, oldest_row, interrupt_due}
+use Rattle.st_ahead.specs.Calls.{is_done, row_done, completed, ticked, passed, settled, answer, answer_by}
+use Rattle.st_ahead.specs.RunTo.{after_ticks, may_come, IsPassed, ArePassed, StopsAt, RunsTo}
+use Rattle.st_ahead.specs.declared.events.Row.{Row}
+use Rattle.st_ahead.specs.declared.events.Settled.TheVariants.{Goes}
+use Rattle.st_run.specs.Moments.{Moment, next_moment}
+use Rattle.st_run.specs.TimedRun.{timed_from, timed_behind}
+use Rattle.st_run.specs.Order.{AreRising}
+use Rattle.st_run.specs.Told.{Done, Told, told}
+use Rattle.st_run.specs.Between.{IsQuiet, signal_due}
+use Rattle.st_run.specs.Leaving.{IsDecided, nothing_decided}
+use Rattle.st_run.specs.Together.{Together, IsBefore, scene_of, standing_of, moment_of, at_tick}
+use Rattle.st_run.specs.Telling.{Waiting, whats, IsDone, AreLeftOut, IsLeft, IsRun, AreInTime, rest_of}
+use Rattle.st_run.specs.Ticking.{AreMade, AreMadeUpTo, at_completion, last_for}
+use Rattle.st_run.specs.declared.turn.Turn.TheVariants as turns
+use Rattle.st_run.proofs.ToldLemmas.{once}
+use Rattle.st_run.proofs.TickLemmas.{tick-passes, tick-early, tick-done, done-completed}
+use Rattle.st_run.proofs.MomentLemmas.{ready-before, moment-next}
+use Rattle.st_run.proofs.PartLemmas.{HasParts}
+use Rattle.st_run.proofs.LeftLemmas.{waits, left-told, left-keeps, oldest-in_time, next-done}
+use Rattle.st_run.proofs.ProgressLemmas.{rest-quiet}
+use Rattle.st_run.proofs.QuietLemmas.{none-quiet, quiet-settled, passed-decided, passed-parts}
+use Rattle.st_run.proofs.GoLemmas.{tick-before, go-leaves, go-tells}
+
+-- what is still to be told before the next entry
+abbrev rest_told : ℕ → ℕ → Together → List Told
+rest_told left tick t = told (timed_behind t.machine.delays t.machine.levels left (standing_of tick t) [])
+
+-- a row as it is told
+abbrev pub told_row : Row → Told
+told_row r = once r.number r.c (Done r.address r.p r.r r.c)
+
+rising-none : (k : ℕ) → AreRising k []
+unfolding AreRising
+rising-none k = tt
+
+-- ---- nothing comes behind an entry
+
+both-none : (a b c : Bool) → (a || (b || c)) ≡ false → (a ≡ false) × (b ≡ false) × (c ≡ false)
+both-none true b c none = absurd (cc none)
+both-none false true c none = absurd (cc none)
+both-none false false true none = absurd (cc none)
+both-none false false false none = (refl, refl, refl)
+
+goes-by : (due behind : Option ℕ) (resting : Bool) (m : Overlap) → answer_by due resting behind m ≡ Goes
+    → (resting ≡ false) × ((is_some behind || is_some due) ≡ false)
+goes-by (Some i) behind resting m goes = absurd (cc goes)
+goes-by None behind true m goes = absurd (cc goes)
+goes-by None (Some h) false m goes = absurd (cc goes)
+goes-by None None false m goes = (refl, refl)
+
+goes-quiet : (m : Overlap) (count : ℕ) → answer m ≡ Goes → may_come count m ≡ false → IsQuiet m
+unfolding answer
+goes-quiet m count goes none =
+    let by = goes-by (interrupt_due m) m.behind (rests m.state) m goes in
+    let three = both-none (nat_le count m.state.done) (is_due m.state.done m.state.reader) (is_due m.state.done m.state.printer) none in
+    record { reader = three.1; printer = three.2; awake = by.0; open_still = by.1 }
+
+fewer : (count done : ℕ) → nat_le count done ≡ false → done < count
+fewer count done test = grind (arith, nat_tests)
+
+-- ---- one entry
+
+-- entries were done, between which nothing came, in k ticks which leave the machine `new`
+pub record PassedTo (left tick k : ℕ) (t : Together) (new : Overlap) : Type 0 where
+  pub rows : List Told
+  pub left_now : ℕ
+  pub tick_now : ℕ
+  pub are : All (λ x. IsDone x.what) rows
+  pub before : IsBefore (record t { machine = new })
+  pub in_time : AreInTime (rest_told left_now tick_now (record t { machine = new }))
+  pub tells : rest_told left tick t ≡ rows ++ rest_told left_now tick_now (record t { machine = new })
+  pub number : left_now + new.state.done ≡ left + t.machine.state.done
+  pub fewer : left_now ≤ left
+  pub now : new.now ≡ t.machine.now + k
+
+-- the entry is done at this tick
+module _ (left tick : ℕ) (t : Together) (before : IsBefore t) (in_time : AreInTime (rest_told left tick t)) (due : is_done t.machine ≡ true) where
+  abbrev o : Overlap
+  o = t.machine
+
+  at_end : o ≡ at_completion o
+  at_end = ap {A = ℕ} (λ k. record o { now = k }) (tick-done o o o.now refl due)
+
+  abbrev behind : Together
+  behind = record t { machine = completed (at_completion o) }
+
+  ticked-is : ticked o ≡ completed (at_completion o)
+  ticked-is = done-completed o o o.now refl due ∙ ap {A = Overlap} completed at_end
+
+  made : AreMade (Some (row_done o)) None t behind
+  made = record { ticked = (tt, refl, ap {A = Overlap} row_done at_end); kept = refl }
+
+  pub one-left : IsLeft left [] (row_done o).c behind
+  one-left =
+      go-leaves left tick [] t behind before (rising-none (o.now - 1)) in_time (row_done o) None refl made
+
+  pub one-told : (rest : List Told) → told (timed_from behind.machine.delays behind.machine.levels left (moment_of behind) []) ≡ rest
+      → rest_told left tick t ≡ told_row (row_done o) ∷ rest
+  unfolding completed
+  one-told rest same =
+      go-tells left tick [] t behind before (rising-none (o.now - 1)) in_time (row_done o) None refl made rest same
+
+  one-done : (completed (at_completion o)).state.done ≡ o.state.done + 1
+  one-done = ap {A = Moment} (λ m. m.scene.machine.done) (moment-next t tick before) ∙ next-done left tick [] t before in_time
+
+  -- and passed
+  module _ (count : ℕ) (passes : IsPassed count o) (few : count ≤ o.state.done + left + 1)
+      (signals : (d : ℕ) → d < count → signal_due d t.signals ≡ false) where
+    abbrev m : Overlap
+    m = completed (at_completion o)
+
+    abbrev next : Together
+    next = record t { machine = settled (ticked o) }
+
+    none : may_come count m ≡ false
+    none = subst {A = Overlap} (λ x. may_come count x ≡ false) ticked-is (passes.nothing due)
+
+    quiet : IsQuiet m
+    quiet = goes-quiet m count (subst {A = Overlap} (λ x. answer x ≡ Goes) ticked-is passes.goes) none
+
+    below : m.state.done < count
+    below =
+        fewer count m.state.done
+        (both-none (nat_le count m.state.done) (is_due m.state.done m.state.reader) (is_due m.state.done m.state.printer) none).0
+
+    some : left ≢ 0
+    some zero_left = omega (arith, zero_left, below, few, one-done)
+
+    after : settled (ticked o) ≡ passed m
+    after = ap {A = Overlap} settled ticked-is ∙ sym (quiet-settled m quiet)
+
+    decided : IsDecided left (moment_of behind) nothing_decided next
+    decided =
+        passed-decided left behind m (settled (ticked o)) t.signals t.cards refl one-left.behind some (signals m.state.done below) quiet after
+
+    parts : HasParts m (settled (ticked o))
+    parts = passed-parts left behind m (settled (ticked o)) t.signals t.cards refl one-left.behind some (signals m.state.done below) quiet after
+
+    keeps : IsRun turns.Before (left - 1) (row_done o).c [] (waits [] None None) next
+    keeps = left-keeps left (row_done o).c [] behind next nothing_decided [] one-left decided parts.delays parts.levels refl
+
+    rest-is : rest_of turns.Before (left - 1) (row_done o).c [] (waits [] None None) next ≡ rest_told (left - 1) (row_done o).c next
+    rest-is = rest-quiet turns.Before (left - 1) (row_done o).c [] (waits [] None None) next none-quiet
+
+    some-left : 1 ≤ left
+    some-left = omega (arith, below, few, one-done)
+
+    now-is : (settled (ticked o)).now ≡ o.now + 1
+    now-is = let g = decided.way.2 in g.now ∙ ap {A = ℕ} (λ k. k + 1) (sym one-left.tick_is)
+
+    pub one-passed : PassedTo left tick 1 t (settled (ticked o))
+    one-passed = record {
+      rows = told_row (row_done o) ∷ [];
+      left_now = left - 1;
+      tick_now = (row_done o).c;
+      are = All-cons (λ (x : Told). IsDone x.what) (told_row (row_done o)) [] tt (All-nil (λ (x : Told). IsDone x.what));
+      before = keeps.stands.0;
+      in_time = subst {A = List Told} AreInTime rest-is keeps.in_time;
+      tells =
+          one-told (rest_told (left - 1) (row_done o).c next)
+          (left-told left (row_done o).c [] behind next nothing_decided [] one-left decided parts.delays parts.levels refl ∙ rest-is);
+      fewer = omega arith;
+      number = omega (arith, one-done, some-left, ap (λ (x : Overlap). x.state.done) after);
+      now = omega (arith, now-is);
+    }
+
+-- a tick
+pub tick-passed : (count left tick : ℕ) (t : Together) → IsBefore t → AreInTime (rest_told left tick t) → count ≤ t.machine.state.done + left + 1
+    → ((d : ℕ) → d < count → signal_due d t.signals ≡ false) → IsPassed count t.machine → PassedTo left tick 1 t (settled (ticked t.machine))
+tick-passed count left tick t before in_time few signals passes = by (is_done t.machine) refl
+  where
+    by : (b : Bool) → is_done t.machine ≡ b → PassedTo left tick 1 t (settled (ticked t.machine))
+    by true due = one-passed left tick t before in_time due count passes few signals
+    by false late =
+        let o = t.machine in
+        let next = tick-passes o o o.now (ready-before t before) refl late in
+        subst {A = Overlap} (λ m. PassedTo left tick 1 t m) (sym next) (record {
+          rows = [];
+          left_now = left;
+          tick_now = tick;
+          are = All-nil (λ (x : Told). IsDone x.what);
+          before = tick-before t (o.now + 1) before (tick-early o o o.now before.early refl late);
+          in_time = in_time;
+          tells = refl;
+          number = refl;
+          fewer = omega arith;
+          now = refl;
+        })
+
+-- so many ticks
+pub all-passed : (k count left tick : ℕ) (t : Together) (new : Overlap) → IsBefore t → AreInTime (rest_told left tick t)
+    → count ≤ t.machine.state.done + left + 1 → ((d : ℕ) → d < count → signal_due d t.signals ≡ false)
+    → ArePassed count k t.machine new → PassedTo left tick k t new
+unfolding after_ticks
+all-passed zero count left tick t new before in_time few signals are =
+    subst {A = Overlap} (λ m. PassedTo left tick 0 t m) (sym are.after) (record {
+      rows = [];
+      left_now = left;
+      tick_now = tick;
+      are = All-nil (λ (x : Told). IsDone x.what);
+      before = before;
+      in_time = in_time;
+      tells = refl;
+      number = refl;
+      fewer = omega arith;
+      now = omega arith;
+    })
+all-passed (suc k) count left tick t new before in_time few signals are =
+    let first = tick-passed count left tick t before in_time few signals (are.each 0 (omega arith)) in
+    let next : Together = record t { machine = settled (ticked t.machine) } in
+    let more : ArePassed count k next.machine new = record { each = λ i early. are.each (suc i) (omega (arith, early)); after = are.after } in
+    let rest = all-passed k count first.left_now first.tick_now next new first.before first.in_time (omega (arith, few, first.number)) signals more in
+    record {
+      rows = first.rows ++ rest.rows;
+      left_now = rest.left_now;
+      tick_now = rest.tick_now;
+      are = All-append (λ (x : Told). IsDone x.what) first.rows rest.rows first.are rest.are;
+      before = rest.before;
+      in_time = rest.in_time;
+      tells =
+          first.tells ∙ ap {A = List Told} (λ xs. first.rows ++ xs) rest.tells
+          ∙ sym (append_assoc first.rows rest.rows (rest_told rest.left_now rest.tick_now (record t { machine = new })));
+      number = rest.number ∙ first.number;
+      fewer = omega (arith, rest.fewer, first.fewer);
+      now = omega (arith, rest.now, first.now);
+    }
+
+-- ---- up to an entry behind which something may come
+
+pub record PassedUpTo (left tick : ℕ) (t new : Together) (row : Row) : Type 0 where
+  pub rows : List Told
+  pub left_now : ℕ
+  pub are : All (λ x. IsDone x.what) rows
+  pub number : left_now + row.number ≡ left + t.machine.state.done + 1
+  pub more : t.machine.state.done + 1 ≤ row.number
+  pub leaves : IsLeft left_now [] row.c new
+  pub tells : (rest : List Told) → told (timed_from new.machine.delays new.machine.levels left_now (moment_of new) []) ≡ rest
+      → rest_told left tick t ≡ rows ++ told_row row ∷ rest
+
+module _ (count left tick : ℕ) (t new : Together) (before : IsBefore t) (in_time : AreInTime (rest_told left tick t))
+    (few : count ≤ t.machine.state.done + left + 1) (signals : (d : ℕ) → d < count → signal_due d t.signals ≡ false) where
+  pub passed-row : (row : Row) → AreMadeUpTo count (Some row) t new → PassedUpTo left tick t new row
+  passed-row row made =
+      let stop = made.ticked in
+      let all = all-passed stop.ticks count left tick t stop.before before in_time few signals stop.passed in
+      let here : Together = record t { machine = stop.before } in
+      let behind : Together = record t { machine = completed (at_completion stop.before) } in
+      let is : new ≡ behind =
+      made.kept ∙ ap {A = Overlap} (λ m. record t { machine = m }) (stop.after ∙ ticked-is all.left_now all.tick_now here all.before all.in_time stop.done) in
+      let row_is : row ≡ row_done stop.before = stop.row_is in
+      record {
+        rows = all.rows;
+        left_now = all.left_now;
+        are = all.are;
+        number = omega (arith, all.number, ap (λ (r : Row). r.number) row_is);
+        more = omega (arith, all.number, ap (λ (r : Row). r.number) row_is, all.fewer);
+        leaves =
+            subst {A = Row} (λ r. IsLeft all.left_now [] r.c new) (sym row_is)
+            (subst {A = Together} (λ u. IsLeft all.left_now [] (row_done stop.before).c u) (sym is)
+            (one-left all.left_now all.tick_now here all.before all.in_time stop.done));
+        tells = λ rest same.
+            all.tells
+            ∙ ap {A = List Told} (λ xs. all.rows ++ xs)
+            (one-told all.left_now all.tick_now here all.before all.in_time stop.done rest
+            (ap {A = Together} (λ u. told (timed_from u.machine.delays u.machine.levels all.left_now (moment_of u) [])) (sym is) ∙ same)
+            ∙ ap {A = Row} (λ r. told_row r ∷ rest) (sym row_is));
+      }
+
+  -- each entry comes in time
+  pub passed-none : AreMadeUpTo count None t new → ⊥
+  passed-none made =
+      let o = t.machine in
+      let all = all-passed (last_for None + 1 - o.now) count left tick t new.machine before in_time few signals made.ticked in
+      let far = oldest-in_time left tick [] t before in_time in
+      let late = oldest-in_time all.left_now all.tick_now [] (record t { machine = new.machine }) all.before all.in_time in
+      omega (arith, far, late, before.early, all.before.early, all.now)
+
+-- ---- of a run where nothing waits and no snapshot is to come
+
+pub record AreAhead (left tick : ℕ) (t : Together) : Type 0 where
+  pub before : IsBefore t
+  pub in_time : AreInTime (rest_told left tick t)
+
+pub ahead-is : (left tick : ℕ) (snaps : List ℕ) (w : Waiting) (t : Together) → IsRun turns.Before left tick snaps w t
+    → ((s : Machine) → whats w s ≡ []) → snaps ≡ [] → AreAhead left tick t
+ahead-is left tick snaps w t is quiet none = record {
+  before = is.stands.0;
+  in_time =
+      subst {A = List ℕ} (λ xs. AreInTime (told (timed_behind t.machine.delays t.machine.levels left (standing_of tick t) xs))) none
+      (subst {A = List Told} AreInTime (rest-quiet turns.Before left tick snaps w t quiet) is.in_time);
+}
+
+pub far-row : (count left tick : ℕ) (t new : Together) → AreAhead left tick t → count ≤ t.machine.state.done + left + 1
+    → ((d : ℕ) → d < count → signal_due d t.signals ≡ false) → (row : Row) → AreMadeUpTo count (Some row) t new → PassedUpTo left tick t new row
+far-row count left tick t new is few signals row made = passed-row count left tick t new is.before is.in_time few signals row made
+
+pub far-none : (count left tick : ℕ) (t new : Together) → AreAhead left tick t → count ≤ t.machine.state.done + left + 1
+    → ((d : ℕ) → d < count → signal_due d t.signals ≡ false) → AreMadeUpTo count None t new → ⊥
+far-none count left tick t new is few signals made = passed-none count left tick t new is.before is.in_time few signals made
+
+module _ (left tick : ℕ) (snaps : List ℕ) (t new : Together) (row : Row) (far : PassedUpTo left tick t new row) (k : ℕ) (same : far.left_now ≡ k)
+    (none : snaps ≡ []) where
+  pub far-left : IsLeft k snaps row.c new
+  far-left =
+      subst {A = List ℕ} (λ xs. IsLeft k xs row.c new) (sym none) (subst {A = ℕ} (λ x. IsLeft x [] row.c new) same far.leaves)
+
+  pub far-told : (rest : List Told)
+      → told (timed_from new.machine.delays new.machine.levels k (moment_of new) snaps) ≡ rest
+      → AreLeftOut (told_row row)
+      (told (timed_behind t.machine.delays t.machine.levels left (standing_of tick t) snaps)) rest
+  far-told rest tells = record {
+    rows = far.rows;
+    are = far.are;
+    is = tt;
+    rest =
+        ap {A = List ℕ} (λ xs. told (timed_behind t.machine.delays t.machine.levels left (standing_of tick t) xs)) none
+        ∙ far.tells rest
+        (ap {A = ℕ} (λ x. told (timed_from new.machine.delays new.machine.levels x (moment_of new) [])) same
+        ∙ ap {A = List ℕ} (λ xs. told (timed_from new.machine.delays new.machine.levels k (moment_of new) xs)) (sym none) ∙ tells);
+  }

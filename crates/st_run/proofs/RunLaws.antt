@@ -1,0 +1,174 @@
+-- The laws of runs.
+use Rattle.std.specs.Prelude.{if◌then◌else◌, All, map, reverse}
+use Rattle.std.proofs.Common.{◌≡◌, ℕ, zero, suc, ◌+◌, ◌≤◌, Bool, true, false, List, [], ◌∷◌, ◌++◌, append_assoc, ◌*◌, refl, sym, subst, ◌∙◌, ap, arith}
+use Rattle.std.proofs.lemmas.List.Elements.{All-nil, All-cons, All-append}
+use Rattle.st_state.specs.Machine.{Machine}
+use Rattle.st_prep.proofs.Choices.{of_choice}
+use Rattle.st_exec.specs.Step.{interrupt, rests}
+use Rattle.st_exec.proofs.StepLemmas.{step-done}
+use Rattle.st_run.specs.Run.{Scene, PlainEvent, Ends, Execution, interlude, interrupts_by, stepped, ended, goes_on, run}
+use Rattle.st_run.specs.Events.{Timed, drop_of}
+use Rattle.st_run.specs.Moments.{Moment, Standing, start, next_scene, next_state, ends_segment, standing, next_moment}
+use Rattle.st_run.specs.TimedRun.{at, ticks_before, ticks_from, drops, drops_if_ends, happening_at, between, snapshot_at, completion, until_done, last_snapshot_at, last_events, timed_from}
+use Rattle.st_rows.specs.Ranges.{AreDelays}
+use Rattle.st_run.specs.RunLaws.{RunsKeepTheirBudget, AreNear, CompletionsAreNear}
+use Rattle.st_run.proofs.Bounds.{IsMoment, next-is, next-tick, start-is}
+use Rattle.st_run.proofs.DoneLemmas.{settled-done}
+
+-- ---- the budget
+
+-- by then no more instructions are done than so many
+abbrev HasDone : ℕ → Timed → Type 0
+HasDone k x = x.done ≤ k
+
+each-done : {A : Type 0} (k : ℕ) (f : A → Timed) (xs : List A) → ((x : A) → HasDone k (f x)) → All (HasDone k) (map f xs)
+each-done k f [] holds = All-nil (HasDone k)
+each-done k f (x ∷ xs) holds = All-cons (HasDone k) (f x) (map f xs) (holds x) (each-done k f xs holds)
+
+module _ (k : ℕ) (m : Moment) (few : m.scene.machine.done ≤ k) where
+  drops-done : All (HasDone k) (drops m)
+  unfolding drops
+  drops-done = each-done k (λ a. record { done = m.scene.machine.done; tick = m.tick; event = drop_of a }) (reverse m.dropped) (λ a. few)
+
+  between-done : All (HasDone k) (between m)
+  unfolding between
+  between-done =
+      let hs = (interlude m.scene).happened ++ interrupts_by (interrupt (next_state m)) (next_state m) in
+      All-append (HasDone k) (drops_if_ends m) (map (happening_at m) hs)
+      (of_choice (λ xs. All (HasDone k) xs) (ends_segment m) (drops m) [] drops-done (All-nil (HasDone k)))
+      (each-done k (happening_at m) hs (λ h. few))
+
+  last_events-done : (snaps : List ℕ) → All (HasDone k) (last_events m snaps)
+  unfolding last_events
+  last_events-done snaps =
+      let came = map (happening_at m) (interlude m.scene).happened in
+      let shows = map (last_snapshot_at m) (ticks_before (m.tick + 1) snaps) in
+      let last = happening_at m (Ends (next_state m) (rests (next_state m))) in
+      All-append (HasDone k) (drops m ++ came ++ shows) (last ∷ [])
+      (All-append (HasDone k) (drops m ++ came) shows
+      (All-append (HasDone k) (drops m) came drops-done (each-done k (happening_at m) (interlude m.scene).happened (λ h. few)))
+      (each-done k (last_snapshot_at m) (ticks_before (m.tick + 1) snaps) (λ x. few)))
+      (All-cons (HasDone k) last [] few (All-nil (HasDone k)))
+
+until_done-done : (k : ℕ) (ds : List ℕ) (n : ℕ) (p : Standing) (snaps : List ℕ) → p.scene.machine.done ≤ k
+    → (next_moment ds n p).scene.machine.done ≤ k → All (HasDone k) (until_done ds n p snaps)
+unfolding until_done
+until_done-done k ds n p snaps few next_few =
+    let due = ticks_before (next_moment ds n p).tick snaps in
+    let last = completion ds n p in
+    All-append (HasDone k) (map (snapshot_at ds n p) due) (last ∷ [])
+    (each-done k (snapshot_at ds n p) due (λ x. few))
+    (All-cons (HasDone k) last [] next_few (All-nil (HasDone k)))
+
+one-more : (ds : List ℕ) (n : ℕ) (m : Moment) → (next_moment ds n (standing m)).scene.machine.done ≡ m.scene.machine.done + 1
+unfolding next_moment
+one-more ds n m = step-done (next_state m) ∙ ap (λ d. d + 1) (settled-done m.scene)
+
+timed-done : (ds : List ℕ) (n left k : ℕ) (m : Moment) (snaps : List ℕ) → m.scene.machine.done + left ≤ k
+    → All (HasDone k) (timed_from ds n left m snaps)
+unfolding timed_from
+timed-done ds n zero k m snaps few = last_events-done k m (omega arith) snaps
+timed-done ds n (suc left) k m snaps few =
+    let p = standing m in
+    let next = next_moment ds n p in
+    let more = one-more ds n m in
+    let same : p.scene.machine.done ≡ m.scene.machine.done = settled-done m.scene in
+    let rest = timed_from ds n left next (ticks_from next.tick snaps) in
+    let turn = between m ++ until_done ds n p snaps in
+    of_choice (λ xs. All (HasDone k) xs) (rests (next_state m)) (last_events m snaps) (turn ++ rest)
+    (last_events-done k m (omega arith) snaps)
+    (All-append (HasDone k) turn rest
+    (All-append (HasDone k) (between m) (until_done ds n p snaps) (between-done k m (omega arith))
+    (until_done-done k ds n p snaps (omega (arith, same, few)) (omega (arith, more, few))))
+    (timed-done ds n left k next (ticks_from next.tick snaps) (omega (arith, more, few))))
+
+-- the plain run
+ran-done : (left : ℕ) (c : Scene) → (run left c).last.done ≤ c.machine.done + left
+unfolding run
+ran-done zero c = let same = settled-done c in omega (arith, same)
+ran-done (suc left) c =
+    let same = settled-done c in
+    let next = stepped (interlude c).scene in
+    let more : next.machine.done ≡ (interlude c).scene.machine.done + 1 = step-done (interlude c).scene.machine in
+    let rest = ran-done left next in
+    of_choice (λ (x : Execution). x.last.done ≤ c.machine.done + suc left) (rests (interlude c).scene.machine)
+    (ended (interlude c)) (goes_on (interlude c) (run left next)) (omega (arith, same)) (omega (arith, same, more, rest))
+
+pub runs_keep_their_budget : RunsKeepTheirBudget
+runs_keep_their_budget = record {
+  plain = ran-done;
+  whole = λ ds snaps n left c. timed-done ds n left (c.machine.done + left) (start c) snaps (omega arith);
+  from = λ ds snaps n left m. timed-done ds n left (m.scene.machine.done + left) m snaps (omega arith);
+}
+
+-- ---- completions
+
+-- events behind which those that are near from the tick u on are near from the tick t on
+abbrev ComesNear : ℕ → ℕ → ℕ → List Timed → Type 0
+ComesNear b t u xs = (ys : List Timed) → AreNear b u ys → AreNear b t (xs ++ ys)
+
+near-append : (b t u v : ℕ) (xs zs : List Timed) → ComesNear b t u xs → ComesNear b u v zs → ComesNear b t v (xs ++ zs)
+near-append b t u v xs zs first second ys is = subst (AreNear b t) (sym (append_assoc xs zs ys)) (first (zs ++ ys) (second ys is))
+
+near-at : {A : Type 0} (b t : ℕ) (f : A → Timed) (xs : List A) → ((x : A) → (f x).tick ≡ t) → ComesNear b t t (map f xs)
+unfolding AreNear
+near-at b t f [] same ys is = is
+near-at b t f (x ∷ xs) same ys is = rw (same x) (omega arith, near-at b t f xs same ys is)
+
+near-one : (b t : ℕ) (x : Timed) → x.tick ≤ t + b → ComesNear b t x.tick (x ∷ [])
+unfolding AreNear
+near-one b t x soon ys is = (soon, is)
+
+near-nil : (b t : ℕ) → ComesNear b t t []
+near-nil b t ys is = is
+
+module _ (b : ℕ) (m : Moment) where
+  drops-near : ComesNear b m.tick m.tick (drops m)
+  unfolding drops
+  drops-near = near-at b m.tick (λ a. at m.tick m.scene.machine (drop_of a)) (reverse m.dropped) (λ a. refl)
+
+  between-near : ComesNear b m.tick m.tick (between m)
+  unfolding between
+  between-near =
+      let hs = (interlude m.scene).happened ++ interrupts_by (interrupt (next_state m)) (next_state m) in
+      near-append b m.tick m.tick m.tick (drops_if_ends m) (map (happening_at m) hs)
+      (of_choice (λ xs. ComesNear b m.tick m.tick xs) (ends_segment m) (drops m) [] drops-near (near-nil b m.tick))
+      (near-at b m.tick (happening_at m) hs (λ h. refl))
+
+  last-near : (snaps : List ℕ) → AreNear b m.tick (last_events m snaps)
+  unfolding last_events AreNear
+  last-near snaps =
+      let came = map (happening_at m) (interlude m.scene).happened in
+      let shows = map (last_snapshot_at m) (ticks_before (m.tick + 1) snaps) in
+      let last = happening_at m (Ends (next_state m) (rests (next_state m))) in
+      near-append b m.tick m.tick m.tick (drops m ++ came) shows
+      (near-append b m.tick m.tick m.tick (drops m) came drops-near (near-at b m.tick (happening_at m) (interlude m.scene).happened (λ h. refl)))
+      (near-at b m.tick (last_snapshot_at m) (ticks_before (m.tick + 1) snaps) (λ x. refl))
+      (last ∷ []) (omega arith, tt)
+
+until_done-near : (b : ℕ) (ds : List ℕ) (n : ℕ) (p : Standing) (snaps : List ℕ) → (next_moment ds n p).tick ≤ p.tick + b
+    → ComesNear b p.tick (next_moment ds n p).tick (until_done ds n p snaps)
+unfolding until_done
+until_done-near b ds n p snaps soon =
+    let tick = (next_moment ds n p).tick in
+    near-append b p.tick p.tick tick (map (snapshot_at ds n p) (ticks_before tick snaps)) (completion ds n p ∷ [])
+    (near-at b p.tick (snapshot_at ds n p) (ticks_before tick snaps) (λ x. refl))
+    (near-one b p.tick (completion ds n p) soon)
+
+module _ (most n : ℕ) (ds : List ℕ) (are : AreDelays most ds) (levels : n ≤ 8) where
+  timed-near : (left : ℕ) (m : Moment) (snaps : List ℕ) → IsMoment most n m → AreNear (64 * (most + 4)) m.tick (timed_from ds n left m snaps)
+  unfolding timed_from
+  timed-near zero m snaps is = last-near (64 * (most + 4)) m snaps
+  timed-near (suc left) m snaps is =
+      let b = 64 * (most + 4) in
+      let p = standing m in
+      let next = next_moment ds n p in
+      let turn = between m ++ until_done ds n p snaps in
+      let rest = timed_from ds n left next (ticks_from next.tick snaps) in
+      of_choice (λ xs. AreNear b m.tick xs) (rests (next_state m)) (last_events m snaps) (turn ++ rest) (last-near b m snaps)
+      (near-append b m.tick m.tick next.tick (between m) (until_done ds n p snaps) (between-near b m)
+      (until_done-near b ds n p snaps (next-tick most n ds are levels m is))
+      rest (timed-near left next (ticks_from next.tick snaps) (next-is most n ds are levels m is)))
+
+pub completions_are_near : CompletionsAreNear
+completions_are_near ds snaps most n left c are levels is = timed-near most n ds are levels left (start c) snaps (start-is most n ds are levels c is)

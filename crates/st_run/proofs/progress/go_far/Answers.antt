@@ -1,0 +1,93 @@
+use Rattle.std.proofs.Common.{◌≡◌, ℕ, ◌+◌, ◌-◌, ◌<◌, ◌≤◌, ◌∷◌, ◌++◌, Option, None, Some, List, [], refl, ap, ◌∙◌, sym, subst, arith}
+use Rattle.st_ahead.specs.declared.events.Row.{Row}
+use Rattle.st_run.specs.Together.{Together, standing_of}
+use Rattle.st_run.specs.TimedRun.{timed_behind}
+use Rattle.st_run.specs.Told.{Told, told}
+use Rattle.st_run.specs.Ticking.{AreMadeUpTo}
+use Rattle.st_run.specs.Telling.{AreInTime, IsLeft, AreLeftOut, rest_of, told_with}
+use Rattle.st_run.specs.declared.told.Told.{Told as ToldNext}
+use Rattle.st_run.specs.declared.turn.Turn.TheVariants as turns
+use Rattle.st_run.proofs.LeftLemmas.{done-in_time}
+use Rattle.st_run.proofs.PassLemmas.{AreAhead, ahead-is, far-row, far-none, far-left, far-told}
+use Rattle.st_run.proofs.progress.go_far.Goals as goal
+
+pub count_of-count-requires : goal.count_of-count-requires
+count_of-count-requires g c =
+    let run = c.args.run.now in
+    let is = ahead-is run.left run.tick run.snaps.now run.waiting run.driven c.requires.run c.requires.waits c.requires.snaps in
+    let few = done-in_time run.left run.tick [] run.driven is.before is.in_time in
+    (omega arith, omega (arith, few, c.done_of-done.ensures))
+
+pub run_many-requires : goal.run_many-requires
+run_many-requires g c =
+    let run = c.args.run.now in
+    let is = ahead-is run.left run.tick run.snaps.now run.waiting run.driven c.requires.run c.requires.waits c.requires.snaps in
+    (omega arith, (is.before, (done-in_time run.left run.tick [] run.driven is.before is.in_time, c.count_of-count.ensures.few)))
+
+pub returns-in_default-clause-kept : goal.returns-in_default-clause-kept
+returns-in_default-clause-kept g c =
+    let run = c.args.run.now in
+    let is = ahead-is run.left run.tick run.snaps.now run.waiting run.driven c.requires.run c.requires.waits c.requires.snaps in
+    let no : ⊥ = far-none c.count_of-count.result run.left run.tick run.driven c.run_many.new.driven is
+    (omega (arith, c.count_of-count.ensures.left, c.done_of-done.ensures))
+    c.count_of-count.ensures.signal c.in_default.ensures in
+    absurd no
+
+pub returns-in_default-clause-told : goal.returns-in_default-clause-told
+returns-in_default-clause-told g c =
+    let run = c.args.run.now in
+    let is = ahead-is run.left run.tick run.snaps.now run.waiting run.driven c.requires.run c.requires.waits c.requires.snaps in
+    let no : ⊥ = far-none c.count_of-count.result run.left run.tick run.driven c.run_many.new.driven is
+    (omega (arith, c.count_of-count.ensures.left, c.done_of-done.ensures))
+    c.count_of-count.ensures.signal c.in_default.ensures in
+    absurd no
+
+pub overflow_sub-run-2 : goal.overflow_sub-run-2
+overflow_sub-run-2 g c =
+    let run = c.args.run.now in
+    let is = ahead-is run.left run.tick run.snaps.now run.waiting run.driven c.requires.run c.requires.waits c.requires.snaps in
+    let far = far-row c.count_of-count.result run.left run.tick run.driven c.run_many.new.driven is
+    (omega (arith, c.count_of-count.ensures.left, c.done_of-done.ensures))
+    c.count_of-count.ensures.signal c.in-Some.row c.in-Some.ensures in
+    omega (arith, far.more, c.done_of-done.ensures)
+
+pub overflow_sub-run-3 : goal.overflow_sub-run-3
+overflow_sub-run-3 g c =
+    let run = c.args.run.now in
+    let is = ahead-is run.left run.tick run.snaps.now run.waiting run.driven c.requires.run c.requires.waits c.requires.snaps in
+    let far = far-row c.count_of-count.result run.left run.tick run.driven c.run_many.new.driven is
+    (omega (arith, c.count_of-count.ensures.left, c.done_of-done.ensures))
+    c.count_of-count.ensures.signal c.in-Some.row c.in-Some.ensures in
+    omega (arith, far.more, far.number, c.done_of-done.ensures)
+
+pub leave_entry-requires : goal.leave_entry-requires
+leave_entry-requires g c =
+    let run = c.args.run.now in
+    let is = ahead-is run.left run.tick run.snaps.now run.waiting run.driven c.requires.run c.requires.waits c.requires.snaps in
+    let far = far-row c.count_of-count.result run.left run.tick run.driven c.run_many.new.driven is
+    (omega (arith, c.count_of-count.ensures.left, c.done_of-done.ensures))
+    c.count_of-count.ensures.signal c.in-Some.row c.in-Some.ensures in
+    let left : far.left_now ≡ run.left - (c.in-Some.row.number - 1 - c.done_of-done.result) =
+    omega (arith, far.more, far.number, c.done_of-done.ensures) in (
+      omega arith,
+      (
+        far-left run.left run.tick run.snaps.now run.driven c.run_many.new.driven c.in-Some.row far _ left c.requires.snaps,
+        (c.requires.turn, c.requires.waits),
+      ),
+    )
+
+pub returns-clause-told : goal.returns-clause-told
+returns-clause-told g c =
+    let run = c.args.run.now in
+    let is = ahead-is run.left run.tick run.snaps.now run.waiting run.driven c.requires.run c.requires.waits c.requires.snaps in
+    let far = far-row c.count_of-count.result run.left run.tick run.driven c.run_many.new.driven is
+    (omega (arith, c.count_of-count.ensures.left, c.done_of-done.ensures))
+    c.count_of-count.ensures.signal c.in-Some.row c.in-Some.ensures in
+    let left : far.left_now ≡ run.left - (c.in-Some.row.number - 1 - c.done_of-done.result) =
+    omega (arith, far.more, far.number, c.done_of-done.ensures) in
+    let after = c.leave_entry.new.run in
+    let rest = rest_of after.turn after.left after.tick after.snaps.now after.waiting after.driven in
+    subst {A = ToldNext} (λ t. AreLeftOut (told_with t after.driven.machine after.printed.bytes)
+    (told (timed_behind run.driven.machine.delays run.driven.machine.levels run.left (standing_of run.tick run.driven) run.snaps.now)) rest)
+    (sym c.told_of.ensures)
+    (far-told run.left run.tick run.snaps.now run.driven c.run_many.new.driven c.in-Some.row far _ left c.requires.snaps rest c.leave_entry.ensures.told)
