@@ -13,6 +13,8 @@ HOME = os.path.join(os.path.dirname(os.path.realpath(__file__)), "..", "..")
 MOST_LEVELS = 8
 OWN = 4             # the levels of the machine of `run`
 NO_PROGRAM = 70
+MOST_CARDS = 20_000
+JOB_LIMIT = 2_000_000       # bytes that a job may have
 
 
 class Stopped(Exception):
@@ -138,8 +140,19 @@ class Deck:
 
     def without(self, *names):
         """The job without control cards of these names."""
-        kept = [line for line in self.lines if not (line[:1] == "/" and line[1:72].split(" ")[0] in names)]
-        return "".join(line + "\n" for line in kept).encode("latin-1")
+        return text_of(line for line in self.lines if not (line[:1] == "/" and line[1:72].split(" ")[0] in names))
+
+    def charted(self):
+        """The job with wishes for rows and the last tick alone, or None where there is no room for these two cards."""
+        program = [line for line in self.lines[:self.end] if line[:72].strip(" ") and line[:1] != "*"]
+        rest = [line for line in self.lines[self.end:] if not (line[:1] == "/" and line[1:72].split(" ")[0] in WISHES)]
+        lines = [*program, *rest, "/CHART", "/TIME"]
+        job = text_of(lines)
+        return job if len(lines) <= MOST_CARDS and len(job) <= JOB_LIMIT else None
+
+
+def text_of(lines):
+    return "".join(line + "\n" for line in lines).encode("latin-1")
 
 
 WISHES = ("TRACE", "CHART", "TIME", "SNAP", "DUMP", "BACK", "LIST")
@@ -148,8 +161,7 @@ WISHES = ("TRACE", "CHART", "TIME", "SNAP", "DUMP", "BACK", "LIST")
 class Report:
     """The rows of the report of ./stretch, one after another, to be compared with those of a ledger."""
 
-    def __init__(self, programs, deck):
-        job = deck.without(*WISHES) + b"/CHART\n/TIME\n"
+    def __init__(self, programs, job):
         self.process = programs.start(["run"], job)
         self.lines = (line for line in told(self.process) if kind_of(line) in ("ROW", "DROP", "TICKS", "CARD"))
 
