@@ -4,3 +4,4 @@ pub mod LaidFields
 pub mod AgreementLemmas
 pub mod MadeStatements
 pub mod MadeDecks
+pub mod Laws

@@ -1,1 +1,2 @@
 pub mod LaidNumbers
+pub mod Laws
