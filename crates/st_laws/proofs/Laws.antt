@@ -1,0 +1,106 @@
+-- The numbers that definitions take from the code, read off it.
+use Rattle.std.proofs.Common.{refl}
+use Rattle.st_laws.specs.Laws.{LimitsInFigures, ControlsInFigures, StatementsInFigures, FormatsInFigures, RegistersInFigures, IndicatorsInFigures}
+
+pub limits_in_figures : LimitsInFigures
+limits_in_figures = record {
+  words = refl;
+  last_word = refl;
+  most_instructions = refl;
+  longest_list = refl;
+}
+
+pub controls_in_figures : ControlsInFigures
+controls_in_figures = record {
+  most_delay = refl;
+  most_dumps = refl;
+  most_snaps = refl;
+  most_back = refl;
+  most_number = refl;
+}
+
+pub statements_in_figures : StatementsInFigures
+statements_in_figures = record {
+  most_offset = refl;
+  most_moved = refl;
+  most_waited = refl;
+  most_count = refl;
+  most_flags = refl;
+  last_address = refl;
+  last_bit = refl;
+}
+
+pub formats_in_figures : FormatsInFigures
+formats_in_figures = record {
+  floating_group = refl;
+  branch_group = refl;
+  unused = refl;
+}
+
+pub registers_in_figures : RegistersInFigures
+registers_in_figures = record {
+  zero = refl;
+  interrupt_address = refl;
+  bounds = refl;
+  counts = refl;
+  left_half = refl;
+  right_half = refl;
+  sign_byte = refl;
+  indicators = refl;
+  mask = refl;
+  remainder = refl;
+  factor = refl;
+  transit = refl;
+  first_index_word = refl;
+  first_storage_word = refl;
+}
+
+pub indicators_in_figures : IndicatorsInFigures
+indicators_in_figures = record {
+  machine_check = refl;
+  instruction_check = refl;
+  instruction_reject = refl;
+  exchange_control_check = refl;
+  time_signal = refl;
+  processor_signal = refl;
+  exchange_check_reject = refl;
+  unit_not_ready_reject = refl;
+  channel_busy_reject = refl;
+  exchange_program_check = refl;
+  unit_check = refl;
+  end_exception = refl;
+  end_of_operation = refl;
+  channel_signal = refl;
+  operation_invalid = refl;
+  address_invalid = refl;
+  unended_sequence = refl;
+  execute_exception = refl;
+  data_store = refl;
+  data_fetch = refl;
+  instruction_fetch = refl;
+  lost_carry = refl;
+  partial_field = refl;
+  zero_divisor = refl;
+  flag_t = refl;
+  flag_u = refl;
+  flag_v = refl;
+  index_flag = refl;
+  binary_transit = refl;
+  decimal_transit = refl;
+  first_program_indicator = refl;
+  index_count_zero = refl;
+  index_value_less = refl;
+  index_value_zero = refl;
+  index_value_greater = refl;
+  index_low = refl;
+  index_equal = refl;
+  index_high = refl;
+  to_memory_operation = refl;
+  result_less = refl;
+  result_zero = refl;
+  result_greater = refl;
+  result_negative = refl;
+  accumulator_low = refl;
+  accumulator_equal = refl;
+  accumulator_high = refl;
+}
