@@ -1,6 +1,6 @@
 -- The numbers that definitions take from the code, read off it.
 use Rattle.std.proofs.Common.{refl}
-use Rattle.st_laws.specs.Laws.{LimitsInFigures, ControlsInFigures, StatementsInFigures, FormatsInFigures, RegistersInFigures, IndicatorsInFigures}
+use Rattle.st_laws.specs.Laws.{LimitsInFigures, ControlsInFigures, AddressesInFigures, FormatsInFigures, RegistersInFigures, IndicatorsInFigures}
 
 pub limits_in_figures : LimitsInFigures
 limits_in_figures = record {
@@ -19,13 +19,8 @@ controls_in_figures = record {
   most_number = refl;
 }
 
-pub statements_in_figures : StatementsInFigures
-statements_in_figures = record {
-  most_offset = refl;
-  most_moved = refl;
-  most_waited = refl;
-  most_count = refl;
-  most_flags = refl;
+pub addresses_in_figures : AddressesInFigures
+addresses_in_figures = record {
   last_address = refl;
   last_bit = refl;
 }

@@ -2,7 +2,6 @@
 use Rattle.std.specs.Prelude.{◌≡◌}
 use Rattle.st_bits.specs.declared.limits.TheConstants.{WORDS, LAST_WORD, MOST_INSTRUCTIONS, LONGEST_LIST}
 use Rattle.st_card.specs.declared.limits.TheConstants.{MOST_DELAY, MOST_DUMPS, MOST_SNAPS, MOST_BACK, MOST_NUMBER}
-use Rattle.st_asm.specs.declared.checks.TheConstants.{MOST_OFFSET, MOST_MOVED, MOST_WAITED, MOST_COUNT, MOST_FLAGS}
 use Rattle.st_expr.specs.declared.terms.TheConstants.{LAST_ADDRESS, LAST_BIT}
 use Rattle.st_format.specs.declared.operations.TheConstants.{FLOATING_GROUP, BRANCH_GROUP, UNUSED}
 use Rattle.st_bits.specs.declared.register.TheConstants.{ZERO, INTERRUPT_ADDRESS, BOUNDS, COUNTS, LEFT_HALF, RIGHT_HALF, SIGN_BYTE, INDICATORS, MASK, REMAINDER, FACTOR, TRANSIT, FIRST_INDEX_WORD, FIRST_STORAGE_WORD}
@@ -23,13 +22,8 @@ pub record ControlsInFigures : Type 0 where
   pub most_back : MOST_BACK ≡ 64
   pub most_number : MOST_NUMBER ≡ 999999999999
 
--- limits of statements: an offset, words that are moved, what LCI and its like take, flags; the last word and bit that an address spells
-pub record StatementsInFigures : Type 0 where
-  pub most_offset : MOST_OFFSET ≡ 127
-  pub most_moved : MOST_MOVED ≡ 16
-  pub most_waited : MOST_WAITED ≡ 1000
-  pub most_count : MOST_COUNT ≡ 262143
-  pub most_flags : MOST_FLAGS ≡ 7
+-- the last word and the last bit that an address spells
+pub record AddressesInFigures : Type 0 where
   pub last_address : LAST_ADDRESS ≡ 262143
   pub last_bit : LAST_BIT ≡ 63
 
