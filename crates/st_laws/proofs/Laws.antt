@@ -1,6 +1,6 @@
 -- The numbers that definitions take from the code, read off it.
 use Rattle.std.proofs.Common.{refl}
-use Rattle.st_laws.specs.Laws.{LimitsInFigures, ControlsInFigures, AddressesInFigures, FormatsInFigures, RegistersInFigures, IndicatorsInFigures}
+use Rattle.st_laws.specs.Laws.{LimitsInFigures, ControlsInFigures, RegistersInFigures, IndicatorsInFigures}
 
 pub limits_in_figures : LimitsInFigures
 limits_in_figures = record {
@@ -17,19 +17,6 @@ controls_in_figures = record {
   most_snaps = refl;
   most_back = refl;
   most_number = refl;
-}
-
-pub addresses_in_figures : AddressesInFigures
-addresses_in_figures = record {
-  last_address = refl;
-  last_bit = refl;
-}
-
-pub formats_in_figures : FormatsInFigures
-formats_in_figures = record {
-  floating_group = refl;
-  branch_group = refl;
-  unused = refl;
 }
 
 pub registers_in_figures : RegistersInFigures
