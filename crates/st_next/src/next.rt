@@ -252,7 +252,7 @@ impl Next {
         if self.waits_for(front) >= due {
             return false;
         }
-        if !self.prepare_before(due, levels, front, x, state, delays, log) {
+        if !self.prepare_own_before(due, levels, front, x, state, delays, log) {
             return false;
         }
         self.formed = front.form(delays, levels, &self.entry, &mut self.words, log);
@@ -260,8 +260,77 @@ impl Next {
         true
     }
 
-    // Prepares it as far as it goes without its index-side word, however far its words are asked for, and whatever they are.
+    // Prepares it as far as it goes without its index-side word. What is frequent is straight code: nothing is asked for yet, and the first word tells the
+    // whole instruction.
     #[inline(always)]
+    fn prepare_own_before(
+        &mut self,
+        due: u64,
+        levels: usize,
+        front: &Front,
+        x: &[u64; 16],
+        state: &State,
+        delays: &Delays,
+        log: &mut Log,
+    ) -> bool
+        requires known { IsKnown delays.now levels (due - 1) front.now x.now state.now self.old }
+        requires front { IsFront levels front.now }
+        requires unplanned { self.old.planned ≡ false }
+        requires soon { self.old.words.awaited < due }
+        ensures next { GoesOn delays.now levels (due - 1) front.now x.now state.now self.old self.new
+            (if result then 0 else due) }
+        ensures further { IsReadFurther delays.now front.now self.old self.new log.old log.new }
+        ensures unplanned { self.new.planned ≡ false }
+        ensures prepared { result ≡ true → IsPreparedBy (due - 1) x.now state.now self.new }
+    {
+        if self.begin(due, levels, front, x, state, delays, log) && self.words.awaited < due {
+            if let Some(spelled) = self.spelled(state) {
+                self.prepare_spelled(spelled, x, state);
+                return true;
+            }
+        }
+        self.prepare_before(due, levels, front, x, state, delays, log)
+    }
+
+    // Asks for its first word, where none is asked for yet and it is one of its own. The result says whether it does.
+    #[inline(always)]
+    fn begin(
+        &mut self,
+        due: u64,
+        levels: usize,
+        front: &Front,
+        x: &[u64; 16],
+        state: &State,
+        delays: &Delays,
+        log: &mut Log,
+    ) -> bool
+        requires known { IsKnown delays.now levels (due - 1) front.now x.now state.now self.old }
+        requires front { IsFront levels front.now }
+        requires unplanned { self.old.planned ≡ false }
+        requires soon { self.old.words.awaited < due }
+        ensures next { GoesOn delays.now levels (due - 1) front.now x.now state.now self.old self.new 0 }
+        ensures further { IsReadFurther delays.now front.now self.old self.new log.old log.new }
+        ensures unplanned { self.new.planned ≡ false }
+    {
+        delays.shape();
+        let _ = (due, levels);
+        if self.own.len != 0 || self.target.len != 0 {
+            return false;
+        }
+        match self.given(x, state) {
+            Given::Next {
+                word,
+                target: false,
+            } => {
+                self.ask_own(word, front, delays, log);
+                true
+            }
+            _ => false,
+        }
+    }
+
+    // Prepares it as far as it goes without its index-side word, however far its words are asked for, and whatever they are.
+    #[inline(never)]
     fn prepare_before(
         &mut self,
         due: u64,

@@ -13,30 +13,30 @@ returns-then-waits_for-due-clause-next c =
 pub returns-then-waits_for-due-clause-further : goal.returns-then-waits_for-due-clause-further
 returns-then-waits_for-due-clause-further c = further-nothing _ _ _ _
 
-pub prepare_before-requires-clause-known : goal.prepare_before-requires-clause-known
-prepare_before-requires-clause-known c = (c.requires.known (omega (arith, c.waits_for.ensures, c.if-waits_for-due.false)))
+pub prepare_own_before-requires-clause-known : goal.prepare_own_before-requires-clause-known
+prepare_own_before-requires-clause-known c = (c.requires.known (omega (arith, c.waits_for.ensures, c.if-waits_for-due.false)))
 
-pub returns-then-not-prepare_before-clause-still : goal.returns-then-not-prepare_before-clause-still
-returns-then-not-prepare_before-clause-still c late = absurd (omega (arith, late, c.waits_for.ensures, c.if-waits_for-due.false))
+pub returns-then-not-prepare_own_before-clause-still : goal.returns-then-not-prepare_own_before-clause-still
+returns-then-not-prepare_own_before-clause-still c late = absurd (omega (arith, late, c.waits_for.ensures, c.if-waits_for-due.false))
 
 pub returns-clause-still : goal.returns-clause-still
 returns-clause-still c late = absurd (omega (arith, late, c.waits_for.ensures, c.if-waits_for-due.false))
 
 pub form-self-requires-clause-entry : goal.form-self-requires-clause-entry
 form-self-requires-clause-entry c =
-    let p = (c.if-not-prepare_before.ensures.prepared refl) in
-    subst IsEntry (sym p.entry) (known-seen _ _ _ _ _ _ _ c.if-not-prepare_before.ensures.unplanned (known-then _ _ _ _ _ _ _ _ _ (c.requires.known (omega (arith, c.waits_for.ensures, c.if-waits_for-due.false))) c.if-not-prepare_before.ensures.next) p.done _ refl _ p.found)
+    let p = (c.if-not-prepare_own_before.ensures.prepared refl) in
+    subst IsEntry (sym p.entry) (known-seen _ _ _ _ _ _ _ c.if-not-prepare_own_before.ensures.unplanned (known-then _ _ _ _ _ _ _ _ _ (c.requires.known (omega (arith, c.waits_for.ensures, c.if-waits_for-due.false))) c.if-not-prepare_own_before.ensures.next) p.done _ refl _ p.found)
 
 pub form-self-requires-clause-words : goal.form-self-requires-clause-words
 form-self-requires-clause-words c =
-    let p = (c.if-not-prepare_before.ensures.prepared refl) in
-    rw p.entry (plan-words _ _ _ _ _ _ _ c.if-not-prepare_before.ensures.unplanned (known-then _ _ _ _ _ _ _ _ _ (c.requires.known (omega (arith, c.waits_for.ensures, c.if-waits_for-due.false))) c.if-not-prepare_before.ensures.next) p.done _ refl _ p.found)
+    let p = (c.if-not-prepare_own_before.ensures.prepared refl) in
+    rw p.entry (plan-words _ _ _ _ _ _ _ c.if-not-prepare_own_before.ensures.unplanned (known-then _ _ _ _ _ _ _ _ _ (c.requires.known (omega (arith, c.waits_for.ensures, c.if-waits_for-due.false))) c.if-not-prepare_own_before.ensures.next) p.done _ refl _ p.found)
 
 pub returns-clause-next : goal.returns-clause-next
 returns-clause-next c =
-    let p = (c.if-not-prepare_before.ensures.prepared refl) in
-    goes-then _ _ _ _ _ _ _ _ _ _ _ c.if-not-prepare_before.ensures.next
-    (plan-goes _ _ _ _ _ _ _ c.if-not-prepare_before.ensures.unplanned p.done _ refl _ _ _ p.found (record {
+    let p = (c.if-not-prepare_own_before.ensures.prepared refl) in
+    goes-then _ _ _ _ _ _ _ _ _ _ _ c.if-not-prepare_own_before.ensures.next
+    (plan-goes _ _ _ _ _ _ _ c.if-not-prepare_own_before.ensures.unplanned p.done _ refl _ _ _ p.found (record {
       place = refl;
       own = refl;
       target = refl;
@@ -53,9 +53,9 @@ returns-clause-next c =
 
 pub returns-clause-further : goal.returns-clause-further
 returns-clause-further c =
-    let p = (c.if-not-prepare_before.ensures.prepared refl) in
-    further-then _ _ _ _ _ _ _ _ c.if-not-prepare_before.ensures.further
-    (plan-asks _ _ _ _ _ _ _ c.if-not-prepare_before.ensures.unplanned (known-then _ _ _ _ _ _ _ _ _ (c.requires.known (omega (arith, c.waits_for.ensures, c.if-waits_for-due.false))) c.if-not-prepare_before.ensures.next) p.done _ refl _ p.found _ _ _ (record {
+    let p = (c.if-not-prepare_own_before.ensures.prepared refl) in
+    further-then _ _ _ _ _ _ _ _ c.if-not-prepare_own_before.ensures.further
+    (plan-asks _ _ _ _ _ _ _ c.if-not-prepare_own_before.ensures.unplanned (known-then _ _ _ _ _ _ _ _ _ (c.requires.known (omega (arith, c.waits_for.ensures, c.if-waits_for-due.false))) c.if-not-prepare_own_before.ensures.next) p.done _ refl _ p.found _ _ _ (record {
       place = refl;
       own = refl;
       target = refl;
