@@ -88,7 +88,7 @@ lines-run asked start =
 -- ---- a listing
 
 -- the cards up to END, and those behind it, are all cards
-cards-split : (cards : List Card) → up_to_end cards ++ behind_statements cards ≡ cards
+pub cards-split : (cards : List Card) → up_to_end cards ++ behind_statements cards ≡ cards
 unfolding up_to_end behind_statements
 cards-split [] = refl
 cards-split (card ∷ cards) = split-if (has_statement (card ∷ cards)) card cards (cards-split cards) where

@@ -11,3 +11,4 @@ pub mod Answers
 pub mod Layers
 pub mod Running
 pub mod Marks
+pub mod Delays

@@ -5,6 +5,7 @@ ghost use Rattle.st_asm.specs.Assembly.{Assembly, assembly};
 ghost use Rattle.st_run.specs.Run.{Scene};
 ghost use Rattle.st_io.specs.Event.{lines_of};
 ghost use Rattle.st_object.specs.Object.{Program, read_text};
+ghost use Rattle.st_top.specs.Delays.{DelaysShowInMarksAlone};
 ghost use Rattle.st_top.specs.Marks.{all_lines, unmarked, marked_run, marked_output, DifferInDelays};
 ghost use Rattle.st_top.specs.Output.{output_of};
 ghost use Rattle.st_top.specs.StepsBack.{run_report};
@@ -35,6 +36,7 @@ pub fn jobs_that_differ_in_delays_alone()
     ensures run { (job other : List ℕ) (a b : Assembly) →
         assembly job ≡ Ok a → assembly other ≡ Ok b → DifferInDelays job other a b →
         unmarked (marked_output Run job) ≡ unmarked (marked_output Run other) }
+    ensures alone { DelaysShowInMarksAlone }
     ensures load { (text other : List ℕ) (p q : Program) → read_text text ≡ Ok p → read_text other ≡ Ok q →
         record p { controls = record p.controls { delays = q.controls.delays } } ≡ q →
         unmarked (marked_output Load text) ≡ unmarked (marked_output Load other) }

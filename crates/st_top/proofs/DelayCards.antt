@@ -1,0 +1,167 @@
+-- A delays card changes the delays alone, and no other control card reads them.
+use Rattle.std.proofs.Common.{◌≡◌, ℕ, ◌+◌, ◌==◌, ◌&&◌, Bool, true, false, not, if◌then◌else◌, List, [], ◌∷◌, ◌++◌, length, filter, refl, sym, ◌∙◌, ap, Option, Some, None}
+use Rattle.std.specs.Prelude.{nat_le, nat_lt}
+use Rattle.std.specs.List.{list_all}
+use Rattle.std.specs.Option.{option_map}
+use Rattle.st_text.specs.Pieces.{words}
+use Rattle.st_text.specs.Tables.{row_of}
+use Rattle.st_bits.specs.declared.limits.TheConstants.{LONGEST_LIST}
+use Rattle.st_card.specs.declared.limits.TheConstants.{MOST_DELAY}
+use Rattle.st_card.specs.Cards.{kind_of, columns}
+use Rattle.st_card.specs.Controls.{Asked, keywords, card_numbers, is_in_range, with_delays, with_keyword, with_card, with_words, added}
+use Rattle.st_card.specs.declared.cards.CardKind.{CardKind}
+use Rattle.st_card.specs.declared.cards.CardKind.TheVariants.{Comment, Control, Statement}
+use Rattle.st_card.specs.declared.keywords.Keyword.{Keyword}
+use Rattle.st_card.specs.declared.keywords.Keyword.TheVariants.{Budget, Delays, Signals, Dump, Snap, Back, Listing, Trace, Time, Chart}
+use Rattle.st_top.specs.Delays.{is_delays, begins_delays, is_control, is_delays_card}
+
+-- what is asked for without the delays
+abbrev pub still : Asked → Asked
+still asked = record asked { delays = [] }
+
+-- the same of what may be asked for
+abbrev pub stills : Option Asked → Option Asked
+stills o = option_map still o
+
+if-still : (test : Bool) (x : Asked) → (if test then Some (still x) else None) ≡ stills (if test then Some x else None)
+if-still true x = refl
+if-still false x = refl
+
+if-none : (test : Bool) (x : Asked) → (if test then None else Some (still x)) ≡ stills (if test then None else Some x)
+if-none true x = refl
+if-none false x = refl
+
+-- a card of another keyword asks for the same, whatever the delays are
+keyword-still : (k : Keyword) (a : Asked) (ns : List ℕ) → is_delays (Some k) ≡ false → with_keyword k (still a) ns ≡ stills (with_keyword k a ns)
+keyword-still Delays a ns h = let no : ⊥ = cc in absurd no
+keyword-still Budget a [] h = refl
+keyword-still Budget a (n ∷ []) h = if-still _ _
+keyword-still Budget a (n ∷ m ∷ ns) h = refl
+keyword-still Signals a [] h = refl
+keyword-still Signals a (n ∷ []) h = refl
+keyword-still Signals a (n ∷ m ∷ []) h = if-still _ _
+keyword-still Signals a (n ∷ m ∷ k ∷ ns) h = refl
+keyword-still Dump a [] h = refl
+keyword-still Dump a (n ∷ []) h = refl
+keyword-still Dump a (n ∷ m ∷ []) h = if-still _ _
+keyword-still Dump a (n ∷ m ∷ k ∷ ns) h = refl
+keyword-still Snap a [] h = refl
+keyword-still Snap a (n ∷ []) h = if-still _ _
+keyword-still Snap a (n ∷ m ∷ ns) h = refl
+keyword-still Back a [] h = refl
+keyword-still Back a (n ∷ []) h = if-still _ _
+keyword-still Back a (n ∷ m ∷ ns) h = refl
+keyword-still Listing a [] h = if-none a.list _
+keyword-still Listing a (n ∷ ns) h = refl
+keyword-still Trace a [] h = if-none a.trace _
+keyword-still Trace a (n ∷ ns) h = refl
+keyword-still Time a [] h = if-none a.time _
+keyword-still Time a (n ∷ ns) h = refl
+keyword-still Chart a [] h = if-none a.chart _
+keyword-still Chart a (n ∷ ns) h = refl
+
+card-still : (o : Option Keyword) (a : Asked) (ns : Option (List ℕ)) → is_delays o ≡ false → with_card (still a) o ns ≡ stills (with_card a o ns)
+card-still None a ns h = refl
+card-still (Some k) a None h = refl
+card-still (Some k) a (Some ns) h = keyword-still k a ns h
+
+words-still : (a : Asked) (ws : List (List ℕ)) → begins_delays ws ≡ false → with_words (still a) ws ≡ stills (with_words a ws)
+words-still a [] h = refl
+words-still a (word ∷ more) h = card-still (row_of word keywords) a (card_numbers more) h
+
+pub other-still : (a : Asked) (text : List ℕ) → begins_delays (words (columns text)) ≡ false → added (still a) text ≡ stills (added a text)
+other-still a text h = words-still a (words (columns text)) h
+
+-- a card of delays leaves all else
+kept-if : (test : Bool) (a x b : Asked) → still x ≡ still a → (if test then Some x else None) ≡ Some b → still b ≡ still a
+kept-if true a x b same h = let is : x ≡ b = cc in ap still (sym is) ∙ same
+kept-if false a x b same h = let no : ⊥ = cc in absurd no
+
+delays-keep : (a b : Asked) (ns : List ℕ) → with_delays a ns ≡ Some b → still b ≡ still a
+delays-keep a b [] h = let no : ⊥ = cc in absurd no
+delays-keep a b (n ∷ ns) h =
+    kept-if (nat_le (length a.delays + length (n ∷ ns)) LONGEST_LIST && list_all (is_in_range 1 MOST_DELAY) (n ∷ ns)) a
+    (record a { delays = a.delays ++ n ∷ ns }) b refl h
+
+keyword-keeps : (k : Keyword) (a b : Asked) (ns : List ℕ) → is_delays (Some k) ≡ true → with_keyword k a ns ≡ Some b → still b ≡ still a
+keyword-keeps Delays a b ns h is = delays-keep a b ns is
+keyword-keeps Budget a b ns h is = let no : ⊥ = cc in absurd no
+keyword-keeps Signals a b ns h is = let no : ⊥ = cc in absurd no
+keyword-keeps Dump a b ns h is = let no : ⊥ = cc in absurd no
+keyword-keeps Snap a b ns h is = let no : ⊥ = cc in absurd no
+keyword-keeps Back a b ns h is = let no : ⊥ = cc in absurd no
+keyword-keeps Listing a b ns h is = let no : ⊥ = cc in absurd no
+keyword-keeps Trace a b ns h is = let no : ⊥ = cc in absurd no
+keyword-keeps Time a b ns h is = let no : ⊥ = cc in absurd no
+keyword-keeps Chart a b ns h is = let no : ⊥ = cc in absurd no
+
+card-keeps : (o : Option Keyword) (a b : Asked) (ns : Option (List ℕ)) → is_delays o ≡ true → with_card a o ns ≡ Some b → still b ≡ still a
+card-keeps None a b ns h is = let no : ⊥ = cc in absurd no
+card-keeps (Some k) a b None h is = let no : ⊥ = cc in absurd no
+card-keeps (Some k) a b (Some ns) h is = keyword-keeps k a b ns h is
+
+words-keep : (a b : Asked) (ws : List (List ℕ)) → begins_delays ws ≡ true → with_words a ws ≡ Some b → still b ≡ still a
+words-keep a b [] h is = let no : ⊥ = cc in absurd no
+words-keep a b (word ∷ more) h is = card-keeps (row_of word keywords) a b (card_numbers more) h is
+
+pub delays-still : (a b : Asked) (text : List ℕ) → begins_delays (words (columns text)) ≡ true → added a text ≡ Some b → still b ≡ still a
+delays-still a b text h is = words-keep a b (words (columns text)) h is
+
+-- ---- the cards behind END
+
+-- what is asked for with a card that is no statement card
+abbrev pub asked_by : CardKind → Asked → List ℕ → Option Asked
+asked_by Comment a text = Some a
+asked_by Control a text = added a text
+asked_by Statement a text = None
+
+abbrev pub asked_on : Option Asked → (Asked → Option Asked) → Option Asked
+asked_on None next = None
+asked_on (Some a) next = next a
+
+-- what is asked for with cards of these texts
+unfoldable pub asked_with : Asked → List (List ℕ) → Option Asked
+asked_with a [] = Some a
+asked_with a (text ∷ texts) = asked_on (asked_by (kind_of text) a text) (λ b. asked_with b texts)
+
+pub asks-none : (a : Asked) → asked_with a [] ≡ Some a
+unfolding asked_with
+asks-none a = refl
+
+-- those of texts that are no delays cards
+abbrev pub others : List (List ℕ) → List (List ℕ)
+others texts = filter (λ text. not (is_delays_card text)) texts
+
+-- one text before others, where it is left, and where it is none
+pub others-kept : (text : List ℕ) (texts : List (List ℕ)) → is_delays_card text ≡ false → others (text ∷ texts) ≡ text ∷ others texts
+others-kept text texts h = ap (λ (b : Bool). if not b then text ∷ others texts else others texts) h
+
+pub others-left : (text : List ℕ) (texts : List (List ℕ)) → is_delays_card text ≡ true → others (text ∷ texts) ≡ others texts
+others-left text texts h = ap (λ (b : Bool). if not b then text ∷ others texts else others texts) h
+
+-- a comment card asks for nothing
+pub asks-comment : (a : Asked) (to : Option Asked) (text : List ℕ) (texts : List (List ℕ)) → kind_of text ≡ Comment
+    → asked_with a (others texts) ≡ to → asked_with a (others (text ∷ texts)) ≡ to
+unfolding asked_with is_delays_card
+asks-comment a to text texts kind rest =
+    ap (λ l. asked_with a l) (others-kept text texts (ap (λ (k : CardKind). is_control k && begins_delays (words (columns text))) kind))
+    ∙ ap (λ (k : CardKind). asked_on (asked_by k a text) (λ b. asked_with b (others texts))) kind
+    ∙ rest
+
+-- a control card
+pub asks-control : (a b : Asked) (to : Option Asked) (text : List ℕ) (texts : List (List ℕ)) → kind_of text ≡ Control → added a text ≡ Some b
+    → asked_with (still b) (others texts) ≡ to → asked_with (still a) (others (text ∷ texts)) ≡ to
+unfolding asked_with is_delays_card
+asks-control a b to text texts kind is rest = by (begins_delays (words (columns text))) refl where
+  card-is : is_delays_card text ≡ begins_delays (words (columns text))
+  card-is = ap (λ (k : CardKind). is_control k && begins_delays (words (columns text))) kind
+  by : (d : Bool) → begins_delays (words (columns text)) ≡ d → asked_with (still a) (others (text ∷ texts)) ≡ to
+  by true d =
+      ap (λ l. asked_with (still a) l) (others-left text texts (card-is ∙ d))
+      ∙ ap (λ c. asked_with c (others texts)) (sym (delays-still a b text d is))
+      ∙ rest
+  by false d =
+      ap (λ l. asked_with (still a) l) (others-kept text texts (card-is ∙ d))
+      ∙ ap (λ (k : CardKind). asked_on (asked_by k (still a) text) (λ c. asked_with c (others texts))) kind
+      ∙ ap (λ o. asked_on o (λ c. asked_with c (others texts))) (other-still a text d ∙ ap stills is)
+      ∙ rest

@@ -1,0 +1,372 @@
+-- What a job is assembled to hangs on its cards up to END, but for what the control cards behind it ask for.
+use Rattle.std.proofs.Common.{◌≡◌, ℕ, zero, suc, ◌+◌, ◌==◌, ◌&&◌, Bool, true, false, not, if◌then◌else◌, List, [], ◌∷◌, ◌++◌, length, map, filter, take, refl, sym, ◌∙◌, ap, subst, append_assoc, append-nil, length-append, arith, Result, Ok, Err, Option, Some, None, All}
+use Rattle.std.proofs.lemmas.Bool.{or_parts}
+use Rattle.std.proofs.lemmas.List.{length-map}
+use Rattle.std.proofs.lemmas.List.Elements.{All-head, All-tail}
+use Rattle.std.specs.Str.Lines.{strip_carriage_return}
+use Rattle.st_text.specs.Bytes.{line_end}
+use Rattle.st_text.specs.Pieces.{words, parted}
+use Rattle.st_card.specs.Cards.{columns, kind_of, card_at, cards_from, cards_of, text_in, IsCardOf}
+use Rattle.st_card.specs.Controls.{Asked, added}
+use Rattle.st_card.specs.declared.cards.Card.{Card}
+use Rattle.st_card.specs.declared.cards.CardKind.{CardKind}
+use Rattle.st_card.specs.declared.cards.CardKind.TheVariants.{Comment, Control, Statement}
+use Rattle.st_card.specs.declared.faults.Fault.{Fault}
+use Rattle.st_card.specs.declared.faults.Fault.TheVariants.{BadControlCard}
+use Rattle.st_card.proofs.StandingLemmas.{cards_stand}
+use Rattle.st_strap.specs.Order.{judged}
+use Rattle.st_asm.specs.Pass.{Refusal, onward, pass, unless_faulty, and_then}
+use Rattle.st_asm.specs.Lines.{silent}
+use Rattle.st_asm.specs.Forming.{Found, unread, first_fault_of, with_line, with_control, with_end, form_control, form_kind, form_card, form_pass}
+use Rattle.st_asm.specs.Symbols.{table}
+use Rattle.st_asm.specs.Naming.{Named, name_pass}
+use Rattle.st_asm.specs.Valuing.{Laid, value_pass}
+use Rattle.st_asm.specs.Assembly.{Assembly, with_defaults, together, assembly}
+use Rattle.st_asm.specs.declared.valuing.Listed.{Listed}
+use Rattle.st_asm.proofs.FaultlessLemmas.{form_pass-faultless}
+use Rattle.st_asm.proofs.KeptLemmas.{form_pass-numbers}
+use Rattle.st_exch.specs.Reader.{is_comment, is_statement, has_statement, behind_statements, card_words, texts_in, reader_cards}
+use Rattle.st_top.specs.Marks.{up_to_end, texts_up_to_end, end_card, DifferInDelays}
+use Rattle.st_top.specs.Delays.{is_control, begins_delays, is_delays_card, texts_behind_end, others_behind_end, DifferInDelaysCards}
+use Rattle.st_top.proofs.MarkLemmas.{cards-split}
+use Rattle.st_top.proofs.PartedPasses.{Line, onward-ok, and_then-ok, onward-same, pass-append, quiet, quiet_rows, Parts, passes-parted}
+use Rattle.st_top.proofs.DelayCards.{still, others, asked_with, asks-none, asks-comment, asks-control, others-kept, others-left}
+
+-- ---- cards and their texts
+
+-- cards numbered from n on
+abbrev AreNumbered : ℕ → List Card → Type 0
+AreNumbered n [] = Unit {0}
+AreNumbered n (card ∷ cards) = (card.number ≡ n) × AreNumbered (n + 1) cards
+
+from-numbered : (n place : ℕ) (lines : List (List ℕ)) → AreNumbered n (cards_from n place lines)
+from-numbered n place [] = tt
+from-numbered n place (line ∷ []) = last (length line == 0) where
+  last : (b : Bool) → AreNumbered n (if b then [] else card_at n place line ∷ [])
+  last true = tt
+  last false = (refl, tt)
+from-numbered n place (line ∷ next ∷ more) = (refl, from-numbered (n + 1) (place + length line + 1) (next ∷ more))
+
+take-numbered : (k n : ℕ) (cards : List Card) → AreNumbered n cards → AreNumbered n (take k cards)
+take-numbered zero n cards h = tt
+take-numbered (suc k) n [] h = tt
+take-numbered (suc k) n (card ∷ cards) h = (h.0, take-numbered k (n + 1) cards h.1)
+
+front-numbered : (n : ℕ) (xs ys : List Card) → AreNumbered n (xs ++ ys) → AreNumbered n xs
+front-numbered n [] ys h = tt
+front-numbered n (x ∷ xs) ys h = (h.0, front-numbered (n + 1) xs ys h.1)
+
+-- cards without a fault, each of the kind of its text
+abbrev AreGood : List ℕ → List Card → Type 0
+AreGood job [] = Unit {0}
+AreGood job (card ∷ cards) = (card.kind ≡ kind_of (text_in job card)) × (card.fault ≡ None) × AreGood job cards
+
+are-good : (job : List ℕ) (cards : List Card) → All (IsCardOf job) cards → All (λ (card : Card). card.fault ≡ None) cards → AreGood job cards
+are-good job [] stand good = tt
+are-good job (card ∷ cards) stand good = (
+  (All-head (IsCardOf job) card cards stand).kind,
+  All-head (λ (c : Card). c.fault ≡ None) card cards good,
+  are-good job cards (All-tail (IsCardOf job) card cards stand) (All-tail (λ (c : Card). c.fault ≡ None) card cards good),
+)
+
+front-good : (job : List ℕ) (xs ys : List Card) → AreGood job (xs ++ ys) → AreGood job xs
+front-good job [] ys h = tt
+front-good job (x ∷ xs) ys h = (h.0, h.1, front-good job xs ys h.2)
+
+behind-good : (job : List ℕ) (xs ys : List Card) → AreGood job (xs ++ ys) → AreGood job ys
+behind-good job [] ys h = h
+behind-good job (x ∷ xs) ys h = behind-good job xs ys h.2
+
+no-statements : (cards : List Card) → has_statement (behind_statements cards) ≡ false
+unfolding behind_statements
+no-statements [] = refl
+no-statements (card ∷ cards) = by (has_statement (card ∷ cards)) refl (no-statements cards) where
+  by : (b : Bool) → has_statement (card ∷ cards) ≡ b → has_statement (behind_statements cards) ≡ false
+      → has_statement (if b then behind_statements cards else card ∷ cards) ≡ false
+  by true is rest = rest
+  by false is rest = is
+
+-- ---- the form pass, by texts
+
+abbrev form_text : Found → ℕ → List ℕ → Result Found Fault
+form_text found n text = form_kind (kind_of text) found n None text
+
+-- the pass over cards of these texts, numbered from n on
+form_texts : Found → ℕ → List (List ℕ) → Result Found Refusal
+form_texts found n [] = Ok found
+form_texts found n (text ∷ texts) = onward (λ f. form_texts f (n + 1) texts) n (form_text found n text)
+
+none-first : (k : CardKind) → first_fault_of k None ≡ None
+none-first Comment = refl
+none-first Control = refl
+none-first Statement = refl
+
+card-text : (job : List ℕ) (found : Found) (n : ℕ) (card : Card) → card.number ≡ n → card.kind ≡ kind_of (text_in job card) → card.fault ≡ None
+    → form_card job found card ≡ form_text found n (text_in job card)
+unfolding form_card
+card-text job found n card number kind good =
+    let t = text_in job card in
+    ap (λ o. unless_faulty (first_fault_of card.kind o) (form_kind card.kind found card.number o t)) good
+    ∙ ap (λ o. unless_faulty o (form_kind card.kind found card.number None t)) (none-first card.kind)
+    ∙ ap (λ m. form_kind card.kind found m None t) number
+    ∙ ap (λ k. form_kind k found n None t) kind
+
+pass-texts : (job : List ℕ) (found : Found) (n : ℕ) (cards : List Card) → AreNumbered n cards → AreGood job cards
+    → pass (form_card job) (λ card. card.number) found cards ≡ form_texts found n (map (text_in job) cards)
+unfolding form_texts
+pass-texts job found n [] numbered good = refl
+pass-texts job found n (card ∷ cards) numbered good =
+    let texts = map (text_in job) cards in
+    ap (λ m. onward (λ f. pass (form_card job) (λ c. c.number) f cards) m (form_card job found card)) numbered.0
+    ∙ ap (onward (λ f. pass (form_card job) (λ c. c.number) f cards) n) (card-text job found n card numbered.0 good.0 good.1)
+    ∙ onward-same (λ f. pass (form_card job) (λ c. c.number) f cards) (λ f. form_texts f (n + 1) texts) n (form_text found n (text_in job card))
+    (λ f. pass-texts job f (n + 1) cards numbered.1 good.2)
+
+-- ---- the cards behind END
+
+-- cards of these numbers and texts lead from one state to another: they say nothing, and ask for something
+record Went (from to : Found) (numbers : List ℕ) (texts : List (List ℕ)) : Type 0 where
+  lines : to.lines ≡ from.lines ++ quiet numbers
+  asked : asked_with (still from.asked) (others texts) ≡ Some (still to.asked)
+
+control-ok : (from to : Found) (n : ℕ) (ended : Bool) (o : Option Asked)
+    → (if ended then judged BadControlCard o (λ asked. Ok (with_control from n asked)) else Err BadControlCard) ≡ Ok to
+    → (b : Asked) × (o ≡ Some b) × (with_control from n b ≡ to)
+control-ok from to n false o h = let no : ⊥ = cc in absurd no
+control-ok from to n true None h = let no : ⊥ = cc in absurd no
+control-ok from to n true (Some b) h = let is : with_control from n b ≡ to = cc in (b, refl, is)
+
+went-on : (k : CardKind) (from state to : Found) (n : ℕ) (text : List ℕ) (ns : List ℕ) (texts : List (List ℕ)) → kind_of text ≡ k → is_statement k ≡ false
+    → form_kind k from n None text ≡ Ok state → Went state to ns texts → Went from to (n ∷ ns) (text ∷ texts)
+unfolding form_control
+went-on Comment from state to n text ns texts kind none h rest =
+    let is : with_line from (silent n) ≡ state = cc in record {
+      lines = rest.lines ∙ ap (λ (s : Found). s.lines ++ quiet ns) (sym is) ∙ append_assoc from.lines (silent n ∷ []) (quiet ns);
+      asked = asks-comment (still from.asked) (Some (still to.asked)) text texts kind
+          (ap (λ (s : Found). asked_with (still s.asked) (others texts)) is ∙ rest.asked);
+    }
+went-on Control from state to n text ns texts kind none h rest =
+    let (b, asks, is) = control-ok from state n from.ended (added from.asked text) h in record {
+      lines = rest.lines ∙ ap (λ (s : Found). s.lines ++ quiet ns) (sym is) ∙ append_assoc from.lines (silent n ∷ []) (quiet ns);
+      asked = asks-control from.asked b (Some (still to.asked)) text texts kind asks
+          (ap (λ (s : Found). asked_with (still s.asked) (others texts)) is ∙ rest.asked);
+    }
+went-on Statement from state to n text ns texts kind none h rest = let no : ⊥ = cc in absurd no
+
+went : (job : List ℕ) (from to : Found) (cards : List Card) → AreGood job cards → has_statement cards ≡ false
+    → pass (form_card job) (λ card. card.number) from cards ≡ Ok to → Went from to (map (λ card. card.number) cards) (map (text_in job) cards)
+went job from to [] good none h =
+    let same : from ≡ to = cc in record {
+      lines = ap (λ (f : Found). f.lines) (sym same) ∙ sym (append-nil from.lines);
+      asked = asks-none (still from.asked) ∙ ap (λ (f : Found). Some (still f.asked)) same;
+    }
+went job from to (card ∷ cards) good none h =
+    let text = text_in job card in
+    let parts = or_parts (is_statement card.kind) (has_statement cards) none in
+    let on = onward-ok (λ f. pass (form_card job) (λ c. c.number) f cards) card.number (form_card job from card) to h in
+    went-on (kind_of text) from on.state to card.number text (map (λ c. c.number) cards) (map (text_in job) cards) refl
+    (ap is_statement (sym good.0) ∙ parts.0)
+    (sym (card-text job from card.number card refl good.0 good.1) ∙ on.good)
+    (went job on.state to cards good.2 parts.1 on.next)
+
+-- ---- the reader
+
+abbrev comments : List (List ℕ) → List (List ℕ)
+comments texts = filter (λ text. is_comment (kind_of text)) texts
+
+no-comment : (k : CardKind) (b : Bool) → (is_control k && b) ≡ true → is_comment k ≡ false
+no-comment Comment b h = let no : ⊥ = cc in absurd no
+no-comment Control b h = refl
+no-comment Statement b h = refl
+
+delays-no-comment : (text : List ℕ) → is_delays_card text ≡ true → is_comment (kind_of text) ≡ false
+unfolding is_delays_card
+delays-no-comment text h = no-comment (kind_of text) (begins_delays (words (columns text))) h
+
+comments-others : (texts : List (List ℕ)) → comments (others texts) ≡ comments texts
+comments-others [] = refl
+comments-others (text ∷ texts) = by (is_delays_card text) refl (comments-others texts) where
+  by : (d : Bool) → is_delays_card text ≡ d → comments (others texts) ≡ comments texts
+      → comments (others (text ∷ texts)) ≡ comments (text ∷ texts)
+  by true d rest =
+      ap comments (others-left text texts d) ∙ rest
+      ∙ sym (ap (λ (b : Bool). if b then text ∷ comments texts else comments texts) (delays-no-comment text d))
+  by false d rest =
+      ap comments (others-kept text texts d)
+      ∙ ap (λ (l : List (List ℕ)). if is_comment (kind_of text) then text ∷ l else l) rest
+
+comment-texts : (job : List ℕ) (cards : List Card) → AreGood job cards
+    → map (λ card. card_words (text_in job card)) (filter (λ card. is_comment card.kind) cards) ≡ map card_words (comments (map (text_in job) cards))
+comment-texts job [] good = refl
+comment-texts job (card ∷ cards) good =
+    ap (λ (k : CardKind). map (λ c. card_words (text_in job c)) (if is_comment k then card ∷ filter (λ c. is_comment c.kind) cards
+    else filter (λ c. is_comment c.kind) cards)) good.0
+    ∙ by (is_comment (kind_of (text_in job card))) (comment-texts job cards good.2) where
+      by : (b : Bool) → map (λ c. card_words (text_in job c)) (filter (λ c. is_comment c.kind) cards) ≡ map card_words (comments (map (text_in job) cards))
+          → map (λ c. card_words (text_in job c)) (if b then card ∷ filter (λ c. is_comment c.kind) cards else filter (λ c. is_comment c.kind) cards)
+          ≡ map card_words (if b then text_in job card ∷ comments (map (text_in job) cards) else comments (map (text_in job) cards))
+      by true rest = ap (λ l. card_words (text_in job card) ∷ l) rest
+      by false rest = rest
+
+reader-others : (job : List ℕ) → AreGood job (behind_statements (cards_of job)) → reader_cards job ≡ map card_words (comments (others_behind_end job))
+unfolding reader_cards texts_in
+reader-others job good =
+    comment-texts job (behind_statements (cards_of job)) good
+    ∙ ap (map card_words) (sym (comments-others (texts_behind_end job)))
+
+-- ---- a job
+
+-- what the form pass leaves of a job, by what it leaves of the cards up to END
+record Read (job : List ℕ) (all : Found) : Type 0 where
+  found : Found
+  read : form_texts unread 1 (texts_up_to_end job) ≡ Ok found
+  went : Went found all (map (λ card. card.number) (behind_statements (cards_of job))) (texts_behind_end job)
+  count : length found.lines ≡ end_card job
+  reader : reader_cards job ≡ map card_words (comments (others_behind_end job))
+
+ended-same : (b : Bool) (found all : Found) (r : Refusal) → (if b then Ok found else Err r) ≡ Ok all → found ≡ all
+ended-same true found all r h = cc
+ended-same false found all r h = let no : ⊥ = cc in absurd no
+
+counted : (job : List ℕ) (found all : Found) → form_pass job (cards_of job) ≡ Ok all
+    → all.lines ≡ found.lines ++ quiet (map (λ card. card.number) (behind_statements (cards_of job)))
+    → length found.lines ≡ end_card job
+counted job found all is lines =
+    let cards = cards_of job in
+    let behind = behind_statements cards in
+    let ns = map (λ (card : Card). card.number) behind in
+    let whole : length all.lines ≡ length cards =
+        sym (length-map all.lines (λ (line : Line). line.card)) ∙ ap length (form_pass-numbers job cards all is)
+        ∙ length-map cards (λ (card : Card). card.number) in
+    let split = ap length lines ∙ length-append found.lines (quiet ns) in
+    let few = length-map ns silent ∙ length-map behind (λ (card : Card). card.number) in
+    let both = sym (length-append (up_to_end cards) behind) ∙ ap length (cards-split cards) in
+    omega (arith, whole, split, few, both)
+
+job-read : (job : List ℕ) (all : Found) → form_pass job (cards_of job) ≡ Ok all → Read job all
+unfolding form_pass
+job-read job all is =
+    let cards = cards_of job in
+    let front = up_to_end cards in
+    let behind = behind_statements cards in
+    let next = λ (from : Found) (cs : List Card). pass (form_card job) (λ card. card.number) from cs in
+    let formed = and_then-ok (with_end (length cards)) (next unread cards) all is in
+    let same : formed.first ≡ all = ended-same formed.first.ended formed.first all _ formed.last in
+    let good = are-good job cards (cards_stand job) (form_pass-faultless job cards all is) in
+    let split_good : AreGood job (front ++ behind) = subst (AreGood job) (sym (cards-split cards)) good in
+    let numbered : AreNumbered 1 (front ++ behind) =
+        subst (AreNumbered 1) (sym (cards-split cards)) (take-numbered 20001 1 (cards_from 1 0 (parted line_end job)) (from-numbered 1 0 (parted line_end job))) in
+    let two = and_then-ok (λ s. next s behind) (next unread front) all
+        (sym (pass-append (form_card job) (λ card. card.number) unread front behind)
+        ∙ ap (next unread) (cards-split cards) ∙ formed.is ∙ ap (λ (f : Found). Ok f) same) in
+    let on = went job two.first all behind (behind-good job front behind split_good) (no-statements cards) two.last in
+    record {
+      found = two.first;
+      read = sym (pass-texts job unread 1 front (front-numbered 1 front behind numbered) (front-good job front behind split_good)) ∙ two.is;
+      went = on;
+      count = counted job two.first all is on.lines;
+      reader = reader-others job (behind-good job front behind split_good);
+    }
+
+-- what a job gives, by what its cards up to END give
+record FromFront (job : List ℕ) (a : Assembly) : Type 0 where
+  found : Found
+  named : Named
+  laid : Laid
+  asked : Asked
+  read : form_texts unread 1 (texts_up_to_end job) ≡ Ok found
+  names : name_pass found.lines ≡ Ok named
+  values : value_pass (table named.symbols) found.lines named.places ≡ Ok laid
+  image : a.image ≡ laid.image
+  start : a.start ≡ laid.start
+  symbols : a.symbols ≡ named.symbols
+  rows : take (end_card job) a.rows ≡ laid.rows
+  asks : asked_with (still found.asked) (others_behind_end job) ≡ Some (still asked)
+  controls : a.asked ≡ with_defaults asked
+  reader : reader_cards job ≡ map card_words (comments (others_behind_end job))
+
+take-front : (n : ℕ) (xs ys : List Listed) → length xs ≡ n → take n (xs ++ ys) ≡ xs
+take-front zero [] ys same = refl
+take-front zero (x ∷ xs) ys same = let no : ⊥ = omega arith in absurd no
+take-front (suc n) [] ys same = let no : ⊥ = omega arith in absurd no
+take-front (suc n) (x ∷ xs) ys same = ap (λ l. x ∷ l) (take-front n xs ys (omega arith))
+
+from-parts : (job : List ℕ) (all : Found) (named : Named) (laid : Laid) → (read : Read job all)
+    → Parts read.found.lines (map (λ card. card.number) (behind_statements (cards_of job))) named laid
+    → FromFront job (together all named laid)
+from-parts job all named laid read parts = record {
+  found = read.found;
+  named = parts.named;
+  laid = parts.laid;
+  asked = all.asked;
+  read = read.read;
+  names = parts.names;
+  values = parts.values;
+  image = parts.image;
+  start = parts.start;
+  symbols = parts.symbols;
+  rows = ap (take (end_card job)) parts.rows
+      ∙ take-front (end_card job) parts.laid.rows (quiet_rows (map (λ card. card.number) (behind_statements (cards_of job)))) (parts.count ∙ read.count);
+  asks = read.went.asked;
+  controls = refl;
+  reader = read.reader;
+}
+
+from-front : (job : List ℕ) (a : Assembly) → assembly job ≡ Ok a → FromFront job a
+unfolding assembly
+from-front job a is =
+    let laying = λ (all : Found) (named : Named). and_then (value_pass (table named.symbols) all.lines named.places) (λ laid. Ok (together all named laid)) in
+    let f = and_then-ok (λ all. and_then (name_pass all.lines) (laying all)) (form_pass job (cards_of job)) a is in
+    let n = and_then-ok (laying f.first) (name_pass f.first.lines) a f.last in
+    let v = and_then-ok (λ laid. Ok (together f.first n.first laid)) (value_pass (table n.first.symbols) f.first.lines n.first.places) a n.last in
+    let same : together f.first n.first v.first ≡ a = cc in
+    let read = job-read job f.first f.is in
+    let ns = map (λ (card : Card). card.number) (behind_statements (cards_of job)) in
+    let lines = read.went.lines in
+    let parts = passes-parted read.found.lines ns n.first v.first (ap name_pass (sym lines) ∙ n.is)
+        (ap (λ ls. value_pass (table n.first.symbols) ls n.first.places) (sym lines) ∙ v.is) in
+    subst (FromFront job) same (from-parts job f.first n.first v.first read parts)
+
+-- ---- two jobs
+
+ok-same : {A : Type 0} (x y : A) → (the : Result A Refusal) → the ≡ Ok x → the ≡ Ok y → x ≡ y
+ok-same x y the one two = cc
+
+some-same : {A : Type 0} (x y : A) → (the : Option A) → the ≡ Some x → the ≡ Some y → x ≡ y
+some-same x y the one two = cc
+
+defaults-still : (ds : List ℕ) (asked : Asked) → record (with_defaults asked) { delays = ds } ≡ record (with_defaults (still asked)) { delays = ds }
+unfolding with_defaults
+defaults-still ds asked = refl
+
+-- jobs that differ in their delays cards give the same but for the delays
+pub cards-differ : (job other : List ℕ) (a b : Assembly) → assembly job ≡ Ok a → assembly other ≡ Ok b → DifferInDelaysCards job other
+    → DifferInDelays job other a b
+cards-differ job other a b is also h =
+    let x = from-front job a is in
+    let y = from-front other b also in
+    let found : x.found ≡ y.found =
+        ok-same x.found y.found (form_texts unread 1 (texts_up_to_end job)) x.read (ap (form_texts unread 1) h.up_to_end ∙ y.read) in
+    let named : x.named ≡ y.named =
+        ok-same x.named y.named (name_pass x.found.lines) x.names (ap (λ (f : Found). name_pass f.lines) found ∙ y.names) in
+    let laid : x.laid ≡ y.laid = ok-same x.laid y.laid (value_pass (table x.named.symbols) x.found.lines x.named.places) x.values
+        (ap (λ (f : Found). value_pass (table x.named.symbols) f.lines x.named.places) found
+        ∙ ap (λ (n : Named). value_pass (table n.symbols) y.found.lines n.places) named ∙ y.values) in
+    let asks : still x.asked ≡ still y.asked =
+        some-same (still x.asked) (still y.asked) (asked_with (still x.found.asked) (others_behind_end job)) x.asks
+        (ap (λ (f : Found). asked_with (still f.asked) (others_behind_end job)) found
+        ∙ ap (asked_with (still y.found.asked)) h.others ∙ y.asks) in
+    let ds = b.asked.delays in
+    record {
+      texts = h.up_to_end;
+      rows = x.rows ∙ ap (λ (l : Laid). l.rows) laid ∙ sym y.rows;
+      image = x.image ∙ ap (λ (l : Laid). l.image) laid ∙ sym y.image;
+      start = x.start ∙ ap (λ (l : Laid). l.start) laid ∙ sym y.start;
+      symbols = x.symbols ∙ ap (λ (n : Named). n.symbols) named ∙ sym y.symbols;
+      asked = ap (λ (z : Asked). record z { delays = ds }) x.controls
+          ∙ defaults-still ds x.asked
+          ∙ ap (λ (z : Asked). record (with_defaults z) { delays = ds }) asks
+          ∙ sym (defaults-still ds y.asked)
+          ∙ sym (ap (λ (z : Asked). record z { delays = ds }) y.controls);
+      reader = x.reader ∙ ap (λ l. map card_words (comments l)) h.others ∙ sym y.reader;
+    }

@@ -1,0 +1,201 @@
+-- What the passes of the assembler leave of the cards up to END, and of those behind it, which say nothing to the later passes.
+use Rattle.std.proofs.Common.{◌≡◌, ℕ, zero, suc, ◌+◌, Bool, true, false, if◌then◌else◌, List, [], ◌∷◌, ◌++◌, length, map, take, refl, sym, ◌∙◌, ap, append_assoc, append-nil, length-append, subst, arith, Result, Ok, Err, Option, Some, None, unwrap_or}
+use Rattle.std.specs.List.{zip, filter_map}
+use Rattle.std.proofs.lemmas.List.{length-map}
+use Rattle.std.proofs.lemmas.List.Elements.{filter_map-append}
+use Rattle.st_card.specs.declared.faults.Fault.{Fault}
+use Rattle.st_asm.specs.Pass.{Refusal, onward, pass, unless_faulty, and_then}
+use Rattle.st_asm.specs.Lines.{silent}
+use Rattle.st_asm.specs.Symbols.{table, has_name, names_of}
+use Rattle.st_asm.specs.Naming.{Named, unnamed, name_fault, name_step, name_card, name_pass}
+use Rattle.st_asm.specs.Valuing.{Laid, unlaid, value_card, value_pass}
+use Rattle.st_asm.specs.declared.naming.Symbol.{Symbol}
+use Rattle.st_asm.specs.declared.valuing.Listed.{Listed}
+use Rattle.st_asm.proofs.KeptLemmas.{name_pass-counts, value_pass-numbers}
+
+-- the type of a thing
+abbrev type_of : {X : Type 0} → X → Type 0
+type_of {X} x = X
+
+-- what a card is to the passes behind the first one
+abbrev pub Line : Type 0
+Line = type_of (silent 0)
+
+-- ---- passes
+
+-- what comes first, where something comes next
+pub record ComesNext {A B : Type 0} (next : A → Result B Refusal) (r : Result A Refusal) (b : B) : Type 0 where
+  pub first : A
+  pub is : r ≡ Ok first
+  pub last : next first ≡ Ok b
+
+pub and_then-ok : {A B : Type 0} (next : A → Result B Refusal) (r : Result A Refusal) (b : B) → and_then r next ≡ Ok b → ComesNext next r b
+and_then-ok next (Ok a) b h = record { first = a; is = refl; last = h }
+and_then-ok next (Err e) b h = let no : ⊥ = cc in absurd no
+
+-- a card that goes on
+pub record GoesOn {S T : Type 0} (rest : S → Result T Refusal) (r : Result S Fault) (t : T) : Type 0 where
+  pub state : S
+  pub good : r ≡ Ok state
+  pub next : rest state ≡ Ok t
+
+pub onward-ok : {S T : Type 0} (rest : S → Result T Refusal) (card : ℕ) (r : Result S Fault) (t : T) → onward rest card r ≡ Ok t → GoesOn rest r t
+onward-ok rest card (Ok s) t h = record { state = s; good = refl; next = h }
+onward-ok rest card (Err f) t h = let no : ⊥ = cc in absurd no
+
+pub onward-same : {S T : Type 0} (f g : S → Result T Refusal) (n : ℕ) (r : Result S Fault) → ((s : S) → f s ≡ g s) → onward f n r ≡ onward g n r
+onward-same f g n (Ok s) same = same s
+onward-same f g n (Err e) same = refl
+
+onward-then : {S T U : Type 0} (f : S → Result U Refusal) (g : S → Result T Refusal) (k : T → Result U Refusal) (n : ℕ) (r : Result S Fault)
+    → ((s : S) → f s ≡ and_then (g s) k) → onward f n r ≡ and_then (onward g n r) k
+onward-then f g k n (Ok s) same = same s
+onward-then f g k n (Err e) same = refl
+
+-- a pass over a list and one behind it
+pub pass-append : {S X : Type 0} (next : S → X → Result S Fault) (number : X → ℕ) (from : S) (xs ys : List X)
+    → pass next number from (xs ++ ys) ≡ and_then (pass next number from xs) (λ s. pass next number s ys)
+pass-append next number from [] ys = refl
+pass-append next number from (x ∷ xs) ys =
+    onward-then (λ s. pass next number s (xs ++ ys)) (λ s. pass next number s xs) (λ s. pass next number s ys) (number x) (next from x)
+    (λ s. pass-append next number s xs ys)
+
+-- ---- cards that say nothing
+
+-- the lines of cards that say nothing, by their numbers
+abbrev pub quiet : List ℕ → List Line
+quiet ns = map silent ns
+
+no-names : (ns : List ℕ) → names_of (quiet ns) ≡ []
+unfolding names_of
+no-names [] = refl
+no-names (n ∷ ns) = no-names ns
+
+names-same : (lines : List Line) (ns : List ℕ) → names_of (lines ++ quiet ns) ≡ names_of lines
+unfolding names_of
+names-same lines ns =
+    filter_map-append (λ (line : Line). line.name) lines (quiet ns)
+    ∙ ap (λ names. filter_map (λ (line : Line). line.name) lines ++ names) (no-names ns)
+    ∙ append-nil (filter_map (λ (line : Line). line.name) lines)
+
+-- no place for each
+abbrev pub no_places : List ℕ → List (Option ℕ)
+no_places ns = map (λ n. None) ns
+
+-- what is known with places more
+abbrev with_places : Named → List (Option ℕ) → Named
+with_places named places = record { location = named.location; symbols = named.symbols; places = named.places ++ places }
+
+name-silent : (on_cards : List ℕ → Bool) (named : Named) (n : ℕ) → name_card on_cards named (silent n) ≡ Ok (with_places named (None ∷ []))
+unfolding name_card name_fault name_step
+name-silent on_cards named n = ap (λ (ss : List Symbol). Ok (record { location = named.location; symbols = ss; places = named.places ++ None ∷ [] })) (append-nil named.symbols)
+
+name-quiet : (on_cards : List ℕ → Bool) (named : Named) (ns : List ℕ)
+    → pass (name_card on_cards) (λ line. line.card) named (quiet ns) ≡ Ok (with_places named (no_places ns))
+name-quiet on_cards named [] = ap (λ ps. Ok (record { location = named.location; symbols = named.symbols; places = ps })) (sym (append-nil named.places))
+name-quiet on_cards named (n ∷ ns) =
+    ap (λ r. onward (λ s. pass (name_card on_cards) (λ line. line.card) s (quiet ns)) n r) (name-silent on_cards named n)
+    ∙ name-quiet on_cards (with_places named (None ∷ [])) ns
+    ∙ ap (λ ps. Ok (record { location = named.location; symbols = named.symbols; places = ps })) (append_assoc named.places (None ∷ []) (no_places ns))
+
+pub names-parted : (lines : List Line) (ns : List ℕ)
+    → name_pass (lines ++ quiet ns) ≡ and_then (name_pass lines) (λ named. Ok (with_places named (no_places ns)))
+unfolding name_pass
+names-parted lines ns =
+    ap (λ names. pass (name_card (has_name names)) (λ line. line.card) unnamed (lines ++ quiet ns)) (names-same lines ns)
+    ∙ pass-append (name_card (has_name (names_of lines))) (λ line. line.card) unnamed lines (quiet ns)
+    ∙ then-same (pass (name_card (has_name (names_of lines))) (λ line. line.card) unnamed lines) where
+      then-same : (r : Result Named Refusal) → and_then r (λ s. pass (name_card (has_name (names_of lines))) (λ line. line.card) s (quiet ns))
+          ≡ and_then r (λ named. Ok (with_places named (no_places ns)))
+      then-same (Ok named) = name-quiet (has_name (names_of lines)) named ns
+      then-same (Err e) = refl
+
+-- their rows
+abbrev pub quiet_row : ℕ → Listed
+quiet_row n = record { card = n; location = None; bits = 0; length = 0 }
+
+abbrev pub quiet_rows : List ℕ → List Listed
+quiet_rows ns = map quiet_row ns
+
+-- what is laid with rows more
+abbrev with_rows : Laid → List Listed → Laid
+with_rows laid rows = record { image = laid.image; start = laid.start; rows = laid.rows ++ rows }
+
+-- cards that say nothing, with their places
+abbrev quiet_pairs : List ℕ → List (Line × Option ℕ)
+quiet_pairs ns = map (λ n. (silent n, None)) ns
+
+value-silent : (symbols : List (List ℕ × ℕ)) (laid : Laid) (n : ℕ) → value_card symbols laid (silent n, None) ≡ Ok (with_rows laid (quiet_row n ∷ []))
+unfolding value_card
+value-silent symbols laid n = refl
+
+value-quiet : (symbols : List (List ℕ × ℕ)) (laid : Laid) (ns : List ℕ)
+    → pass (value_card symbols) (λ p. p.0.card) laid (quiet_pairs ns) ≡ Ok (with_rows laid (quiet_rows ns))
+value-quiet symbols laid [] = ap (λ rows. Ok (record { image = laid.image; start = laid.start; rows = rows })) (sym (append-nil laid.rows))
+value-quiet symbols laid (n ∷ ns) =
+    ap (λ r. onward (λ s. pass (value_card symbols) (λ p. p.0.card) s (quiet_pairs ns)) n r) (value-silent symbols laid n)
+    ∙ value-quiet symbols (with_rows laid (quiet_row n ∷ [])) ns
+    ∙ ap (λ rows. Ok (record { image = laid.image; start = laid.start; rows = rows })) (append_assoc laid.rows (quiet_row n ∷ []) (quiet_rows ns))
+
+quiet-zipped : (ns : List ℕ) → zip (quiet ns) (no_places ns) ≡ quiet_pairs ns
+quiet-zipped [] = refl
+quiet-zipped (n ∷ ns) = ap (λ rest. (silent n, None) ∷ rest) (quiet-zipped ns)
+
+zipped-apart : (lines : List Line) (places : List (Option ℕ)) (ns : List ℕ) → length places ≡ length lines
+    → zip (lines ++ quiet ns) (places ++ no_places ns) ≡ zip lines places ++ quiet_pairs ns
+zipped-apart [] [] ns same = quiet-zipped ns
+zipped-apart [] (p ∷ ps) ns same = let no : ⊥ = omega arith in absurd no
+zipped-apart (l ∷ ls) [] ns same = let no : ⊥ = omega arith in absurd no
+zipped-apart (l ∷ ls) (p ∷ ps) ns same = ap (λ rest. (l, p) ∷ rest) (zipped-apart ls ps ns (omega arith))
+
+pub values-parted : (symbols : List (List ℕ × ℕ)) (lines : List Line) (places : List (Option ℕ)) (ns : List ℕ) → length places ≡ length lines
+    → value_pass symbols (lines ++ quiet ns) (places ++ no_places ns)
+    ≡ and_then (value_pass symbols lines places) (λ laid. Ok (with_rows laid (quiet_rows ns)))
+unfolding value_pass
+values-parted symbols lines places ns same =
+    ap (λ ps. pass (value_card symbols) (λ p. p.0.card) unlaid ps) (zipped-apart lines places ns same)
+    ∙ pass-append (value_card symbols) (λ p. p.0.card) unlaid (zip lines places) (quiet_pairs ns)
+    ∙ then-same (pass (value_card symbols) (λ p. p.0.card) unlaid (zip lines places)) where
+      then-same : (r : Result Laid Refusal) → and_then r (λ s. pass (value_card symbols) (λ p. p.0.card) s (quiet_pairs ns))
+          ≡ and_then r (λ laid. Ok (with_rows laid (quiet_rows ns)))
+      then-same (Ok laid) = value-quiet symbols laid ns
+      then-same (Err e) = refl
+
+-- ---- both later passes
+
+-- what the name pass and the value pass leave of lines, and with cards that say nothing behind them
+pub record Parts (lines : List Line) (ns : List ℕ) (all : Named) (whole : Laid) : Type 0 where
+  pub named : Named
+  pub laid : Laid
+  pub names : name_pass lines ≡ Ok named
+  pub values : value_pass (table named.symbols) lines named.places ≡ Ok laid
+  pub symbols : all.symbols ≡ named.symbols
+  pub image : whole.image ≡ laid.image
+  pub start : whole.start ≡ laid.start
+  pub rows : whole.rows ≡ laid.rows ++ quiet_rows ns
+  pub count : length laid.rows ≡ length lines
+
+pub passes-parted : (lines : List Line) (ns : List ℕ) (all : Named) (whole : Laid) → name_pass (lines ++ quiet ns) ≡ Ok all
+    → value_pass (table all.symbols) (lines ++ quiet ns) all.places ≡ Ok whole → Parts lines ns all whole
+passes-parted lines ns all whole has_names has_values =
+    let n = and_then-ok (λ named. Ok (with_places named (no_places ns))) (name_pass lines) all (sym (names-parted lines ns) ∙ has_names) in
+    let is : with_places n.first (no_places ns) ≡ all = cc in
+    let counted = name_pass-counts lines n.first n.is in
+    let at : value_pass (table n.first.symbols) (lines ++ quiet ns) (n.first.places ++ no_places ns) ≡ Ok whole =
+        ap (λ (m : Named). value_pass (table m.symbols) (lines ++ quiet ns) m.places) is ∙ has_values in
+    let v = and_then-ok (λ laid. Ok (with_rows laid (quiet_rows ns))) (value_pass (table n.first.symbols) lines n.first.places) whole
+        (sym (values-parted (table n.first.symbols) lines n.first.places ns counted) ∙ at) in
+    let so : with_rows v.first (quiet_rows ns) ≡ whole = cc in
+    record {
+      named = n.first;
+      laid = v.first;
+      names = n.is;
+      values = v.is;
+      symbols = ap (λ (m : Named). m.symbols) (sym is);
+      image = ap (λ (l : Laid). l.image) (sym so);
+      start = ap (λ (l : Laid). l.start) (sym so);
+      rows = ap (λ (l : Laid). l.rows) (sym so);
+      count = sym (length-map v.first.rows (λ (row : Listed). row.card))
+          ∙ ap length (value_pass-numbers (table n.first.symbols) lines n.first.places v.first v.is counted)
+          ∙ length-map lines (λ (line : Line). line.card);
+    }

@@ -1,0 +1,66 @@
+-- Jobs whose texts differ in their delays cards alone. They write the same, but for the lines that are marked.
+use Rattle.std.specs.Prelude.{◌≡◌, ℕ, ◌&&◌, Bool, true, false, not, List, [], ◌∷◌, map, filter, Option, Some, None, Ok}
+use Rattle.st_text.specs.Pieces.{words}
+use Rattle.st_text.specs.Tables.{row_of}
+use Rattle.st_card.specs.Cards.{cards_of, text_in, kind_of, columns}
+use Rattle.st_card.specs.Controls.{keywords}
+use Rattle.st_card.specs.declared.cards.CardKind.{CardKind}
+use Rattle.st_card.specs.declared.cards.CardKind.TheVariants.{Comment, Control, Statement}
+use Rattle.st_card.specs.declared.keywords.Keyword.{Keyword}
+use Rattle.st_card.specs.declared.keywords.Keyword.TheVariants.{Budget, Delays, Signals, Dump, Snap, Back, Listing, Trace, Time, Chart}
+use Rattle.st_asm.specs.Assembly.{Assembly, assembly}
+use Rattle.st_exch.specs.Reader.{behind_statements}
+use Rattle.st_io.specs.Event.{lines_of}
+use Rattle.st_top.specs.Marks.{all_lines, unmarked, marked_output, texts_up_to_end}
+use Rattle.st_top.specs.Output.{output_of}
+use Rattle.st_top.specs.declared.command.Command.{Command}
+use Rattle.st_top.specs.declared.command.Command.TheVariants.{Run}
+
+-- whether a keyword is that of delays
+abbrev pub is_delays : Option Keyword → Bool
+is_delays None = false
+is_delays (Some Budget) = false
+is_delays (Some Delays) = true
+is_delays (Some Signals) = false
+is_delays (Some Dump) = false
+is_delays (Some Snap) = false
+is_delays (Some Back) = false
+is_delays (Some Listing) = false
+is_delays (Some Trace) = false
+is_delays (Some Time) = false
+is_delays (Some Chart) = false
+
+-- whether words begin with that keyword
+abbrev pub begins_delays : List (List ℕ) → Bool
+begins_delays [] = false
+begins_delays (word ∷ more) = is_delays (row_of word keywords)
+
+-- whether a kind is that of control cards
+abbrev pub is_control : CardKind → Bool
+is_control Comment = false
+is_control Control = true
+is_control Statement = false
+
+-- whether a card with this text is a delays card: a control card that begins with `/DELAYS`
+unfoldable pub is_delays_card : List ℕ → Bool
+is_delays_card text = is_control (kind_of text) && begins_delays (words (columns text))
+
+-- the texts of a job's cards behind END
+abbrev pub texts_behind_end : List ℕ → List (List ℕ)
+texts_behind_end job = map (text_in job) (behind_statements (cards_of job))
+
+-- those of them that are not delays cards
+abbrev pub others_behind_end : List ℕ → List (List ℕ)
+others_behind_end job = filter (λ text. not (is_delays_card text)) (texts_behind_end job)
+
+-- two jobs have the same cards, in the same order, once the delays cards are taken out of both
+pub record DifferInDelaysCards (job other : List ℕ) : Type 0 where
+  pub up_to_end : texts_up_to_end job ≡ texts_up_to_end other
+  pub others : others_behind_end job ≡ others_behind_end other
+
+-- delays show in marked lines alone: those with their marks are the lines that a command writes, and two jobs that are
+-- not refused and differ in their delays cards alone have the same of those that are not marked
+pub record DelaysShowInMarksAlone : Type 0 where
+  pub lines : (command : Command) (job : List ℕ) → all_lines (marked_output command job) ≡ lines_of (output_of command job).events
+  pub jobs : (job other : List ℕ) (a b : Assembly) → assembly job ≡ Ok a → assembly other ≡ Ok b
+      → DifferInDelaysCards job other → unmarked (marked_output Run job) ≡ unmarked (marked_output Run other)
