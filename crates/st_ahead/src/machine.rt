@@ -127,13 +127,7 @@ impl<const N: usize> Machine<N> {
         if now > last {
             return None;
         }
-        let stop = self.look.run_to(
-            count,
-            last,
-            &mut self.taken,
-            &mut self.state,
-            &self.delays,
-        );
+        let stop = self.look.run_to(count, last, &mut self.taken, &mut self.state, &self.delays);
         let number = done_in(&self.state);
         let Some(stop) = stop else {
             self.now = last + 1;

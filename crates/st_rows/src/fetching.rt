@@ -46,14 +46,7 @@ impl Fetching {
     /// Fetches the next instruction word, which is wanted from `from` on; the read that is made for it, where it was not held, is noted in the log.
     #[tactic(auto, unfolding(crate::specs::Rows::fetch_word))]
     #[inline(always)]
-    pub fn word(
-        &mut self,
-        log: &mut Log,
-        delays: &Delays,
-        past: &LastEntries,
-        w: u32,
-        from: u64,
-    )
+    pub fn word(&mut self, log: &mut Log, delays: &Delays, past: &LastEntries, w: u32, from: u64)
         requires room { IsFetchingWithin (2 ^ 64 - 512) self.old }
         requires before { ArePastWithin (2 ^ 64 - 512) past.now }
         requires early { from ≤ 2 ^ 64 - 512 }

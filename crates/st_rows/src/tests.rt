@@ -108,13 +108,7 @@ fn fetch(front: &Front, delays: &Delays, entry: &Entry, log: &mut Log) -> Fetchi
 }
 
 // The row of an entry whose word is fetched; the front stands behind it then.
-fn finish(
-    front: &mut Front,
-    delays: &Delays,
-    entry: &Entry,
-    words: Fetching,
-    log: &mut Log,
-) -> Row
+fn finish(front: &mut Front, delays: &Delays, entry: &Entry, words: Fetching, log: &mut Log) -> Row
     requires entry { IsEntry entry.now }
     requires words { words ≡ fetched delays.now front.old entry.now }
     requires tight { IsTight 255 front.old }

@@ -19,15 +19,24 @@ push-requires g c =
     let at : c.due-due.result ≡ due_of c.plan_before.new.self.levels.plans = c.due-due.ensures ∙ ap (λ (v : LevelsView). due_of v.plans) (sym c.plan_before.ensures.levels) in
     let p = c.next_prepared-p.ensures in (
       omega arith,
-      (c.requires.some, (c.requires.few, (omega (arith, p, yes.2, c.requires.early), (
-        record {
-          table = goes.table;
-          front = goes.front;
-          going = going-at ds n goes.goes.tick c.due-due.result c.next_prepared-p.result (c.next_prepared-p.result + 1) goes.table s goes.front c.plan_before.new.self
-              (omega (arith, p, is.late yes.0)) (omega (arith, p, yes.1, at)) yes.0 (sym p) is;
-        },
-        (yes.0, sym p)
-      )))),
+      (
+        c.requires.some,
+        (
+          c.requires.few,
+          (
+            omega (arith, p, yes.2, c.requires.early),
+            (
+              record {
+                table = goes.table;
+                front = goes.front;
+                going = going-at ds n goes.goes.tick c.due-due.result c.next_prepared-p.result (c.next_prepared-p.result + 1) goes.table s goes.front c.plan_before.new.self
+                    (omega (arith, p, is.late yes.0)) (omega (arith, p, yes.1, at)) yes.0 (sym p) is;
+              },
+              (yes.0, sym p),
+            ),
+          ),
+        ),
+      ),
     )
 
 pub entries-preserved : goal.entries-preserved

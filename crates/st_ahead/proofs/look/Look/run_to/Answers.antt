@@ -30,13 +30,24 @@ entries-init g c = record {
 pub go_to-requires : goal.go_to-requires
 go_to-requires g c =
     let starts = c.requires.starts in
-    let run = c.entries.invariant.each starts.front starts.now starts.look starts.soon starts.awake in
-    (omega arith, (c.requires.some, (c.requires.few, (c.requires.early, record {
-      table = c.entries.taken;
-      front = run.front;
-      since = run.tick;
-      goes = record { tick = run.tick; going = run.going; behind = omega arith; soon = run.soon };
-    }))))
+    let run = c.entries.invariant.each starts.front starts.now starts.look starts.soon starts.awake in (
+      omega arith,
+      (
+        c.requires.some,
+        (
+          c.requires.few,
+          (
+            c.requires.early,
+            record {
+              table = c.entries.taken;
+              front = run.front;
+              since = run.tick;
+              goes = record { tick = run.tick; going = run.going; behind = omega arith; soon = run.soon };
+            },
+          ),
+        ),
+      ),
+    )
 
 pub complete-done-requires : goal.complete-done-requires
 complete-done-requires g c =

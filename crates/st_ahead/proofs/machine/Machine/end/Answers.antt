@@ -28,9 +28,16 @@ end-dropped-requires g c =
     let done = subst (λ (m : Overlap). IsSome m.closing) (sym c.self.view_is) c.requires.done in
     let e = ending g.row.N i.delays i.state i.taken i.behind i.now i.owed i.ended i.fresh i.look c.self.invariant owes c.if-self.false
     (fresh-closing g.row.N i.delays i.state i.taken i.behind i.now i.owed i.ended i.fresh i.look done) in
-    let early : i.now < 2 ^ 63 = e.early in
-    (omega arith, (tt, (omega (arith, early),
-    c.self.invariant.near (fresh-closing g.row.N i.delays i.state i.taken i.behind i.now i.owed i.ended i.fresh i.look done))))
+    let early : i.now < 2 ^ 63 = e.early in (
+      omega arith,
+      (
+        tt,
+        (
+          omega (arith, early),
+          c.self.invariant.near (fresh-closing g.row.N i.delays i.state i.taken i.behind i.now i.owed i.ended i.fresh i.look done),
+        ),
+      ),
+    )
 
 pub invariant_of-self : goal.invariant_of-self
 invariant_of-self g c =

@@ -29,13 +29,28 @@ run_to-stop-requires g c =
     let few = subst (λ (m : Overlap). m.state.done < 2 ^ 63) (sym c.self.view_is) c.requires.done in
     let at = idle n i.delays i.state i.taken i.behind i.now i.owed i.ended i.fresh i.look c.self.invariant owes in (
       omega arith,
-      (c.self.invariant.some, (c.self.invariant.few, (c.requires.last, (c.requires.count, (few, record {
-        front = oldest_front i.look.levels.plans i.look.front;
-        now = i.now;
-        look = at.look;
-        soon = omega (arith, c.if-now-last.false);
-        awake = awake-inside n i.delays i.state i.taken i.behind i.now i.owed i.ended i.fresh i.look c.self.invariant owes;
-      }))))),
+      (
+        c.self.invariant.some,
+        (
+          c.self.invariant.few,
+          (
+            c.requires.last,
+            (
+              c.requires.count,
+              (
+                few,
+                record {
+                  front = oldest_front i.look.levels.plans i.look.front;
+                  now = i.now;
+                  look = at.look;
+                  soon = omega (arith, c.if-now-last.false);
+                  awake = awake-inside n i.delays i.state i.taken i.behind i.now i.owed i.ended i.fresh i.look c.self.invariant owes;
+                },
+              ),
+            ),
+          ),
+        ),
+      ),
     )
 
 pub invariant_of-self : goal.invariant_of-self
