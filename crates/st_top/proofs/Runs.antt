@@ -1,6 +1,7 @@
 -- Writing the report of a run: what is told, one thing after another, and the lines before and behind it.
 use Rattle.std.proofs.Common.{◌≡◌, ℕ, ◌≤◌, false, length, List, [], ◌∷◌, ◌++◌, arith, refl, sym, ◌∙◌, ap, subst}
 use Rattle.std.specs.Prelude.{All, Result, Ok, Err, IsErr}
+use Rattle.std.proofs.lemmas.List.Elements.{All-head, All-tail}
 use Rattle.st_card.specs.Controls.{Asked}
 use Rattle.st_io.specs.Output.{OutputState}
 use Rattle.st_io.specs.declared.Failed.{Failed}
@@ -51,7 +52,8 @@ rows-report : (asked : Asked) (rows new : List Told) → asked.trace ≡ false �
     → report asked (rows ++ new) ≡ report asked new
 rows-report asked [] new trace chart are = refl
 rows-report asked (x ∷ rows) new trace chart are =
-    row-report asked x (rows ++ new) trace chart are.0 ∙ rows-report asked rows new trace chart are.1
+    row-report asked x (rows ++ new) trace chart (All-head (λ (y : Told). IsDone y.what) x rows are)
+    ∙ rows-report asked rows new trace chart (All-tail (λ (y : Told). IsDone y.what) x rows are)
 
 rows-moment : (m : Moment) (rows new : List Told) (last : Told) → last_moment m (rows ++ last ∷ new) ≡ last_moment (moment_of last) new
 unfolding last_moment

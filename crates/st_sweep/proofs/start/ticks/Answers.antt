@@ -14,4 +14,4 @@ pub run-preserved : goal.run-preserved
 run-preserved g c = record { same = sym (c.in-Some.ensures.told c.run.tick) ∙ c.run.invariant.same }
 
 pub returns : goal.returns
-returns g c = sym (last_told-end c.run.tick _ c.in_default.ensures) ∙ c.run.invariant.same
+returns g c = sym (last_told-end c.run.tick _ c.in_default.ensures.told) ∙ c.run.invariant.same
