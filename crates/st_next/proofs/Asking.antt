@@ -1,6 +1,6 @@
 -- What one step asks for, and what it needs; there is a state before the entry by which it is known.
 use Rattle.std.specs.Prelude.{All}
-use Rattle.std.proofs.Common.{◌≡◌, ℕ, ◌+◌, ◌*◌, ◌-◌, ◌^◌, ◌≤◌, ◌<◌, max, Bool, true, false, if◌then◌else◌, List, [], ◌∷◌, ◌++◌, map, Option, None, Some, refl, sym, ◌∙◌, ap, arith, append_assoc}
+use Rattle.std.proofs.Common.{◌≡◌, ℕ, ◌+◌, ◌*◌, ◌-◌, ◌^◌, ◌≤◌, max, Bool, true, false, if◌then◌else◌, List, [], ◌∷◌, ◌++◌, map, Option, None, Some, refl, sym, ◌∙◌, ap, arith, append_assoc}
 use Rattle.std.proofs.lemmas.List.{append-nil}
 use Rattle.std.proofs.lemmas.List.Elements.{All-cons, All-nil}
 use Rattle.st_fetch.specs.Planned.{tick_of}
@@ -10,7 +10,7 @@ use Rattle.st_prep.specs.declared.entries.Fetching.TheVariants.{Next as GivenWor
 use Rattle.st_prep.specs.Plan.{seen, sight}
 use Rattle.st_prep.specs.Ranges.{IsPlace}
 use Rattle.st_prep.proofs.PlanLemmas.{sight-fits}
-use Rattle.st_rows.specs.Asked.{Read, side_asked, served}
+use Rattle.st_rows.specs.Asked.{side_asked, served}
 use Rattle.st_rows.specs.BusTimes.{requested}
 use Rattle.st_rows.specs.Notes.{noted}
 use Rattle.st_rows.specs.Ranges.{IsEntry, AreDelays}

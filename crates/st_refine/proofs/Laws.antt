@@ -1,6 +1,6 @@
 -- The laws of machines that calls within the protocol lead to.
 use Rattle.std.specs.Prelude.{if◌then◌else◌}
-use Rattle.std.proofs.Common.{◌≡◌, ℕ, zero, suc, ◌+◌, ◌-◌, ◌<◌, ◌≤◌, ◌^◌, true, false, None, Some, refl, sym, subst, ◌∙◌, ap, arith}
+use Rattle.std.proofs.Common.{◌≡◌, ℕ, zero, suc, ◌+◌, ◌-◌, ◌<◌, ◌≤◌, ◌^◌, false, None, Some, refl, sym, subst, ◌∙◌, ap, arith}
 use Rattle.st_ahead.specs.Overlap.{Overlap}
 use Rattle.st_ahead.specs.Calls.{is_done, ticked, settled}
 use Rattle.st_ahead.specs.RunTo.{after_ticks, ArePassed, RunsTo}

@@ -9,7 +9,7 @@ use Rattle.st_exec.specs.Step.{interrupt, rests, step}
 use Rattle.st_exec.specs.Transfer.{read_in}
 use Rattle.st_exec.proofs.StepLemmas.{step-done}
 use Rattle.st_banks.specs.declared.answers.LastAnswers.{LastAnswers}
-use Rattle.st_rows.specs.Asked.{Read, asked, served, made_before}
+use Rattle.st_rows.specs.Asked.{asked, served, made_before}
 use Rattle.st_rows.specs.Rows.{row, after, opening, addressed, prepared, tick_a, tick_p, tick_c}
 use Rattle.st_rows.specs.declared.bus.Bus.{Bus}
 use Rattle.st_rows.specs.declared.entry.Entry.{Entry}

@@ -1,6 +1,6 @@
 -- Reads that are made before a tick.
 use Rattle.std.specs.Prelude.{nat_lt}
-use Rattle.std.proofs.Common.{◌≡◌, ℕ, ◌+◌, ◌<◌, ◌≤◌, true, false, List, [], ◌∷◌, ◌++◌, All, refl, ap, inl, inr, ◌⊎◌, arith}
+use Rattle.std.proofs.Common.{◌≡◌, ℕ, ◌+◌, ◌<◌, ◌≤◌, true, false, List, [], ◌∷◌, ◌++◌, All, refl, inl, inr, ◌⊎◌, arith}
 use Rattle.std.proofs.lemmas.Bool.{cases_Bool, ltb-true, lt-ltb, ltb-false}
 use Rattle.std.proofs.lemmas.List.Elements.{All-head}
 use Rattle.st_rows.specs.Asked.{Read, after_one, served, made_before}

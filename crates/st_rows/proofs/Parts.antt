@@ -1,5 +1,5 @@
 -- The reads of an entry in their parts, when they are wanted, and when the bus is free of them.
-use Rattle.std.proofs.Common.{◌≡◌, ℕ, ◌+◌, ◌≤◌, List, ◌++◌, All, refl, sym, ap, ◌∙◌, append_assoc, arith}
+use Rattle.std.proofs.Common.{◌≡◌, ℕ, ◌≤◌, List, ◌++◌, All, refl, sym, ap, ◌∙◌, append_assoc, arith}
 use Rattle.std.proofs.lemmas.List.Elements.{All-append}
 use Rattle.st_rows.specs.Asked.{Read, side_asked, operands_asked, runs_asked, following_asked, fetches_asked, formed_asked, prepared_asked, data_of, asked, served}
 use Rattle.st_rows.specs.Ranges.{AreDelays, IsEntry, IsTight}

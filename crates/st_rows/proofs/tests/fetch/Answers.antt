@@ -1,5 +1,4 @@
-use Rattle.std.proofs.Common.{◌≡◌, ◌+◌, ◌-◌, ◌*◌, ◌^◌, ◌≤◌, refl, ◌∙◌, arith}
-use Rattle.st_rows.specs.Ranges.{IsFetchingWithin}
+use Rattle.std.proofs.Common.{◌+◌, ◌-◌, ◌*◌, ◌^◌, refl, ◌∙◌, arith}
 use Rattle.st_rows.specs.Rows.{fetch_words, fetched}
 use Rattle.st_rows.proofs.Within.{past-weaker, bus-weaker}
 use Rattle.st_rows.proofs.Stages.{tight-bus, wanted-early}

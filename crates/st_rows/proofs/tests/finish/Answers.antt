@@ -1,4 +1,4 @@
-use Rattle.std.proofs.Common.{◌≡◌, ◌+◌, ◌≤◌, arith}
+use Rattle.std.proofs.Common.{arith}
 use Rattle.st_rows.specs.Rows.{after}
 use Rattle.st_rows.proofs.Within.{AreDelays-list}
 use Rattle.st_rows.proofs.Stages.{c-within}

@@ -1,4 +1,4 @@
-use Rattle.std.proofs.Common.{◌≡◌, ◌+◌, ◌-◌, ◌≤◌, refl, sym, ◌∙◌, ap, arith}
+use Rattle.std.proofs.Common.{refl, sym, ◌∙◌, ap, arith}
 use Rattle.st_prep.specs.declared.entries.Fetching.TheVariants.{Next}
 use Rattle.st_rows.proofs.Within.{AreDelays-list}
 use Rattle.st_next.proofs.Steps.{own-goes}

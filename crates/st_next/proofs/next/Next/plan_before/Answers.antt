@@ -1,4 +1,4 @@
-use Rattle.std.proofs.Common.{◌+◌, ◌-◌, ◌≤◌, refl, sym, subst, ◌∙◌, ap, arith}
+use Rattle.std.proofs.Common.{refl, sym, subst, ◌∙◌, ap, arith}
 use Rattle.st_rows.specs.Ranges.{IsEntry}
 use Rattle.st_rows.specs.Rows.{tick_a, bus_a, tick_p}
 use Rattle.st_next.proofs.Goes.{goes-then, goes-waits, known-then}

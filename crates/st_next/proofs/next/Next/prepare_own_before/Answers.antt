@@ -1,4 +1,4 @@
-use Rattle.std.proofs.Common.{◌≡◌, ◌+◌, ◌-◌, ◌≤◌, refl, arith}
+use Rattle.std.proofs.Common.{refl, arith}
 use Rattle.st_next.proofs.Goes.{goes-then, known-then}
 use Rattle.st_next.proofs.Steps.{prepared-goes}
 use Rattle.st_next.proofs.Asking.{known-words, known-place, further-then}
