@@ -1,11 +1,26 @@
 -- Delays show in marked lines alone.
-use Rattle.st_top.specs.Delays.{DelaysShowInMarksAlone}
-use Rattle.st_top.proofs.MarkLemmas.{lines-output}
-use Rattle.st_top.proofs.JobLemmas.{jobs-same}
+use Rattle.st_top.specs.Delays.{MarksAreTheReport, DelaysChangeNothingButTheTimetable, JobsThatDifferInDelaysAlone, DelaysShowInMarksAlone}
+use Rattle.st_top.proofs.MarkLemmas.{lines-run, lines-output}
+use Rattle.st_top.proofs.DelayLemmas.{run-same}
+use Rattle.st_top.proofs.JobLemmas.{jobs-same, texts-same}
 use Rattle.st_top.proofs.PartedJobs.{cards-differ}
 
-pub delays-show : DelaysShowInMarksAlone
-delays-show = record {
-  lines = lines-output;
-  jobs = λ job other a b is also h. jobs-same job other a b is also (cards-differ job other a b is also h);
+pub marks_are_the_report : MarksAreTheReport
+marks_are_the_report = record { run = lines-run; output = lines-output }
+
+pub delays_change_nothing_but_the_timetable : DelaysChangeNothingButTheTimetable
+delays_change_nothing_but_the_timetable = run-same
+
+pub jobs_that_differ_in_delays_alone : JobsThatDifferInDelaysAlone
+jobs_that_differ_in_delays_alone = record {
+  texts = λ job other a b is also h. jobs-same job other a b is also (cards-differ job other a b is also h);
+  run = jobs-same;
+  load = texts-same;
+}
+
+pub delays_show_in_marks_alone : DelaysShowInMarksAlone
+delays_show_in_marks_alone = record {
+  marks = marks_are_the_report;
+  runs = delays_change_nothing_but_the_timetable;
+  jobs = jobs_that_differ_in_delays_alone;
 }

@@ -3,18 +3,21 @@ use Rattle.std.specs.Prelude.{◌≡◌, ℕ, ◌&&◌, Bool, true, false, not, 
 use Rattle.st_text.specs.Pieces.{words}
 use Rattle.st_text.specs.Tables.{row_of}
 use Rattle.st_card.specs.Cards.{cards_of, text_in, kind_of, columns}
-use Rattle.st_card.specs.Controls.{keywords}
+use Rattle.st_card.specs.Controls.{Asked, keywords}
 use Rattle.st_card.specs.declared.cards.CardKind.{CardKind}
 use Rattle.st_card.specs.declared.cards.CardKind.TheVariants.{Comment, Control, Statement}
 use Rattle.st_card.specs.declared.keywords.Keyword.{Keyword}
 use Rattle.st_card.specs.declared.keywords.Keyword.TheVariants.{Budget, Delays, Signals, Dump, Snap, Back, Listing, Trace, Time, Chart}
 use Rattle.st_asm.specs.Assembly.{Assembly, assembly}
 use Rattle.st_exch.specs.Reader.{behind_statements}
+use Rattle.st_run.specs.Run.{Scene}
 use Rattle.st_io.specs.Event.{lines_of}
-use Rattle.st_top.specs.Marks.{all_lines, unmarked, marked_output, texts_up_to_end}
+use Rattle.st_object.specs.Object.{Program, read_text}
+use Rattle.st_top.specs.Marks.{all_lines, unmarked, marked_run, marked_output, texts_up_to_end, DifferInDelays}
 use Rattle.st_top.specs.Output.{output_of}
+use Rattle.st_top.specs.StepsBack.{run_report}
 use Rattle.st_top.specs.declared.command.Command.{Command}
-use Rattle.st_top.specs.declared.command.Command.TheVariants.{Run}
+use Rattle.st_top.specs.declared.command.Command.TheVariants.{Run, Load}
 
 -- whether a keyword is that of delays
 abbrev pub is_delays : Option Keyword → Bool
@@ -58,9 +61,30 @@ pub record DifferInDelaysCards (job other : List ℕ) : Type 0 where
   pub up_to_end : texts_up_to_end job ≡ texts_up_to_end other
   pub others : others_behind_end job ≡ others_behind_end other
 
--- delays show in marked lines alone: those with their marks are the lines that a command writes, and two jobs that are
--- not refused and differ in their delays cards alone have the same of those that are not marked
-pub record DelaysShowInMarksAlone : Type 0 where
-  pub lines : (command : Command) (job : List ℕ) → all_lines (marked_output command job) ≡ lines_of (output_of command job).events
-  pub jobs : (job other : List ℕ) (a b : Assembly) → assembly job ≡ Ok a → assembly other ≡ Ok b
+-- the lines with their marks are those of the report of a run, one by one, and those that a command writes
+pub record MarksAreTheReport : Type 0 where
+  pub run : (asked : Asked) (start : Scene) → all_lines (marked_run asked start) ≡ lines_of (run_report asked start)
+  pub output : (command : Command) (job : List ℕ) → all_lines (marked_output command job) ≡ lines_of (output_of command job).events
+
+-- with other delays, and other cards `/SNAP`, `/TIME` and `/CHART`, a run has the same lines that are not marked
+abbrev pub DelaysChangeNothingButTheTimetable : Type 0
+DelaysChangeNothingButTheTimetable = (asked : Asked) (ds snaps : List ℕ) (time chart : Bool) (start : Scene) →
+    unmarked (marked_run (record asked { delays = ds; snaps = snaps; time = time; chart = chart }) start)
+    ≡ unmarked (marked_run asked start)
+
+-- two jobs that are not refused, and whose texts differ in their delays cards alone, write the same lines that are not
+-- marked. So do all jobs that give the same but for the delays, and object texts of programs that differ in their delays alone
+pub record JobsThatDifferInDelaysAlone : Type 0 where
+  pub texts : (job other : List ℕ) (a b : Assembly) → assembly job ≡ Ok a → assembly other ≡ Ok b
       → DifferInDelaysCards job other → unmarked (marked_output Run job) ≡ unmarked (marked_output Run other)
+  pub run : (job other : List ℕ) (a b : Assembly) → assembly job ≡ Ok a → assembly other ≡ Ok b
+      → DifferInDelays job other a b → unmarked (marked_output Run job) ≡ unmarked (marked_output Run other)
+  pub load : (text other : List ℕ) (p q : Program) → read_text text ≡ Ok p → read_text other ≡ Ok q
+      → record p { controls = record p.controls { delays = q.controls.delays } } ≡ q
+      → unmarked (marked_output Load text) ≡ unmarked (marked_output Load other)
+
+-- delays show in marked lines alone
+pub record DelaysShowInMarksAlone : Type 0 where
+  pub marks : MarksAreTheReport
+  pub runs : DelaysChangeNothingButTheTimetable
+  pub jobs : JobsThatDifferInDelaysAlone

@@ -6,7 +6,6 @@
 mod answer;
 mod block;
 mod command;
-mod delays;
 mod execution;
 mod layer_error;
 mod listing;
@@ -22,8 +21,5 @@ mod telling;
 
 pub use answer::{Answer, Status};
 pub use command::Command;
-pub use delays::{
-    delays_change_nothing_but_the_timetable, jobs_that_differ_in_delays_alone, marks_are_the_report,
-};
 pub use objects::{lines_are_the_deck, lines_are_the_object_text};
 pub use program::stretch;

@@ -8,6 +8,7 @@ ghost use Rattle.st_top.specs.CommandLine.{is_plain};
 ghost use Rattle.st_top.specs.declared.command.Command.TheVariants.{Assemble, Load, Disassemble, Sweep};
 ghost use Rattle.st_top.specs.Output.{output_of, delays_of, ran_by, assembled_delays, soaked, soaked_delays};
 ghost use Rattle.st_top.specs.Answers.{Did, Acted, IsAnswer, Writes, KeepsTime};
+ghost use Rattle.st_top.specs.Delays.{DelaysShowInMarksAlone};
 ghost use Rattle.st_top.specs.Layers.{Ends, Tries};
 
 use crate::answer::{Answer, Status};
@@ -194,6 +195,9 @@ fn act<S: Source, K: Sink>(alloc: Global, command: Command, job: &mut S, out: &m
 /// writes its deck; `sweep` assembles it, runs it with an empty reader on machines of one to eight levels, and writes the
 /// ticks of each run. `soak` reads no job: it makes the deck of a seed and a number of cards, and does with it what `run`
 /// does, behind a line that names them. Each line is written by itself, and all memory is taken before the first one.
+/// Lines that are not of the timetable are the same under every list of delays (`docs/report.md`, "What depends on the
+/// delays").
+#[tactic(auto, using(st_bits::specs::Storage::words_of_storage_is, crate::proofs::Delayed::delays_show_in_marks_alone))]
 pub fn stretch<S: Source, K: Sink>(
     alloc: Global,
     words: &[String],
@@ -212,6 +216,10 @@ pub fn stretch<S: Source, K: Sink>(
         → result.status ≡ Status.Usage }
     ensures some { length words.now ≡ 0 → result.status ≡ Status.Usage }
     ensures few { 3 < length words.now → result.status ≡ Status.Usage }
+
+    // Whatever was asked for: which of the lines that a command writes depend on the delays of storage, and that two jobs whose
+    // cards differ in `/DELAYS` alone have all others in common.
+    ensures delays { DelaysShowInMarksAlone }
 {
     match read_words(alloc, words) {
         Ok(Some(command)) => act(alloc, command, job, out),
