@@ -155,6 +155,7 @@ unfolding asked_with is_delays_card
 asks-control a b to text texts kind is rest = by (begins_delays (words (columns text))) refl where
   card-is : is_delays_card text ≡ begins_delays (words (columns text))
   card-is = ap (λ (k : CardKind). is_control k && begins_delays (words (columns text))) kind
+
   by : (d : Bool) → begins_delays (words (columns text)) ≡ d → asked_with (still a) (others (text ∷ texts)) ≡ to
   by true d =
       ap (λ l. asked_with (still a) l) (others-left text texts (card-is ∙ d))

@@ -236,8 +236,8 @@ counted job found all is lines =
     let behind = behind_statements cards in
     let ns = map (λ (card : Card). card.number) behind in
     let whole : length all.lines ≡ length cards =
-        sym (length-map all.lines (λ (line : Line). line.card)) ∙ ap length (form_pass-numbers job cards all is)
-        ∙ length-map cards (λ (card : Card). card.number) in
+    sym (length-map all.lines (λ (line : Line). line.card)) ∙ ap length (form_pass-numbers job cards all is)
+    ∙ length-map cards (λ (card : Card). card.number) in
     let split = ap length lines ∙ length-append found.lines (quiet ns) in
     let few = length-map ns silent ∙ length-map behind (λ (card : Card). card.number) in
     let both = sym (length-append (up_to_end cards) behind) ∙ ap length (cards-split cards) in
@@ -255,10 +255,10 @@ job-read job all is =
     let good = are-good job cards (cards_stand job) (form_pass-faultless job cards all is) in
     let split_good : AreGood job (front ++ behind) = subst (AreGood job) (sym (cards-split cards)) good in
     let numbered : AreNumbered 1 (front ++ behind) =
-        subst (AreNumbered 1) (sym (cards-split cards)) (take-numbered 20001 1 (cards_from 1 0 (parted line_end job)) (from-numbered 1 0 (parted line_end job))) in
+    subst (AreNumbered 1) (sym (cards-split cards)) (take-numbered 20001 1 (cards_from 1 0 (parted line_end job)) (from-numbered 1 0 (parted line_end job))) in
     let two = and_then-ok (λ s. next s behind) (next unread front) all
-        (sym (pass-append (form_card job) (λ card. card.number) unread front behind)
-        ∙ ap (next unread) (cards-split cards) ∙ formed.is ∙ ap (λ (f : Found). Ok f) same) in
+    (sym (pass-append (form_card job) (λ card. card.number) unread front behind)
+    ∙ ap (next unread) (cards-split cards) ∙ formed.is ∙ ap (λ (f : Found). Ok f) same) in
     let on = went job two.first all behind (behind-good job front behind split_good) (no-statements cards) two.last in
     record {
       found = two.first;
@@ -324,7 +324,7 @@ from-front job a is =
     let ns = map (λ (card : Card). card.number) (behind_statements (cards_of job)) in
     let lines = read.went.lines in
     let parts = passes-parted read.found.lines ns n.first v.first (ap name_pass (sym lines) ∙ n.is)
-        (ap (λ ls. value_pass (table n.first.symbols) ls n.first.places) (sym lines) ∙ v.is) in
+    (ap (λ ls. value_pass (table n.first.symbols) ls n.first.places) (sym lines) ∙ v.is) in
     subst (FromFront job) same (from-parts job f.first n.first v.first read parts)
 
 -- ---- two jobs
@@ -346,16 +346,16 @@ cards-differ job other a b is also h =
     let x = from-front job a is in
     let y = from-front other b also in
     let found : x.found ≡ y.found =
-        ok-same x.found y.found (form_texts unread 1 (texts_up_to_end job)) x.read (ap (form_texts unread 1) h.up_to_end ∙ y.read) in
+    ok-same x.found y.found (form_texts unread 1 (texts_up_to_end job)) x.read (ap (form_texts unread 1) h.up_to_end ∙ y.read) in
     let named : x.named ≡ y.named =
-        ok-same x.named y.named (name_pass x.found.lines) x.names (ap (λ (f : Found). name_pass f.lines) found ∙ y.names) in
+    ok-same x.named y.named (name_pass x.found.lines) x.names (ap (λ (f : Found). name_pass f.lines) found ∙ y.names) in
     let laid : x.laid ≡ y.laid = ok-same x.laid y.laid (value_pass (table x.named.symbols) x.found.lines x.named.places) x.values
-        (ap (λ (f : Found). value_pass (table x.named.symbols) f.lines x.named.places) found
-        ∙ ap (λ (n : Named). value_pass (table n.symbols) y.found.lines n.places) named ∙ y.values) in
+    (ap (λ (f : Found). value_pass (table x.named.symbols) f.lines x.named.places) found
+    ∙ ap (λ (n : Named). value_pass (table n.symbols) y.found.lines n.places) named ∙ y.values) in
     let asks : still x.asked ≡ still y.asked =
-        some-same (still x.asked) (still y.asked) (asked_with (still x.found.asked) (others_behind_end job)) x.asks
-        (ap (λ (f : Found). asked_with (still f.asked) (others_behind_end job)) found
-        ∙ ap (asked_with (still y.found.asked)) h.others ∙ y.asks) in
+    some-same (still x.asked) (still y.asked) (asked_with (still x.found.asked) (others_behind_end job)) x.asks
+    (ap (λ (f : Found). asked_with (still f.asked) (others_behind_end job)) found
+    ∙ ap (asked_with (still y.found.asked)) h.others ∙ y.asks) in
     let ds = b.asked.delays in
     record {
       texts = h.up_to_end;

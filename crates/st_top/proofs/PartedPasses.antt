@@ -182,9 +182,9 @@ passes-parted lines ns all whole has_names has_values =
     let is : with_places n.first (no_places ns) ≡ all = cc in
     let counted = name_pass-counts lines n.first n.is in
     let at : value_pass (table n.first.symbols) (lines ++ quiet ns) (n.first.places ++ no_places ns) ≡ Ok whole =
-        ap (λ (m : Named). value_pass (table m.symbols) (lines ++ quiet ns) m.places) is ∙ has_values in
+    ap (λ (m : Named). value_pass (table m.symbols) (lines ++ quiet ns) m.places) is ∙ has_values in
     let v = and_then-ok (λ laid. Ok (with_rows laid (quiet_rows ns))) (value_pass (table n.first.symbols) lines n.first.places) whole
-        (sym (values-parted (table n.first.symbols) lines n.first.places ns counted) ∙ at) in
+    (sym (values-parted (table n.first.symbols) lines n.first.places ns counted) ∙ at) in
     let so : with_rows v.first (quiet_rows ns) ≡ whole = cc in
     record {
       named = n.first;
