@@ -1,7 +1,7 @@
 -- What runs ahead once the oldest entry is done, and once the operands that come at the tick are there.
 use Rattle.std.proofs.Common.{◌≡◌, ℕ, zero, suc, ◌+◌, ◌*◌, ◌<◌, ◌≤◌, Bool, true, false, not, ◌&&◌, ◌||◌, List, [], ◌∷◌, ◌++◌, append_assoc, length, Option, None, refl, sym, subst, ◌∙◌, ap, arith}
 use Rattle.std.specs.Prelude.{All, IfSome, ◌==◌, if◌then◌else◌}
-use Rattle.std.proofs.lemmas.List.Elements.{All-nil, All-head, All-tail, All-weaker}
+use Rattle.std.proofs.lemmas.List.Elements.{All-nil, All-head, All-tail}
 use Rattle.std.proofs.lemmas.Bool.{and_parts, eqb-true, ne_eqb}
 use Rattle.st_state.specs.Machine.{Machine, IsMachine}
 use Rattle.st_prep.specs.Fetch.{place_of}

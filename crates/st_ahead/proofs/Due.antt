@@ -1,11 +1,11 @@
 -- The next entry at the tick at which it is prepared: what is known of it, its reads, and the room for it.
 use Rattle.std.specs.Prelude.{All, if◌then◌else◌, get_or, ◌-◌, ◌^◌}
-use Rattle.std.proofs.Common.{◌≡◌, ℕ, zero, suc, ◌+◌, ◌<◌, ◌≤◌, Bool, true, false, List, [], ◌∷◌, ◌++◌, append_assoc, inl, inr, length, Option, None, refl, sym, subst, ◌∙◌, ap, ap₂, arith}
-use Rattle.std.proofs.lemmas.List.{append-nil, get_or-take}
+use Rattle.std.proofs.Common.{◌≡◌, ℕ, zero, suc, ◌+◌, ◌<◌, ◌≤◌, Bool, true, false, List, [], ◌∷◌, ◌++◌, inl, inr, length, Option, None, refl, sym, subst, ◌∙◌, ap, ap₂, arith}
+use Rattle.std.proofs.lemmas.List.{get_or-take}
 use Rattle.std.proofs.lemmas.List.Elements.{All-head}
 use Rattle.st_state.specs.Machine.{Machine}
 use Rattle.st_exec.specs.Completion.{guess}
-use Rattle.st_rows.specs.Asked.{Read, fetches_asked, side_asked, formed_asked}
+use Rattle.st_rows.specs.Asked.{fetches_asked, side_asked, formed_asked}
 use Rattle.st_rows.specs.Entries.{no_words}
 use Rattle.st_rows.specs.Ranges.{AreDelays, IsEntry}
 use Rattle.st_rows.specs.Rows.{row, after, prepared, addressed, done_before, tick_a, bus_a, tick_p, tick_c}
@@ -19,14 +19,14 @@ use Rattle.st_segment.specs.Entries.{entry}
 use Rattle.st_segment.specs.Guesses.{guesses, table_behind}
 use Rattle.st_segment.specs.Alone.{RunAhead}
 use Rattle.st_segment.proofs.EntryRanges.{entry-ranges}
-use Rattle.st_segment.proofs.GuessLemmas.{behind-none, behind-indicator}
+use Rattle.st_segment.proofs.GuessLemmas.{behind-indicator}
 use Rattle.st_levels.specs.Levels.{AreLevels}
 use Rattle.st_levels.specs.declared.plans.Plan.{Plan}
 use Rattle.st_next.specs.Known.{IsBefore}
 use Rattle.st_next.specs.Words.{asked_so_far}
 use Rattle.st_next.specs.Progress.{IsPlanned, IsPlannedIf, reads_so_far}
 use Rattle.st_next.specs.declared.next.Next.{Next}
-use Rattle.st_ahead.specs.Look.{LookView, IsNextIf, count, is_open, asked_ahead}
+use Rattle.st_ahead.specs.Look.{LookView, IsNextIf, count, is_open}
 use Rattle.st_ahead.specs.Going.{IsGoing, BecomesLevel}
 use Rattle.st_ahead.proofs.Further.{going-late, next-known}
 

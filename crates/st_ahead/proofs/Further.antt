@@ -1,12 +1,12 @@
 -- The next entry is known further, behind levels that are not done.
 use Rattle.std.specs.Prelude.{All, if◌then◌else◌, ◌==◌, ◌-◌, ◌^◌}
-use Rattle.std.proofs.Common.{◌≡◌, ℕ, zero, suc, ◌+◌, ◌<◌, ◌≤◌, ◌||◌, max, Bool, true, false, not, List, [], ◌∷◌, ◌++◌, append_assoc, length, Option, refl, sym, subst, ◌∙◌, ap, arith}
+use Rattle.std.proofs.Common.{◌≡◌, ℕ, zero, suc, ◌<◌, ◌≤◌, ◌||◌, max, Bool, true, false, not, List, [], ◌∷◌, ◌++◌, append_assoc, length, Option, refl, sym, subst, ◌∙◌, ap, arith}
 use Rattle.std.proofs.lemmas.List.Elements.{All-head}
 use Rattle.st_state.specs.Machine.{Machine}
 use Rattle.st_rows.specs.Asked.{Read, served}
 use Rattle.st_rows.specs.Notes.{noted, IsLogged}
 use Rattle.st_rows.specs.Ranges.{IsEntry}
-use Rattle.st_rows.specs.Rows.{row, tick_a, tick_p}
+use Rattle.st_rows.specs.Rows.{row, tick_a}
 use Rattle.st_rows.specs.declared.bus.Bus.{Bus}
 use Rattle.st_rows.specs.declared.entry.Entry.{Entry}
 use Rattle.st_rows.specs.declared.fetching.Fetching.{Fetching}
@@ -25,7 +25,7 @@ use Rattle.st_levels.proofs.LevelLemmas.{levels-beside}
 use Rattle.st_levels.proofs.OrderLemmas.{done-order}
 use Rattle.st_next.specs.Known.{IsBefore}
 use Rattle.st_next.specs.Going.{IsFront, GoesOn, IsReadFurther}
-use Rattle.st_next.specs.Progress.{IsNext, IsPlanned, IsPlannedIf, IsKnown, Rests, Planned, Waits, Target, reads_so_far}
+use Rattle.st_next.specs.Progress.{IsNext, IsPlanned, IsKnown, Rests, Planned, Waits, Target, reads_so_far}
 use Rattle.st_next.specs.declared.next.Next.{Next}
 use Rattle.st_next.proofs.Resting.{address-late}
 use Rattle.st_next.proofs.Starting.{new-reads}

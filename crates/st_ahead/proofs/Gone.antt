@@ -5,15 +5,14 @@ use Rattle.std.specs.Option.{IfSome}
 use Rattle.std.proofs.lemmas.Bool.{leb-true, leb-false}
 use Rattle.std.proofs.lemmas.List.Elements.{All-nil, All-head, All-weaker}
 use Rattle.st_state.specs.Machine.{Machine, IsMachine}
-use Rattle.st_rows.specs.Ranges.{AreDelays, IsEntry}
+use Rattle.st_rows.specs.Ranges.{AreDelays}
 use Rattle.st_rows.specs.Rows.{row}
-use Rattle.st_rows.specs.declared.entry.Entry.{Entry}
 use Rattle.st_rows.specs.declared.front.Front.{Front}
 use Rattle.st_ring.specs.declared.level.Level.{Level}
 use Rattle.st_segment.specs.Entries.{entry}
 use Rattle.st_segment.specs.Ahead.{ahead, prepared_before}
 use Rattle.st_segment.proofs.EntryRanges.{entry-ranges}
-use Rattle.st_levels.specs.Levels.{AreLevels, AreFull, due_of}
+use Rattle.st_levels.specs.Levels.{AreLevels, due_of}
 use Rattle.st_levels.specs.declared.plans.Plan.{Plan}
 use Rattle.st_levels.proofs.LevelLemmas.{levels-beside}
 use Rattle.st_levels.proofs.OrderLemmas.{done-order}

@@ -1,6 +1,6 @@
 -- Ticks at which nothing happens, passed over at once.
 use Rattle.std.specs.Prelude.{is_none, nat_le, if◌then◌else◌}
-use Rattle.std.proofs.Common.{◌≡◌, ℕ, zero, suc, ◌+◌, ◌-◌, ◌<◌, ◌≤◌, ◌^◌, ◌||◌, Bool, true, false, List, Option, None, Some, refl, sym, subst, ◌∙◌, ap, arith}
+use Rattle.std.proofs.Common.{◌≡◌, ℕ, zero, suc, ◌+◌, ◌<◌, ◌≤◌, ◌||◌, Bool, true, false, List, Option, None, Some, refl, sym, subst, ◌∙◌, ap, arith}
 use Rattle.std.proofs.lemmas.Bool.{ne_eqb}
 use Rattle.std.proofs.lemmas.Bool.Decides.{nat_tests}
 use Rattle.st_state.specs.Machine.{Machine}
@@ -8,12 +8,9 @@ use Rattle.st_exec.specs.Step.{interrupt, rests}
 use Rattle.st_rows.specs.Rows.{row}
 use Rattle.st_rows.specs.declared.front.Front.{Front}
 use Rattle.st_segment.specs.Entries.{entry}
-use Rattle.st_levels.specs.Levels.{oldest_front}
 use Rattle.st_ahead.specs.Overlap.{Overlap, seen, oldest_row, interrupt_due}
 use Rattle.st_ahead.specs.Calls.{is_done, completed, ticked, passed, settled_by, answer_by, settled, answer}
 use Rattle.st_ahead.specs.RunTo.{after_ticks, may_come, IsPassed, ArePassed}
-use Rattle.st_ahead.specs.Inside.{standing, IsInside}
-use Rattle.st_ahead.specs.Look.{LookView, IsLook}
 use Rattle.st_ahead.specs.declared.events.Settled.TheVariants.{Goes}
 use Rattle.st_ahead.proofs.Standing.{overlap, left_over}
 

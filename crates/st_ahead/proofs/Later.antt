@@ -6,8 +6,8 @@ use Rattle.std.proofs.lemmas.List.{append-nil}
 use Rattle.std.proofs.lemmas.List.Elements.{All-append, All-weaker, All-head, All-tail}
 use Rattle.st_state.specs.Machine.{Machine, IsMachine}
 use Rattle.st_exec.specs.Completion.{guess}
-use Rattle.st_rows.specs.Asked.{Read, asked, fetches_asked, words_asked, side_asked, side_count, runs_asked, operands_asked, following_asked, formed_asked, prepared_asked, data_of, served, made_before}
-use Rattle.st_rows.specs.Notes.{logged, undone, AreEarly, IsLogged}
+use Rattle.st_rows.specs.Asked.{Read, asked, fetches_asked, words_asked, side_asked, side_count, following_asked, formed_asked, prepared_asked, data_of, served, made_before}
+use Rattle.st_rows.specs.Notes.{logged, undone, AreEarly}
 use Rattle.st_rows.specs.Ranges.{AreDelays, IsEntry, IsNear, IsTight}
 use Rattle.st_rows.specs.Rows.{row, after, fetch_words, wanted_from, tick_a, tick_p, operands}
 use Rattle.st_rows.specs.declared.bus.Bus.{Bus}
@@ -15,7 +15,6 @@ use Rattle.st_rows.specs.declared.entry.Run.{Run}
 use Rattle.st_rows.specs.declared.fetching.Fetching.{Fetching}
 use Rattle.st_rows.specs.declared.entry.Entry.{Entry}
 use Rattle.st_rows.specs.declared.front.Front.{Front}
-use Rattle.st_rows.specs.declared.log.Made.{Made}
 use Rattle.st_rows.proofs.LogLaws.{undone_is_made_before, few_are_undone, logs_go_on}
 use Rattle.st_rows.proofs.MadeLemmas.{made-more}
 use Rattle.st_rows.proofs.Parts.{asked-parts, two-parts, at-prepared, served-formed, free-formed}

@@ -1,17 +1,15 @@
 -- Ticks that are passed, and entries that are done at some of them.
-use Rattle.std.specs.Prelude.{nat_le, nat_lt, max, is_some}
-use Rattle.std.proofs.Common.{◌≡◌, ◌⊎◌, inl, inr, ℕ, zero, suc, ◌+◌, ◌-◌, ◌<◌, ◌≤◌, ◌^◌, ◌||◌, if◌then◌else◌, Bool, true, false, Option, None, Some, refl, sym, subst, ◌∙◌, ap, arith}
+use Rattle.std.specs.Prelude.{nat_le, nat_lt, is_some}
+use Rattle.std.proofs.Common.{◌≡◌, ℕ, zero, suc, ◌+◌, ◌-◌, ◌<◌, ◌≤◌, ◌^◌, ◌||◌, if◌then◌else◌, Bool, true, false, Option, None, Some, refl, sym, subst, ◌∙◌, ap, arith}
 use Rattle.std.proofs.lemmas.Bool.Decides.{nat_tests}
-use Rattle.st_state.specs.Machine.{Machine}
 use Rattle.st_exec.specs.Step.{rests}
 use Rattle.st_ahead.specs.Overlap.{Overlap, interrupt_due}
-use Rattle.st_ahead.specs.Calls.{IsEvent, is_done, row_done, completed, ticked, passed, settled, answer, answer_by}
-use Rattle.st_ahead.specs.RunTo.{after_ticks, may_come, IsPassed, ArePassed, StopsAt}
-use Rattle.st_ahead.specs.declared.events.Row.{Row}
+use Rattle.st_ahead.specs.Calls.{IsEvent, is_done, completed, ticked, passed, settled, answer, answer_by}
+use Rattle.st_ahead.specs.RunTo.{after_ticks, may_come, IsPassed, ArePassed}
 use Rattle.st_ahead.specs.declared.events.Event.{Event}
-use Rattle.st_ahead.specs.declared.events.Event.TheVariants.{Passed, Done}
+use Rattle.st_ahead.specs.declared.events.Event.TheVariants.{Passed}
 use Rattle.st_ahead.specs.declared.events.Settled.TheVariants.{Goes}
-use Rattle.st_ahead.proofs.Idling.{first-none, less-than, zero-comes, goes-passed, late-ticked, idle-kept, passed-none}
+use Rattle.st_ahead.proofs.Idling.{first-none, less-than, zero-comes, goes-passed, late-ticked}
 
 -- ---- ticks behind ticks
 

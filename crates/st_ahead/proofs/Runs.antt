@@ -1,11 +1,10 @@
 -- What runs ahead of a machine makes ticks, and entries are done at some of them.
-use Rattle.std.specs.Prelude.{All, is_none, is_some, ◌-◌, ◌^◌}
-use Rattle.std.proofs.Common.{◌≡◌, ℕ, zero, suc, ◌+◌, ◌<◌, ◌≤◌, ◌||◌, if◌then◌else◌, Bool, true, false, List, ◌++◌, Option, None, Some, refl, sym, subst, ◌∙◌, ap, arith}
+use Rattle.std.specs.Prelude.{◌-◌}
+use Rattle.std.proofs.Common.{◌≡◌, ℕ, zero, suc, ◌+◌, ◌<◌, ◌≤◌, if◌then◌else◌, Bool, true, false, List, ◌++◌, Option, None, Some, refl, sym, subst, ◌∙◌, ap, arith}
 use Rattle.std.specs.Option.{IfSome}
 use Rattle.std.proofs.lemmas.Bool.{eq-eqb}
 use Rattle.std.proofs.lemmas.List.Elements.{All-weaker}
 use Rattle.st_state.specs.Machine.{Machine, IsMachine}
-use Rattle.st_banks.specs.declared.answers.LastAnswers.{LastAnswers}
 use Rattle.st_prep.specs.Plan.{plan}
 use Rattle.st_exec.specs.Completion.{executed, guess, is_missed}
 use Rattle.st_exec.specs.Step.{interrupt, rests}
@@ -20,8 +19,8 @@ use Rattle.st_levels.specs.declared.levels.Completed.{Completed}
 use Rattle.st_levels.proofs.RestLemmas.{ahead-rests}
 use Rattle.st_ahead.specs.Overlap.{Overlap, seen, oldest_row, interrupt_due, banks_at_its_end}
 use Rattle.st_ahead.specs.Calls.{is_done, completed, ticked, passed, settled, answer, answer_by}
-use Rattle.st_ahead.specs.RunTo.{may_come, IsPassed, ArePassed}
-use Rattle.st_ahead.specs.Running.{between, IsAwake, comes, IsRunning, HasPassed, HasStopped}
+use Rattle.st_ahead.specs.RunTo.{may_come, ArePassed}
+use Rattle.st_ahead.specs.Running.{between, IsAwake, comes, IsRunning, HasPassed}
 use Rattle.st_ahead.specs.Look.{LookView, IsLook, IsOutlook}
 use Rattle.st_ahead.specs.Going.{IsGoing, IsDueAt}
 use Rattle.st_ahead.specs.Inside.{answers_before}
@@ -30,7 +29,7 @@ use Rattle.st_ahead.proofs.Idling.{are-idle, goes-passed, passed-none}
 use Rattle.st_ahead.proofs.Passing.{passed-join, passed-one, passed-any, goes-answers}
 use Rattle.st_ahead.proofs.LevelTicks.{done-after, done-later}
 use Rattle.st_ahead.proofs.Settling.{look-runs}
-use Rattle.st_ahead.proofs.Standing.{chosen, answers-same, same-answers, after-c}
+use Rattle.st_ahead.proofs.Standing.{chosen, same-answers, after-c}
 
 -- ---- an entry is done at a tick
 

@@ -1,11 +1,9 @@
 -- What a machine keeps once ticks are made in one call.
-use Rattle.std.specs.Prelude.{All, is_none, ◌-◌, ◌^◌}
-use Rattle.std.proofs.Common.{◌≡◌, ℕ, ◌+◌, ◌<◌, ◌≤◌, Bool, true, false, if◌then◌else◌, List, Option, None, Some, refl, sym, subst, ◌∙◌, ap, arith}
+use Rattle.std.specs.Prelude.{◌-◌, ◌^◌}
+use Rattle.std.proofs.Common.{◌≡◌, ℕ, ◌+◌, ◌<◌, Bool, true, false, List, Option, None, Some, refl, sym, subst, ◌∙◌, ap, arith}
 use Rattle.st_state.specs.Machine.{Machine}
-use Rattle.st_banks.specs.declared.answers.LastAnswers.{LastAnswers}
 use Rattle.st_prep.specs.Plan.{plan}
 use Rattle.st_exec.specs.Completion.{executed, guess}
-use Rattle.st_exec.specs.Step.{interrupt, rests}
 use Rattle.st_rows.specs.Rows.{row, after}
 use Rattle.st_rows.specs.declared.front.Front.{Front}
 use Rattle.st_segment.specs.Entries.{entry}
@@ -16,9 +14,7 @@ use Rattle.st_ahead.specs.Calls.{row_done, completed, ticked, answer}
 use Rattle.st_ahead.specs.RunTo.{may_come, ArePassed, StopsAt}
 use Rattle.st_ahead.specs.Running.{between, IsAwake, HasPassed, HasStopped}
 use Rattle.st_ahead.specs.Look.{LookView, IsLook}
-use Rattle.st_ahead.specs.Inside.{standing, answers_before, IsInside}
-use Rattle.st_ahead.specs.declared.events.Row.{Row}
-use Rattle.st_ahead.specs.declared.events.Settled.TheVariants.{Goes}
+use Rattle.st_ahead.specs.Inside.{standing, IsInside}
 use Rattle.st_ahead.proofs.Runs.{is-due, ticked-done}
 use Rattle.st_ahead.proofs.Standing.{same-fields, same-row, told, after-c}
 

@@ -1,5 +1,5 @@
 -- What runs ahead while a machine goes on by one tick, between its steps.
-use Rattle.std.specs.Prelude.{ℕ, ◌≡◌, ◌+◌, ◌-◌, ◌*◌, ◌^◌, ◌≤◌, ◌<◌, true, List, length, All, Option, None, Some, IfSome}
+use Rattle.std.specs.Prelude.{ℕ, ◌≡◌, ◌+◌, ◌-◌, ◌*◌, ◌^◌, ◌≤◌, ◌<◌, true, List, All, Option, None, Some, IfSome}
 use Rattle.st_state.specs.Machine.{Machine, IsMachine}
 use Rattle.st_rows.specs.Notes.{IsLogged}
 use Rattle.st_rows.specs.Ranges.{IsEntry, IsTight}

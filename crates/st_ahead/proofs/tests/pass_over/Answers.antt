@@ -1,6 +1,5 @@
 use Rattle.std.proofs.Common.{◌+◌, ◌-◌, ◌∙◌, ap}
 use Rattle.st_state.specs.Machine.{Machine}
-use Rattle.st_ahead.specs.Overlap.{Overlap}
 use Rattle.st_ahead.proofs.Idling.{idle-kept}
 use Rattle.st_ahead.proofs.tests.pass_over.Goals as goal
 

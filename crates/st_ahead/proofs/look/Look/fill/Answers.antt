@@ -1,4 +1,4 @@
-use Rattle.std.proofs.Common.{◌+◌, ◌<◌, ◌≤◌, All, sym, subst, arith}
+use Rattle.std.proofs.Common.{◌<◌, ◌≤◌, All, sym, subst, arith}
 use Rattle.std.proofs.lemmas.List.Elements.{All-weaker}
 use Rattle.st_ring.specs.declared.level.Level.{Level}
 use Rattle.st_levels.specs.Levels.{AreNotDone}

@@ -1,4 +1,4 @@
-use Rattle.std.proofs.Common.{◌+◌, ◌≤◌, refl, arith}
+use Rattle.std.proofs.Common.{◌+◌, refl, arith}
 use Rattle.st_rows.proofs.Within.{AreDelays-list}
 use Rattle.st_ahead.proofs.Gone.{gone-on, oldest-late}
 use Rattle.st_ahead.proofs.Settling.{look-goes}
