@@ -1,0 +1,41 @@
+-- The sums of the charges of each stage.
+use Rattle.std.specs.Prelude.{ℕ, ◌≤◌, List, [], ◌∷◌}
+use Rattle.st_ledger.specs.declared.charges.Stage.{Stage}
+use Rattle.st_ledger.specs.declared.charges.Stage.TheVariants.{Restart, Instruction, Address, Index, Preparing, Operand, Executing}
+use Rattle.st_ledger.specs.declared.totals.Sum.{Sum}
+use Rattle.st_ledger.specs.declared.totals.Totals.{Totals}
+use Rattle.st_ledger.specs.Lines.{sum_line}
+
+-- that of a stage
+abbrev pub sum_at : Stage → Totals → ℕ
+sum_at Restart sums = sums.restart
+sum_at Instruction sums = sums.instruction
+sum_at Address sums = sums.address
+sum_at Index sums = sums.index
+sum_at Preparing sums = sums.preparing
+sum_at Operand sums = sums.operand
+sum_at Executing sums = sums.executing
+
+-- none is greater than t
+pub record AreWithin (t : ℕ) (sums : Totals) : Type 0 where
+  pub restart : sums.restart ≤ t
+  pub instruction : sums.instruction ≤ t
+  pub address : sums.address ≤ t
+  pub index : sums.index ≤ t
+  pub preparing : sums.preparing ≤ t
+  pub operand : sums.operand ≤ t
+  pub executing : sums.executing ≤ t
+
+-- the stages in their order
+abbrev pub stages : List Stage
+stages = Restart ∷ Instruction ∷ Address ∷ Index ∷ Preparing ∷ Operand ∷ Executing ∷ []
+
+-- what each stage of a list has
+abbrev pub sums_by : (Stage → ℕ) → List Stage → List Sum
+sums_by f [] = []
+sums_by f (s ∷ more) = record { stage = s; ticks = f s } ∷ sums_by f more
+
+-- the lines of sums
+unfoldable pub sum_lines : List Sum → List (List ℕ)
+sum_lines [] = []
+sum_lines (x ∷ xs) = sum_line x.stage x.ticks ∷ sum_lines xs
