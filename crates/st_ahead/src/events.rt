@@ -9,7 +9,7 @@ pub struct Row {
     pub address: u32,
     /// The tick at which it was prepared.
     pub p: u64,
-    /// The tick at which its operands were there.
+    /// The tick at which the operand words that it reads have come; P where there is none.
     pub r: u64,
     /// The tick at which it is done.
     pub c: u64,
@@ -55,7 +55,7 @@ pub struct LevelView {
     pub index: Option<u8>,
     /// That word before; 0 where it changed none.
     pub kept: u64,
-    /// Whether its operands are there.
+    /// Whether the operand words that it reads have come; forwarded ones do not count.
     pub ready: bool,
 }
 
