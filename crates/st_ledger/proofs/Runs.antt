@@ -24,7 +24,7 @@ unfolding Follow
 follow-append a b c [] ys h k = subst (λ t. Follow t c ys) (sym h) k
 follow-append a b c (x ∷ xs) ys h k = (h.0, h.1, follow-append x.to b c xs ys h.2 k)
 
-ticks_for-append : (s : Stage) (xs ys : List Charge) → ticks_for s (xs ++ ys) ≡ ticks_for s xs + ticks_for s ys
+pub ticks_for-append : (s : Stage) (xs ys : List Charge) → ticks_for s (xs ++ ys) ≡ ticks_for s xs + ticks_for s ys
 unfolding ticks_for
 ticks_for-append s [] ys = omega arith
 ticks_for-append s (x ∷ xs) ys = omega (arith, ticks_for-append s xs ys)

@@ -2,3 +2,4 @@ pub mod Charges
 pub mod Laws
 pub mod Ledger
 pub mod Lines
+pub mod Totals

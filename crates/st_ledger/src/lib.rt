@@ -5,8 +5,10 @@ mod charges;
 mod entries;
 mod lines;
 mod telling;
+mod totals;
 
 pub use charges::{Charge, Part, Stage};
 pub use entries::entry;
 pub use lines::{line_charge, line_row, line_sum};
 pub use telling::write_row;
+pub use totals::{Totals, write_sums};

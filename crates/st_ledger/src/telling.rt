@@ -11,7 +11,7 @@ use st_rows::Row;
 use st_text::Line;
 
 // Writes a line.
-fn put<K: Sink>(out: &mut K, line: &Line) -> Result<(), Failed>
+pub(crate) fn put<K: Sink>(out: &mut K, line: &Line) -> Result<(), Failed>
     ensures { WritesLines (K.output out.old) (K.output out.new) (line.now.bytes ∷ []) result }
 {
     write_line(out, line.as_str().as_bytes())
@@ -25,7 +25,7 @@ fn part(stage: Stage, end: u64) -> Part
 }
 
 // The stages of a row in their order, each with the tick at which it ends; the segment starts at `start`.
-fn parts(start: u64, row: &Row) -> [Part; 7]
+pub(crate) fn parts(start: u64, row: &Row) -> [Part; 7]
     ensures { result ≡ parts_of start row.now }
 {
     [
@@ -58,7 +58,7 @@ fn write_part<K: Sink>(out: &mut K, from: u64, part: Part) -> Result<(), Failed>
 }
 
 // The first of some stages, and those behind it.
-fn first_part(parts: &[Part]) -> Option<(Part, &[Part])>
+pub(crate) fn first_part(parts: &[Part]) -> Option<(Part, &[Part])>
     ensures parts { MatchOption result (parts.now ≡ []) (λ r. parts.now ≡ r.0 ∷ r.1.now) }
     ensures fewer { IfSome result (λ r. length r.1.now < length parts.now) }
 {
@@ -69,7 +69,7 @@ fn first_part(parts: &[Part]) -> Option<(Part, &[Part])>
 }
 
 // The later of two ticks.
-fn later(a: u64, b: u64) -> u64
+pub(crate) fn later(a: u64, b: u64) -> u64
     ensures { result ≡ max a b }
 {
     a.max(b)

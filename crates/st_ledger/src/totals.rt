@@ -1,0 +1,120 @@
+//! The ticks of charges, stage by stage.
+ghost use Rattle.std.specs.Prelude.{◌≡◌, ◌+◌, ◌<◌, ◌≤◌, ◌∷◌, ◌++◌, [], max};
+ghost use Rattle.st_io.specs.Lines.{WritesLines};
+ghost use Rattle.st_ledger.specs.declared.charges.Stage.{Stage as StageOf};
+ghost use Rattle.st_ledger.specs.Charges.{parts as parts_of, charged, part_charges, ticks_for, all_ticks};
+ghost use Rattle.st_ledger.specs.Lines.{sum_line};
+ghost use Rattle.st_ledger.specs.Totals.{sum_at, AreWithin, first_sums, other_sums};
+
+use crate::charges::{Charge, Part, Stage};
+use crate::lines::line_sum;
+use crate::telling::{first_part, later, parts, put};
+use st_io::{Failed, Sink};
+use st_rows::Row;
+
+/// The ticks of charges, stage by stage.
+#[derive(Clone, Copy, Debug, Default, PartialEq, Eq)]
+pub struct Totals {
+    pub restart: u64,
+    pub instruction: u64,
+    pub address: u64,
+    pub index: u64,
+    pub preparing: u64,
+    pub operand: u64,
+    pub executing: u64,
+}
+
+impl Totals {
+    // Adds a charge. No sum is greater than the tick at which it begins.
+    fn add(&mut self, charge: Charge)
+        requires order { charge.from < charge.to }
+        requires within { AreWithin charge.from self.old }
+        ensures within { AreWithin charge.to self.new }
+        ensures sums { (s : StageOf) → sum_at s self.new ≡ sum_at s self.old + ticks_for s (charge ∷ []) }
+    {
+        let ticks = charge.to - charge.from;
+        match charge.stage {
+            Stage::Restart => self.restart += ticks,
+            Stage::Instruction => self.instruction += ticks,
+            Stage::Address => self.address += ticks,
+            Stage::Index => self.index += ticks,
+            Stage::Preparing => self.preparing += ticks,
+            Stage::Operand => self.operand += ticks,
+            Stage::Executing => self.executing += ticks,
+        }
+    }
+
+    // Adds the charge of a stage behind the tick `from`, where it ends later.
+    fn add_part(&mut self, from: u64, part: Part)
+        requires within { AreWithin from self.old }
+        ensures within { AreWithin (max from part.end) self.new }
+        ensures sums { (s : StageOf) → sum_at s self.new ≡ sum_at s self.old + ticks_for s (part_charges from part) }
+    {
+        if part.end <= from {
+            return;
+        }
+        self.add(Charge {
+            from,
+            to: part.end,
+            stage: part.stage,
+        });
+    }
+
+    // Adds the charges of stages behind the tick `from`.
+    fn add_parts(&mut self, from: u64, parts: &[Part])
+        requires within { AreWithin from self.old }
+        ensures within { AreWithin (from + all_ticks (charged from parts.now)) self.new }
+        ensures sums { (s : StageOf) → sum_at s self.new ≡ sum_at s self.old + ticks_for s (charged from parts.now) }
+    {
+        let Some((part, more)) = first_part(parts) else {
+            return;
+        };
+        self.add_part(from, part);
+        self.add_parts(later(from, part.end), more);
+    }
+
+    /// Adds the charges of an entry that is done, with its row: the last one before it was done at the tick `before`, and its segment
+    /// starts at `start`, if it is the first one of that. No sum is greater than the tick `before`.
+    pub fn add_row(&mut self, row: &Row, before: u64, start: u64)
+        requires within { AreWithin before self.old }
+        ensures within { AreWithin (before + all_ticks (charged before (parts_of start row.now))) self.new }
+        ensures sums { (s : StageOf) → sum_at s self.new
+            ≡ sum_at s self.old + ticks_for s (charged before (parts_of start row.now)) }
+    {
+        self.add_parts(before, &parts(start, row));
+    }
+}
+
+// Writes the ticks of a stage.
+fn write_sum<K: Sink>(out: &mut K, stage: Stage, ticks: u64) -> Result<(), Failed>
+    ensures { WritesLines (K.output out.old) (K.output out.new) (sum_line stage ticks ∷ []) result }
+{
+    put(out, &line_sum(stage, ticks))
+}
+
+// Writes the ticks of the first four stages.
+fn write_first<K: Sink>(out: &mut K, sums: &Totals) -> Result<(), Failed>
+    ensures { WritesLines (K.output out.old) (K.output out.new) (first_sums sums.now) result }
+{
+    write_sum(out, Stage::Restart, sums.restart)?;
+    write_sum(out, Stage::Instruction, sums.instruction)?;
+    write_sum(out, Stage::Address, sums.address)?;
+    write_sum(out, Stage::Index, sums.index)
+}
+
+// Writes the ticks of the other stages.
+fn write_others<K: Sink>(out: &mut K, sums: &Totals) -> Result<(), Failed>
+    ensures { WritesLines (K.output out.old) (K.output out.new) (other_sums sums.now) result }
+{
+    write_sum(out, Stage::Preparing, sums.preparing)?;
+    write_sum(out, Stage::Operand, sums.operand)?;
+    write_sum(out, Stage::Executing, sums.executing)
+}
+
+/// Writes the lines `SUM stage n`, in the order of the stages.
+pub fn write_sums<K: Sink>(out: &mut K, sums: &Totals) -> Result<(), Failed>
+    ensures { WritesLines (K.output out.old) (K.output out.new) (first_sums sums.now ++ other_sums sums.now) result }
+{
+    write_first(out, sums)?;
+    write_others(out, sums)
+}

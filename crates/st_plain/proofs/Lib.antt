@@ -1,0 +1,4 @@
+pub mod ReadLemmas
+pub mod MakingLemmas
+pub mod LookLemmas
+pub mod Stages
