@@ -36,7 +36,7 @@ def assemble(job):
     words, start = value_pass(said, symbols)
     controls.set_defaults()
     reader = [row.card.columns for row in rows[end:] if row.card.kind == 'comment']
-    return Program(words, start, controls, reader, listing(rows, symbols))
+    return Program(words, start, controls, reader, listing(rows, symbols), first_cards(said))
 
 
 def over(rows, work):
@@ -229,6 +229,15 @@ def magnitude_laid(decimal, length, byte, number):
         return number
     fit(number < 10 ** (length // byte))
     return sum(int(digit) << byte * k for k, digit in enumerate(reversed(str(number))))
+
+
+def first_cards(rows):
+    """For each half-word in which a card's bits begin, the number of the first such card."""
+    cards = {}
+    for row in rows:
+        if row.size:
+            cards.setdefault(row.place // 32, row.card.number)
+    return cards
 
 
 def put_bits(words, place, bits, size):

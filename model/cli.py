@@ -2,6 +2,7 @@
 import assembler
 import deckmaker
 import disassemble
+import ledger
 import objects
 from program import Refused
 from report import report
@@ -31,6 +32,21 @@ def soak(words):
     if number >= 1 << 64 or not 1 <= cards <= 4000:
         return None
     return text(report(assembler.assemble(deckmaker.made_deck(number, cards)), [f'SOAK {number} {cards}']))
+
+
+def ledger_lines(words, read):
+    """The lines that the program `ledger` writes, one after another, and the exit status. Follows docs/ledger.md."""
+    if len(words) > 1 or words and not (len(words[0]) == 1 and '1' <= words[0] <= '8'):
+        return [], NO_COMMAND
+    job = read()
+    if len(job) > JOB:
+        return [], TOO_LONG
+    try:
+        program = assembler.assemble(job)
+    except Refused as refused:
+        return [refused.line()], 1
+    levels = int(words[0]) if words else 4
+    return (f'{line}\n'.encode('latin-1') for line in ledger.ledger(program, levels)), 0
 
 
 def answer(words, read):

@@ -46,3 +46,4 @@ class Program:
     controls: Controls
     reader: list = field(default_factory=list)      # cards of the reader, 64 bytes each
     listing: list = field(default_factory=list)     # its lines, without line ends, whether asked for or not
+    laid: dict = field(default_factory=dict)        # half-word address -> the first card whose bits begin in it

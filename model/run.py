@@ -124,6 +124,7 @@ class Run:
         while True:
             entry = prepare(state, table)
             row, behind = next_row(front, entry, self.levels)
+            self.look(entry, row, front, behind)
             if row.p >= tick:
                 break
             found.append((entry, row))
@@ -136,6 +137,9 @@ class Run:
             state.undo(trail)
         state.trail = outer
         return found, behind
+
+    def look(self, entry, row, front, behind):
+        """What else is to be noted of an entry ahead, with the fronts before and behind it; here nothing."""
 
     def end_segment(self, moment):
         """Drops what is ahead, and opens the next segment; the guess, not what came of it, tells what is ahead."""

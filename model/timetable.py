@@ -74,6 +74,7 @@ def opening(delays, last, start):
 
 @dataclass
 class Row:
+    a: int
     p: int
     r: int
     c: int
@@ -94,7 +95,7 @@ def next_row(front, entry, levels):
             if 32 <= word < WORDS:
                 bus.fetch(word, p)
     done = (front.done + [(c, set(entry.writes))])[-8:]
-    return Row(p, r, c), Front(bus, p, c, entry.alone, done)
+    return Row(a, p, r, c), Front(bus, p, c, entry.alone, done)
 
 
 def form(front, bus, entry):
