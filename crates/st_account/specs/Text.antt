@@ -6,10 +6,10 @@ use Rattle.st_run.specs.Run.{Scene}
 use Rattle.st_run.specs.Moments.{Moment, Standing, start, next_state, has_waited, ends_segment, next_front, standing, next_row, next_moment}
 use Rattle.st_report.specs.Line.{end_line as run_end_line, done_line, ticks_line}
 use Rattle.st_ledger.specs.declared.charges.Charge.{Charge}
-use Rattle.st_ledger.specs.declared.charges.Stage.TheVariants.{Restart, Instruction, Address, Index, Preparing, Operand, Executing}
 use Rattle.st_ledger.specs.Charges.{ticks_for}
 use Rattle.st_ledger.specs.Ledger.{entries_of, all_charges}
-use Rattle.st_ledger.specs.Lines.{row_lines, sum_line}
+use Rattle.st_ledger.specs.Lines.{row_lines}
+use Rattle.st_ledger.specs.Totals.{stages, sums_by, sum_lines}
 use Rattle.st_plain.specs.declared.looking.Ahead.{Ahead}
 use Rattle.st_plain.specs.Looking.{seen_of}
 use Rattle.st_account.specs.Lines.{levels_line, delays_lines, start_line, end_line, drop_line}
@@ -75,16 +75,8 @@ last_lines k m =
     end_lines_at k m ++ run_end_line (rests (next_state m)) ∷ done_line (next_state m).done ∷ ticks_line m.tick ∷ []
 
 -- the ticks of all charges, stage by stage
-abbrev pub sum_lines : List Charge → List (List ℕ)
-sum_lines xs =
-    sum_line Restart (ticks_for Restart xs)
-    ∷ sum_line Instruction (ticks_for Instruction xs)
-    ∷ sum_line Address (ticks_for Address xs)
-    ∷ sum_line Index (ticks_for Index xs)
-    ∷ sum_line Preparing (ticks_for Preparing xs)
-    ∷ sum_line Operand (ticks_for Operand xs)
-    ∷ sum_line Executing (ticks_for Executing xs)
-    ∷ []
+abbrev pub totals_lines : List Charge → List (List ℕ)
+totals_lines xs = sum_lines (sums_by (λ s. ticks_for s xs) stages)
 
 -- ---- the whole
 
@@ -103,4 +95,4 @@ machine_lines ds n = levels_line n ∷ delays_lines ds
 -- the ledger of the run of a scene
 unfoldable pub ledger : List ℕ → ℕ → ℕ → Scene → List (List ℕ)
 ledger ds n left c =
-    machine_lines ds n ++ lines_from ds n left 0 (start c) ++ sum_lines (all_charges ds n (entries_of ds n left c))
+    machine_lines ds n ++ lines_from ds n left 0 (start c) ++ totals_lines (all_charges ds n (entries_of ds n left c))

@@ -9,7 +9,7 @@ use crate::lines::{Why, line_delays, line_drop, line_end, line_levels, line_star
 use st_io::{Failed, Sink, write_line};
 use st_plain::Ahead;
 use st_report::{line_done, line_end as line_run_end, line_ticks};
-use st_text::Line;
+use st_text::{Line, behind, front};
 
 // Writes a line.
 pub(crate) fn put<K: Sink>(out: &mut K, line: &Line) -> Result<(), Failed>
@@ -185,6 +185,14 @@ pub(crate) fn write_totals<K: Sink>(
     write_ticks(out, tick)
 }
 
+// Writes the line of some delays, ten at most.
+fn write_ten<K: Sink>(out: &mut K, ds: &[u8]) -> Result<(), Failed>
+    requires { length ds.now ≤ 10 }
+    ensures { WritesLines (K.output out.old) (K.output out.new) (delays_line ds.now ∷ []) result }
+{
+    put(out, &line_delays(ds))
+}
+
 // Writes all delays, ten in a line.
 fn write_delays<K: Sink>(out: &mut K, ds: &[u8]) -> Result<(), Failed>
     ensures { (k : ℕ) → length ds.now ≤ k → WritesLines (K.output out.old) (K.output out.new) (delays_by k ds.now) result }
@@ -193,9 +201,8 @@ fn write_delays<K: Sink>(out: &mut K, ds: &[u8]) -> Result<(), Failed>
         return Ok(());
     }
     let count = ds.len().min(10);
-    let (line, more) = ds.split_at(count);
-    put(out, &line_delays(line))?;
-    write_delays(out, more)
+    write_ten(out, front(ds, count))?;
+    write_delays(out, behind(ds, count))
 }
 
 // Writes the number of levels.

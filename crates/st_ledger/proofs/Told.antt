@@ -13,7 +13,7 @@ use Rattle.std.proofs.lemmas.Bool.{lt-ltb, le-ltb}
 use Rattle.st_ledger.proofs.Sums.{lt-cases}
 
 -- the first stage, and then the others
-charged-parts : (t : ℕ) (x : Part) (xs : List Part) → charged t (x ∷ xs) ≡ part_charges t x ++ charged (max t x.end) xs
+pub charged-parts : (t : ℕ) (x : Part) (xs : List Part) → charged t (x ∷ xs) ≡ part_charges t x ++ charged (max t x.end) xs
 unfolding charged
 charged-parts t x xs = elim (lt-cases t x.end) [
   | inl y ↦

@@ -2,6 +2,7 @@
 use Rattle.std.specs.Prelude.{ℕ, ◌≤◌, List, [], ◌∷◌}
 use Rattle.st_ledger.specs.declared.charges.Stage.{Stage}
 use Rattle.st_ledger.specs.declared.charges.Stage.TheVariants.{Restart, Instruction, Address, Index, Preparing, Operand, Executing}
+use Rattle.st_ledger.specs.declared.totals.Sum.{Sum}
 use Rattle.st_ledger.specs.declared.totals.Totals.{Totals}
 use Rattle.st_ledger.specs.Lines.{sum_line}
 
@@ -25,19 +26,16 @@ pub record AreWithin (t : ℕ) (sums : Totals) : Type 0 where
   pub operand : sums.operand ≤ t
   pub executing : sums.executing ≤ t
 
--- the lines of the first four stages
-abbrev pub first_sums : Totals → List (List ℕ)
-first_sums sums =
-    sum_line Restart sums.restart
-    ∷ sum_line Instruction sums.instruction
-    ∷ sum_line Address sums.address
-    ∷ sum_line Index sums.index
-    ∷ []
+-- the stages in their order
+abbrev pub stages : List Stage
+stages = Restart ∷ Instruction ∷ Address ∷ Index ∷ Preparing ∷ Operand ∷ Executing ∷ []
 
--- and of the others
-abbrev pub other_sums : Totals → List (List ℕ)
-other_sums sums =
-    sum_line Preparing sums.preparing
-    ∷ sum_line Operand sums.operand
-    ∷ sum_line Executing sums.executing
-    ∷ []
+-- what each stage of a list has
+abbrev pub sums_by : (Stage → ℕ) → List Stage → List Sum
+sums_by f [] = []
+sums_by f (s ∷ more) = record { stage = s; ticks = f s } ∷ sums_by f more
+
+-- the lines of sums
+unfoldable pub sum_lines : List Sum → List (List ℕ)
+sum_lines [] = []
+sum_lines (x ∷ xs) = sum_line x.stage x.ticks ∷ sum_lines xs

@@ -1,10 +1,10 @@
 //! The ticks of charges, stage by stage.
-ghost use Rattle.std.specs.Prelude.{◌≡◌, ◌+◌, ◌<◌, ◌≤◌, ◌∷◌, ◌++◌, [], max};
+ghost use Rattle.std.specs.Prelude.{◌≡◌, ◌+◌, ◌<◌, ◌≤◌, ◌∷◌, [], max, length, MatchOption, IfSome};
 ghost use Rattle.st_io.specs.Lines.{WritesLines};
 ghost use Rattle.st_ledger.specs.declared.charges.Stage.{Stage as StageOf};
 ghost use Rattle.st_ledger.specs.Charges.{parts as parts_of, charged, part_charges, ticks_for, all_ticks};
 ghost use Rattle.st_ledger.specs.Lines.{sum_line};
-ghost use Rattle.st_ledger.specs.Totals.{sum_at, AreWithin, first_sums, other_sums};
+ghost use Rattle.st_ledger.specs.Totals.{sum_at, AreWithin, stages, sums_by, sum_lines};
 
 use crate::charges::{Charge, Part, Stage};
 use crate::lines::line_sum;
@@ -85,36 +85,68 @@ impl Totals {
     }
 }
 
-// Writes the ticks of a stage.
-fn write_sum<K: Sink>(out: &mut K, stage: Stage, ticks: u64) -> Result<(), Failed>
-    ensures { WritesLines (K.output out.old) (K.output out.new) (sum_line stage ticks ∷ []) result }
-{
-    put(out, &line_sum(stage, ticks))
+/// The ticks of a stage in the whole run.
+#[derive(Clone, Copy, Debug, PartialEq, Eq)]
+pub struct Sum {
+    pub stage: Stage,
+    pub ticks: u64,
 }
 
-// Writes the ticks of the first four stages.
-fn write_first<K: Sink>(out: &mut K, sums: &Totals) -> Result<(), Failed>
-    ensures { WritesLines (K.output out.old) (K.output out.new) (first_sums sums.now) result }
+// The sum of a stage.
+fn made_sum(stage: Stage, ticks: u64) -> Sum
+    ensures { result ≡ record { stage = stage; ticks = ticks } }
 {
-    write_sum(out, Stage::Restart, sums.restart)?;
-    write_sum(out, Stage::Instruction, sums.instruction)?;
-    write_sum(out, Stage::Address, sums.address)?;
-    write_sum(out, Stage::Index, sums.index)
+    Sum { stage, ticks }
 }
 
-// Writes the ticks of the other stages.
-fn write_others<K: Sink>(out: &mut K, sums: &Totals) -> Result<(), Failed>
-    ensures { WritesLines (K.output out.old) (K.output out.new) (other_sums sums.now) result }
+// The sums in the order of the stages.
+fn sums_of(totals: &Totals) -> [Sum; 7]
+    ensures { result ≡ sums_by (λ s. sum_at s totals.now) stages }
 {
-    write_sum(out, Stage::Preparing, sums.preparing)?;
-    write_sum(out, Stage::Operand, sums.operand)?;
-    write_sum(out, Stage::Executing, sums.executing)
+    [
+        made_sum(Stage::Restart, totals.restart),
+        made_sum(Stage::Instruction, totals.instruction),
+        made_sum(Stage::Address, totals.address),
+        made_sum(Stage::Index, totals.index),
+        made_sum(Stage::Preparing, totals.preparing),
+        made_sum(Stage::Operand, totals.operand),
+        made_sum(Stage::Executing, totals.executing),
+    ]
+}
+
+// The first of some sums, and those behind it.
+fn first_sum(sums: &[Sum]) -> Option<(Sum, &[Sum])>
+    ensures parts { MatchOption result (sums.now ≡ []) (λ r. sums.now ≡ r.0 ∷ r.1.now) }
+    ensures fewer { IfSome result (λ r. length r.1.now < length sums.now) }
+{
+    match sums {
+        [first, more @ ..] => Some((*first, more)),
+        [] => None,
+    }
+}
+
+// Writes the line of a sum.
+fn write_sum<K: Sink>(out: &mut K, sum: Sum) -> Result<(), Failed>
+    ensures { WritesLines (K.output out.old) (K.output out.new) (sum_line sum.stage sum.ticks ∷ []) result }
+{
+    put(out, &line_sum(sum.stage, sum.ticks))
+}
+
+// Writes the lines of sums.
+fn write_each<K: Sink>(out: &mut K, sums: &[Sum]) -> Result<(), Failed>
+    ensures { WritesLines (K.output out.old) (K.output out.new) (sum_lines sums.now) result }
+{
+    let Some((sum, more)) = first_sum(sums) else {
+        return Ok(());
+    };
+    write_sum(out, sum)?;
+    write_each(out, more)
 }
 
 /// Writes the lines `SUM stage n`, in the order of the stages.
-pub fn write_sums<K: Sink>(out: &mut K, sums: &Totals) -> Result<(), Failed>
-    ensures { WritesLines (K.output out.old) (K.output out.new) (first_sums sums.now ++ other_sums sums.now) result }
+pub fn write_sums<K: Sink>(out: &mut K, totals: &Totals) -> Result<(), Failed>
+    ensures { WritesLines (K.output out.old) (K.output out.new)
+        (sum_lines (sums_by (λ s. sum_at s totals.now) stages)) result }
 {
-    write_first(out, sums)?;
-    write_others(out, sums)
+    write_each(out, &sums_of(totals))
 }

@@ -11,10 +11,13 @@ use Rattle.st_rows.specs.Asked.{Read, asked}
 use Rattle.st_rows.specs.Rows.{row, after}
 use Rattle.st_rows.specs.declared.front.Front.{Front}
 use Rattle.st_segment.specs.Entries.{entry}
-use Rattle.st_segment.specs.Ahead.{ahead, next_ahead, prepared_before, reads_before}
+use Rattle.st_rows.specs.declared.bus.Bus.{Bus}
+use Rattle.st_segment.specs.Ahead.{Ahead, ahead, next_ahead, prepared_before, reads_before}
+use Rattle.st_exec.proofs.Unchanged.{completed-done}
 use Rattle.st_plain.specs.declared.looking.Ahead.{Ahead as Seen}
 use Rattle.st_plain.specs.declared.making.Making.{Making}
-use Rattle.st_plain.specs.Reads.{made_on}
+use Rattle.st_plain.specs.declared.reads.Noted.{Noted}
+use Rattle.st_plain.specs.Reads.{reads_of, made_on}
 use Rattle.st_plain.specs.Looking.{seen_of}
 use Rattle.st_plain.proofs.MakingLemmas.{made-end}
 
@@ -23,12 +26,19 @@ pub record IsCounted (p : Prepared) (s : Machine) : Type 0 where
   pub ic : ℕ
   pub is : guessed p s ≡ record (completed p s) { ic = ic }
 
+counted-by : (b : Bool) (u : Machine) (f : ℕ) → (if b then u else record u { ic = f }) ≡ record u { ic = if b then u.ic else f }
+counted-by true u f = refl
+counted-by false u f = refl
+
 pub guess-counted : (p : Prepared) (s : Machine) → IsCounted p s
 unfolding guessed
-guess-counted p s = by_test p.serial
-  where
-    by_test : (b : Bool) → IsCounted p s
-    by_test b = search
+guess-counted p s = record {
+  ic = if p.serial then (completed p s).ic else p.following;
+  is = counted-by p.serial (completed p s) p.following;
+}
+
+pub guess-done : (p : Prepared) (s : Machine) → (guessed p s).done ≡ s.done + 1
+guess-done p s = let c = guess-counted p s in ap (λ (u : Machine). u.done) c.is ∙ completed-done p s
 
 module _ (ds : List ℕ) (n t : ℕ) (s : Machine) (f : Front) where
   -- the entries that are found
@@ -77,10 +87,49 @@ module _ (ds : List ℕ) (n t : ℕ) (s : Machine) (f : Front) where
       rw (lt-ltb _ t early)
       (ap (λ j. asked ds n f (entry None s) ++ reads_before ds n t (ahead ds n j None (guess None s) (after ds n f (entry None s)))) one)
 
--- nothing is made behind them
-pub made-last : (ds : List ℕ) (t : ℕ) (m k : Making) (xs ys : List Read) → ys ≡ xs ++ [] → ((rest : List Read) → made_on ds t m (xs ++ rest) ≡ made_on ds t k rest)
-    → k.bus ≡ made_on ds t m ys
-made-last ds t m k xs ys is made = sym (ap (made_on ds t m) is ∙ made [] ∙ made-end ds t k)
+-- what is found, and what is made
+pub found-same : (xs : List Seen) (ys : List Ahead) → ys ≡ [] → xs ≡ xs ++ map seen_of ys
+found-same xs ys none = rw none (sym (append-nil xs))
 
-pub found-more : (xs ys zs : List Seen) (x : Seen) → ys ≡ xs ++ x ∷ [] → (ws : List Seen) → ws ≡ ys ++ zs → ws ≡ xs ++ x ∷ zs
-found-more xs ys zs x one ws rest = rest ∙ ap (λ l. l ++ zs) one ∙ append_assoc xs (x ∷ []) zs
+module _ (ds : List ℕ) (n t : ℕ) (s : Machine) (f : Front) where
+  pub found-look : (u : Machine) (g : Front) (k : ℕ) (xs ys ws : List Seen) (x : Seen) → 1 ≤ k → (row ds n f (entry None s)).p < t
+      → x ≡ seen_of (next_ahead ds n None s f) → u ≡ guess None s → g ≡ after ds n f (entry None s) → ys ≡ xs ++ x ∷ []
+      → ws ≡ ys ++ map seen_of (prepared_before t (ahead ds n (k - 1) None u g))
+      → ws ≡ xs ++ map seen_of (prepared_before t (ahead ds n k None s f))
+  found-look u g k xs ys ws x some early is next behind one rest =
+      let later : List Seen = map seen_of (prepared_before t (ahead ds n (k - 1) None (guess None s) (after ds n f (entry None s)))) in
+      rest
+      ∙ ap (λ v. ys ++ map seen_of (prepared_before t (ahead ds n (k - 1) None v g))) next
+      ∙ ap (λ h. ys ++ map seen_of (prepared_before t (ahead ds n (k - 1) None (guess None s) h))) behind
+      ∙ ap (λ l. l ++ later) one
+      ∙ append_assoc xs (x ∷ []) later
+      ∙ ap (λ y. xs ++ y ∷ later) is
+      ∙ ap (λ l. xs ++ map seen_of l) (sym (found-next ds n t s f k some early))
+
+  -- the reads of the next entry
+  made-asked : (m k : Making) (notes items : List Noted) → notes ≡ items → reads_of items ≡ asked ds n f (entry None s)
+      → ((rest : List Read) → made_on ds t m (reads_of notes ++ rest) ≡ made_on ds t k rest)
+      → (rest : List Read) → made_on ds t m (asked ds n f (entry None s) ++ rest) ≡ made_on ds t k rest
+  made-asked m k notes items same are made rest =
+      ap (λ l. made_on ds t m (l ++ rest)) (sym (ap reads_of same ∙ are)) ∙ made rest
+
+  -- nothing is made behind them
+  pub made-last : (m k : Making) (notes items : List Noted) (ys : List Read) → notes ≡ items → reads_of items ≡ asked ds n f (entry None s)
+      → ((rest : List Read) → made_on ds t m (reads_of notes ++ rest) ≡ made_on ds t k rest)
+      → ys ≡ asked ds n f (entry None s) ++ [] → k.bus ≡ made_on ds t m ys
+  made-last m k notes items ys same are made is =
+      sym (ap (made_on ds t m) is ∙ made-asked m k notes items same are made [] ∙ made-end ds t k)
+
+  pub made-look : (m k : Making) (notes items : List Noted) (bus : Bus) (u : Machine) (g : Front) (j : ℕ) → notes ≡ items
+      → reads_of items ≡ asked ds n f (entry None s)
+      → ((rest : List Read) → made_on ds t m (reads_of notes ++ rest) ≡ made_on ds t k rest)
+      → 1 ≤ j → (row ds n f (entry None s)).p < t → u ≡ guess None s → g ≡ after ds n f (entry None s)
+      → bus ≡ made_on ds t k (reads_before ds n t (ahead ds n (suc (j - 1)) None u g))
+      → bus ≡ made_on ds t m (reads_before ds n t (ahead ds n (suc j) None s f))
+  made-look m k notes items bus u g j same are made some early next behind rest =
+      rest
+      ∙ ap (λ v. made_on ds t k (reads_before ds n t (ahead ds n (suc (j - 1)) None v g))) next
+      ∙ ap (λ h. made_on ds t k (reads_before ds n t (ahead ds n (suc (j - 1)) None (guess None s) h))) behind
+      ∙ sym (made-asked m k notes items same are made
+      (reads_before ds n t (ahead ds n (suc (j - 1)) None (guess None s) (after ds n f (entry None s)))))
+      ∙ ap (made_on ds t m) (sym (reads-next ds n t s f j some early))

@@ -1,5 +1,5 @@
 -- Reads that are made one after another, as far as there is time.
-use Rattle.std.specs.Prelude.{Bool, if◌then◌else◌, nat_lt}
+use Rattle.std.specs.Prelude.{Bool, if◌then◌else◌, nat_lt, map}
 use Rattle.std.proofs.Common.{◌≡◌, ℕ, ◌+◌, ◌≤◌, ◌<◌, true, false, List, [], ◌∷◌, ◌++◌, refl, sym, ap, ◌∙◌, arith}
 use Rattle.std.proofs.lemmas.Bool.{lt-ltb, le-ltb}
 use Rattle.std.proofs.lemmas.List.Elements.{All-weaker}
@@ -10,7 +10,8 @@ use Rattle.st_rows.specs.Ranges.{AreDelays, IsBusWithin, IsNear}
 use Rattle.st_rows.specs.declared.bus.Bus.{Bus}
 use Rattle.st_rows.proofs.Served.{made-bounds}
 use Rattle.st_plain.specs.declared.making.Making.{Making}
-use Rattle.st_plain.specs.Reads.{made_on, IsMaking}
+use Rattle.st_plain.specs.declared.reads.Noted.{Noted}
+use Rattle.st_plain.specs.Reads.{read_of, reads_of, made_on, IsMaking}
 
 module _ (ds : List ℕ) (t : ℕ) where
   -- where one was not made, none behind it is
@@ -55,3 +56,16 @@ making-early ds are t m n r is early next =
     let made : made_before ds t (r ∷ []) m.bus ≡ after_one ds m.bus r = rw (lt-ltb (accept_at m.bus r.w r.want) t early) refl in
     let both = made-bounds 255 ds are t (r ∷ []) m.bus is.near is.free in
     rw next (record { near = rw (sym made) both.0; free = rw (sym made) both.1 })
+
+-- the first of some reads, and those behind it
+pub reads-next : (ds : List ℕ) (t : ℕ) (m k n : Making) (reads more : List Noted) (x : Noted) (rest : List Read) → reads ≡ x ∷ more
+    → made_on ds t m (read_of x ∷ (reads_of more ++ rest)) ≡ made_on ds t k (reads_of more ++ rest)
+    → made_on ds t k (reads_of more ++ rest) ≡ made_on ds t n rest
+    → made_on ds t m (reads_of reads ++ rest) ≡ made_on ds t n rest
+unfolding reads_of
+reads-next ds t m k n reads more x rest is first later = ap (λ xs. made_on ds t m (map read_of xs ++ rest)) is ∙ first ∙ later
+
+pub reads-end : (ds : List ℕ) (t : ℕ) (m : Making) (reads : List Noted) (rest : List Read) → reads ≡ []
+    → made_on ds t m (reads_of reads ++ rest) ≡ made_on ds t m rest
+unfolding reads_of
+reads-end ds t m reads rest none = ap (λ xs. made_on ds t m (map read_of xs ++ rest)) none

@@ -1,11 +1,12 @@
 -- Reads that are asked for one after another.
 use Rattle.std.specs.Prelude.{Bool, if◌then◌else◌, nat_lt, not, is_none, map, get_or}
-use Rattle.std.proofs.Common.{◌≡◌, ℕ, zero, suc, ◌+◌, ◌-◌, ◌≤◌, max, true, false, List, [], ◌∷◌, ◌++◌, length, Option, None, Some, refl, sym, ap, ◌∙◌, append_assoc, arith}
+use Rattle.std.proofs.Common.{◌≡◌, ℕ, zero, suc, ◌+◌, ◌-◌, ◌^◌, ◌≤◌, max, true, false, List, [], ◌∷◌, ◌++◌, length, Option, None, Some, refl, sym, ap, ◌∙◌, append_assoc, arith}
 use Rattle.std.proofs.lemmas.List.{map-append, append-nil}
 use Rattle.st_bits.specs.Storage.{words_of_storage}
 use Rattle.st_fetch.specs.Planned.{tick_of}
-use Rattle.st_rows.specs.Asked.{Read, word_asked, words_asked, data_asked, operands_asked, inside_asked, is_inside_asked, following_asked, are_following_asked}
-use Rattle.st_rows.specs.Rows.{fetch_word, is_forwarded, request_inside}
+use Rattle.st_rows.specs.Asked.{Read, word_asked, words_asked, data_asked, operands_asked, inside_asked, is_inside_asked, following_asked, are_following_asked, side_asked, fetches_asked, asked}
+use Rattle.st_rows.specs.Rows.{fetch_word, fetch_words, is_forwarded, request_inside, tick_a, tick_p, operands}
+use Rattle.st_rows.specs.declared.front.Front.{Front}
 use Rattle.st_rows.specs.declared.bus.Bus.{Bus}
 use Rattle.st_rows.specs.declared.entry.Entry.{Entry}
 use Rattle.st_rows.specs.declared.past.Past.{Past}
@@ -46,6 +47,11 @@ pub words-end : (ds : List ℕ) (past : List Past) (from w n : ℕ) (s : Fetchin
 unfolding words_asked
 words-end ds past from w zero s xs all none so_far = sym (append-nil xs) ∙ so_far
 words-end ds past from w (suc n) s xs all none so_far = let no : ⊥ = omega arith in absurd no
+
+pub fetch-end : (ds : List ℕ) (past : List Past) (from w n : ℕ) (s all : Fetching) → n ≡ 0 → fetch_words ds past s from w n ≡ all → s ≡ all
+unfolding fetch_words
+fetch-end ds past from w zero s all none so_far = so_far
+fetch-end ds past from w (suc n) s all none so_far = let no : ⊥ = omega arith in absurd no
 
 -- the next operand word
 pub operands-turn : (past : List Past) (p w n : ℕ) (xs ys all : List Read) → 1 ≤ n → ys ≡ xs ++ data_asked past w p
@@ -113,3 +119,30 @@ following-if ds b e p flags xs ys zs is first second =
     flag-second : (f x y : Bool) → get_or (if f then x ∷ y ∷ [] else false ∷ false ∷ []) 1 false ≡ (if f then y else false)
     flag-second true x y = refl
     flag-second false x y = refl
+
+pub reads-pushed : (xs ys : List Noted) (x : Noted) (b : Bool) → b ≡ true → ys ≡ xs ++ x ∷ [] → reads_of ys ≡ reads_of xs ++ asked_if b (read_of x)
+unfolding reads_of
+reads-pushed xs ys x b asked is = rw asked (ap (map read_of) is ∙ map-append read_of xs (x ∷ []))
+
+-- none are asked for
+pub following-none : (ds : List ℕ) (b : Bus) (e : Entry) (p : ℕ) (xs : List Read) → e.follows ≡ false → xs ≡ xs ++ following_asked ds b e p
+unfolding following_asked
+following-none ds b e p xs none = rw none (sym (append-nil xs))
+
+-- all reads of an entry
+pub asked-joined : (ds : List ℕ) (n : ℕ) (f : Front) (e : Entry) (a p : ℕ) (notes : List Noted) (r s t u v : List Read) → a ≡ tick_a ds f e
+    → p ≡ tick_p ds n f e → notes ≡ [] → r ≡ reads_of notes ++ fetches_asked ds f e → s ≡ r ++ side_asked f.past e.side a
+    → t ≡ s ++ operands_asked f.past p e.reads.one.first e.reads.one.len
+    → u ≡ t ++ operands_asked f.past p e.reads.two.first e.reads.two.len
+    → v ≡ u ++ following_asked ds (operands ds n f e).bus e p → v ≡ asked ds n f e
+unfolding asked reads_of
+asked-joined ds n f e a p notes r s t u v is_a is_p none one two three four five =
+    five
+    ∙ ap (λ l. l ++ following_asked ds (operands ds n f e).bus e p)
+    (four ∙ ap (λ l. l ++ operands_asked f.past p e.reads.two.first e.reads.two.len)
+    (three ∙ ap (λ l. l ++ operands_asked f.past p e.reads.one.first e.reads.one.len)
+    (two ∙ ap (λ l. l ++ side_asked f.past e.side a) (one ∙ ap (λ ns. map read_of ns ++ fetches_asked ds f e) none))))
+    ∙ ap (λ q. fetches_asked ds f e ++ side_asked f.past e.side q ++ operands_asked f.past p e.reads.one.first e.reads.one.len
+    ++ operands_asked f.past p e.reads.two.first e.reads.two.len ++ following_asked ds (operands ds n f e).bus e p) is_a
+    ∙ ap (λ q. fetches_asked ds f e ++ side_asked f.past e.side (tick_a ds f e) ++ operands_asked f.past q e.reads.one.first e.reads.one.len
+    ++ operands_asked f.past q e.reads.two.first e.reads.two.len ++ following_asked ds (operands ds n f e).bus e q) is_p

@@ -1,5 +1,5 @@
 //! Reads that are made as far as there is time.
-ghost use Rattle.std.specs.Prelude.{◌≡◌, ℕ, ◌+◌, ◌≤◌, ◌^◌, true, List, [], ◌∷◌, ◌++◌};
+ghost use Rattle.std.specs.Prelude.{◌≡◌, ◌+◌, ◌<◌, ◌≤◌, ◌^◌, true, List, [], ◌∷◌, ◌++◌, length, MatchOption, IfSome};
 ghost use Rattle.st_rows.specs.Asked.{Read};
 ghost use Rattle.st_plain.specs.Reads.{read_of, reads_of, made_on, IsMaking};
 
@@ -14,6 +14,17 @@ pub struct Making {
     pub bus: Bus,
     /// Whether all of them were made.
     pub whole: bool,
+}
+
+// The first of some reads, and those behind it.
+fn first_noted(reads: &[Noted]) -> Option<(Noted, &[Noted])>
+    ensures parts { MatchOption result (reads.now ≡ []) (λ r. reads.now ≡ r.0 ∷ r.1.now) }
+    ensures fewer { IfSome result (λ r. length r.1.now < length reads.now) }
+{
+    match reads {
+        [first, more @ ..] => Some((*first, more)),
+        [] => None,
+    }
 }
 
 impl Making {
@@ -53,10 +64,10 @@ impl Making {
         ensures made { (rest : List Read) → made_on delays.now tick self.old (reads_of reads.now ++ rest)
             ≡ made_on delays.now tick self.new rest }
     {
-        let mut left = reads;
-        'reads: while let [first, after @ ..] = left {
-            self.make(delays, tick, *first);
-            left = after;
-        }
+        let Some((first, more)) = first_noted(reads) else {
+            return;
+        };
+        self.make(delays, tick, first);
+        self.make_all(delays, tick, more);
     }
 }

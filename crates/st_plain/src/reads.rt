@@ -1,5 +1,5 @@
 //! The row of an entry, with the reads that are asked for it.
-ghost use Rattle.std.specs.Prelude.{◌≡◌, ℕ, true, false, List, [], ◌∷◌, ◌+◌, ◌*◌, ◌-◌, ◌<◌, ◌≤◌, ◌^◌, ◌++◌, IfSome, length};
+ghost use Rattle.std.specs.Prelude.{◌≡◌, ℕ, true, false, List, [], ◌∷◌, ◌+◌, ◌*◌, ◌-◌, ◌<◌, ◌≤◌, ◌^◌, ◌++◌, IfSome, length, max};
 ghost use Rattle.st_rows.specs.Asked.{words_asked, side_asked, data_asked, operands_asked, following_asked, are_following_asked, fetches_asked, asked as asked_of};
 ghost use Rattle.st_rows.specs.Rows.{fetch_words, fetched, tick_a, tick_p, operands, row as row_of, after as after_of};
 ghost use Rattle.st_rows.specs.Ranges.{IsEntry, IsTight, IsFetchingWithin, ArePastWithin, IsReadable};
@@ -36,6 +36,13 @@ fn note(reads: &mut Reads, asked: bool, w: u32, want: u64, fetch: bool)
     }
 }
 
+// The latest of three ticks.
+fn wanted(from: u64, answered: u64, awaited: u64) -> u64
+    ensures { result ≡ max (max from answered) awaited }
+{
+    from.max(answered).max(awaited)
+}
+
 // The instruction words of a run are fetched.
 fn ask_words(
     reads: &mut Reads,
@@ -60,7 +67,7 @@ fn ask_words(
     let mut w = run.first;
     let mut left = run.len;
     'words: while left > 0 {
-        let want = from.max(words.answered).max(words.awaited);
+        let want = wanted(from, words.answered, words.awaited);
         let asked = words.word(delays, past, w, from);
         note(reads, asked, w, want, true);
         w += 1;
@@ -142,6 +149,9 @@ fn ask_following(reads: &mut Reads, entry: &Entry, following: [bool; 2], p: u64)
     ensures { (ds : List ℕ) (b : Bus) → following ≡ are_following_asked ds b entry.now p →
         reads_of reads.new.items ≡ reads_of reads.old.items ++ following_asked ds b entry.now p }
 {
+    if !entry.follows {
+        return;
+    }
     let w = entry.own.first + u32::from(entry.own.len);
     note(reads, following[0], w, p, true);
     note(reads, following[1], w + 1, p, true);
