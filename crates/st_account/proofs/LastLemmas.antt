@@ -6,19 +6,28 @@ use Rattle.st_state.specs.Machine.{Machine}
 use Rattle.st_prep.specs.Plan.{plan}
 use Rattle.st_exec.specs.Completion.{completed, executed, guessed, guess, is_missed}
 use Rattle.st_exec.specs.Step.{interrupt, step}
+use Rattle.std.proofs.lemmas.Bool.Decides.{nat_tests}
+use Rattle.st_rows.specs.BusTimes.{accept_at}
 use Rattle.st_rows.specs.Asked.{Read, asked, made_before}
 use Rattle.st_rows.specs.Ranges.{IsEntry, IsTight}
 use Rattle.st_rows.specs.Rows.{opening, row, after, addressed, prepared, tick_a, tick_p, tick_c}
 use Rattle.st_rows.specs.declared.bus.Bus.{Bus}
 use Rattle.st_rows.specs.declared.entry.Entry.{Entry}
 use Rattle.st_rows.specs.declared.front.Front.{Front}
+use Rattle.st_rows.specs.declared.front.Row.{Row}
 use Rattle.st_rows.specs.declared.past.Past.{Past}
 use Rattle.st_rows.proofs.Awaited.{ready-after}
 use Rattle.st_segment.specs.Entries.{entry}
 use Rattle.st_segment.specs.Ahead.{Ahead, ahead, prepared_before, reads_before}
 use Rattle.st_run.specs.Run.{Scene}
 use Rattle.st_run.specs.Moments.{Moment, Standing, start, unread, taken, oldest, next_row, front_after, entries_behind, reads_until, next_moment}
-use Rattle.st_plain.specs.Reads.{reads_of, IsMaking}
+use Rattle.std.proofs.lemmas.List.{length-append, length-map}
+use Rattle.st_prep.proofs.Choices.{of_choice}
+use Rattle.st_plain.specs.Looking.{seen_of}
+use Rattle.st_plain.specs.declared.looking.Ahead.{Ahead as Seen}
+use Rattle.st_plain.specs.declared.making.Making.{Making}
+use Rattle.st_plain.specs.declared.reads.Noted.{Noted}
+use Rattle.st_plain.specs.Reads.{reads_of, made_on, IsMaking}
 use Rattle.st_account.specs.declared.last.Last.{Last}
 use Rattle.st_account.specs.Standing.{guessing, IsLast, IsStanding}
 
@@ -52,15 +61,18 @@ seven-kept (a ∷ b ∷ c ∷ d ∷ e ∷ f ∷ g ∷ h ∷ i ∷ xs) x eight = 
 
 -- ---- the start
 
+not-before : (t : ℕ) → nat_lt t 0 ≡ false
+not-before t = grind (arith, nat_tests)
+
 none-made : (ds : List ℕ) (reads : List Read) (b : Bus) → made_before ds 0 reads b ≡ b
 unfolding made_before
 none-made ds [] b = refl
-none-made ds (r ∷ reads) b = refl
+none-made ds (r ∷ reads) b = rw (not-before (accept_at b r.w r.want)) refl
 
 none-prepared : (xs : List Ahead) → prepared_before 0 xs ≡ []
 unfolding prepared_before
 none-prepared [] = refl
-none-prepared (a ∷ xs) = refl
+none-prepared (a ∷ xs) = rw (not-before a.row.p) refl
 
 pub start-last : (ds : List ℕ) (n : ℕ) (c : Scene) (l : Last) → l.tick ≡ 0 → l.front ≡ opening unread 0 → l.past ≡ l.front.past → l.missed ≡ false
     → l.ic ≡ c.machine.ic → l.ic < 2 ^ 19 → l.bus ≡ l.front.bus → IsTight 255 l.front → IsLast ds n (start c) l
@@ -118,3 +130,46 @@ next-last ds n p s u l k is tight fits made guess_is counter tick front missed r
       past = past;
       counter = counter;
     }
+
+-- ---- what ran ahead
+
+-- the banks behind the reads of the last entry, and those of the entries that run ahead
+pub banks-made : (ds : List ℕ) (n t : ℕ) (items notes : List Noted) (bus : Bus) (m k : Making) (u v : Machine) (f g : Front) (last : Bus) → notes ≡ items
+    → m ≡ record { bus = bus; whole = true } → ((rest : List Read) → made_on ds t m (reads_of notes ++ rest) ≡ made_on ds t k rest)
+    → f ≡ g → u ≡ v → last ≡ made_on ds t k (reads_before ds n t (ahead ds n (suc n) None u f))
+    → last.banks ≡ (made_before ds t (reads_of items ++ reads_before ds n t (ahead ds n (suc n) None v g)) bus).banks
+unfolding made_on
+banks-made ds n t items notes bus m k u v f g last same start made front state is =
+    ap (λ (b : Bus). b.banks)
+    (is
+    ∙ sym (made (reads_before ds n t (ahead ds n (suc n) None u f)))
+    ∙ ap (λ q. made_on ds t q (reads_of notes ++ reads_before ds n t (ahead ds n (suc n) None u f))) start
+    ∙ ap (λ xs. made_before ds t (reads_of xs ++ reads_before ds n t (ahead ds n (suc n) None u f)) bus) same
+    ∙ ap (λ h. made_before ds t (reads_of items ++ reads_before ds n t (ahead ds n (suc n) None u h)) bus) front
+    ∙ ap (λ w. made_before ds t (reads_of items ++ reads_before ds n t (ahead ds n (suc n) None w g)) bus) state)
+
+ahead-few : (ds : List ℕ) (n k : ℕ) (t : Option ℕ) (s : Machine) (f : Front) → length (ahead ds n k t s f) ≤ k
+unfolding ahead
+ahead-few ds n zero t s f = omega arith
+ahead-few ds n (suc k) t s f =
+    let rest = ahead-few ds n k None (guess t s) (after ds n f (entry t s)) in
+    omega arith
+
+prepared-few : (t : ℕ) (xs : List Ahead) → length (prepared_before t xs) ≤ length xs
+unfolding prepared_before
+prepared-few t [] = omega arith
+prepared-few t (a ∷ rest) =
+    let few = prepared-few t rest in
+    of_choice (λ xs. length xs ≤ suc (length rest)) (nat_lt a.row.p t) (a ∷ prepared_before t rest) [] (omega arith) (omega arith)
+
+pub few-found : (ds : List ℕ) (n t k : ℕ) (s : Machine) (f : Front) (old new : List Seen) → length old ≡ 0 → k ≤ 8
+    → new ≡ old ++ map seen_of (prepared_before t (ahead ds n k None s f)) → length new ≤ 8
+few-found ds n t k s f old new none few is =
+    let found = prepared_before t (ahead ds n k None s f) in
+    omega (arith, ap length is ∙ length-append old (map seen_of found), length-map found seen_of, none, few, prepared-few t (ahead ds n k None s f), ahead-few ds n k None s f)
+
+-- the last entries behind one more
+pub past-kept : (ds : List ℕ) (n : ℕ) (f : Front) (e : Entry) (r : Row) (old new : List Past) (g : Front) → old ≡ f.past → r ≡ row ds n f e
+    → new ≡ record { c = r.c; writes = e.writes } ∷ take 7 old → g ≡ after ds n f e → new ≡ g.past
+unfolding row after
+past-kept ds n f e r old new g same is kept behind = rw (behind, kept, is, same) refl

@@ -1,7 +1,7 @@
 -- Lines that are written one after another.
 use Rattle.std.specs.Prelude.{Bool, if◌then◌else◌, nat_eq, Result, Ok, Err, IsErr, codes, decimal}
 use Rattle.std.proofs.Common.{◌≡◌, ◌≢◌, ℕ, zero, suc, ◌+◌, ◌-◌, ◌≤◌, ◌<◌, inl, inr, min, true, false, List, [], ◌∷◌, ◌++◌, length, take, drop, refl, sym, ◌∙◌, ap, subst, append_assoc, arith}
-use Rattle.std.proofs.lemmas.Bool.Decides.{leb_tells}
+use Rattle.std.proofs.lemmas.Bool.Decides.{leb_tells, nat_tests}
 use Rattle.std.proofs.lemmas.List.{take_min, append-nil, length-drop}
 use Rattle.std.proofs.Math.Seq.{drop-length}
 use Rattle.std.proofs.Math.ListN.{drop_of_length-le}
@@ -11,6 +11,7 @@ use Rattle.st_io.specs.Lines.{WritesLines}
 use Rattle.st_io.proofs.Progress.{lines_then, lines_cut, wrote_nothing}
 use Rattle.st_plain.specs.declared.looking.Ahead.{Ahead}
 use Rattle.st_account.specs.Lines.{numbers, delays_line, delays_by, drop_line, end_line}
+use Rattle.st_account.specs.Standing.{without}
 use Rattle.st_account.specs.Text.{drop_lines, end_lines}
 
 pub no_lines : (s : OutputState) (o : Unit {0}) → WritesLines s s [] (Ok o)
@@ -49,7 +50,10 @@ end-none k tick n found none = rw none refl
 pub end-some : (k tick n : ℕ) (found : List Ahead) → k ≢ 0 → end_lines k tick n found ≡ (end_line k tick ∷ []) ++ drop_lines n found
 unfolding end_lines
 end-some zero tick n found some = absurd (some refl)
-end-some (suc k) tick n found some = refl
+end-some (suc k) tick n found some = rw (not-zero k) refl
+  where
+    not-zero : (k : ℕ) → nat_eq (suc k) 0 ≡ false
+    not-zero k = grind (arith, nat_tests)
 
 -- ---- delays
 
@@ -63,7 +67,8 @@ ten-behind ds = elim (leb_tells 10 (length ds)) [
   | inl y ↦ let same : min (length ds) 10 ≡ 10 = omega (arith, y.1) in ap (λ n. drop n ds) same
   | inr n ↦
       let same : min (length ds) 10 ≡ length ds = omega (arith, n.1) in
-      ap (λ k. drop k ds) same ∙ drop-length ds ∙ sym (drop_of_length-le ds (omega (arith, n.1)))
+      let few : length ds ≤ 10 = omega (arith, n.1) in
+      ap (λ k. drop k ds) same ∙ drop-length ds ∙ sym (drop_of_length-le ds few)
 ]
 
 pub delays-none : (k : ℕ) (ds : List ℕ) → length ds ≡ 0 → delays_by k ds ≡ []
@@ -99,11 +104,11 @@ numbers-none old ns none = rw none (sym (append-nil old))
 -- ---- lines that are written or not
 
 pub none_if : (s : OutputState) (b : Bool) (xs : List (List ℕ)) (o : Unit {0}) → b ≡ false → WritesLines s s (if b then xs else []) (Ok o)
-none_if s b xs o no = rw no (no_lines s o)
+none_if s b xs o off = rw off (no_lines s o)
 
 pub some_if : (s u : OutputState) (b : Bool) (xs ys : List (List ℕ)) (r : Result (Unit {0}) Failed) → b ≡ true → xs ≡ ys
     → WritesLines s u xs r → WritesLines s u (if b then ys else []) r
-some_if s u b xs ys r yes same h = rw (yes, sym same) h
+some_if s u b xs ys r on same h = rw (on, sym same) h
 
 pub same_lines : (s u : OutputState) (xs ys : List (List ℕ)) (r : Result (Unit {0}) Failed) → xs ≡ ys → WritesLines s u xs r → WritesLines s u ys r
 same_lines s u xs ys r same h = subst (λ ls. WritesLines s u ls r) same h
@@ -133,3 +138,23 @@ delays_then s v u k ds line more o r some few is rest h later =
     (lines_then s v u (delays_line (take 10 ds) ∷ []) (delays_by (k - 1) (drop 10 ds)) o r
     (subst (λ l. WritesLines s v (l ∷ []) (Ok o)) (ten ds line is) h)
     (subst (λ xs. WritesLines v u (delays_by (k - 1) xs) r) same (later (k - 1) short)))
+
+-- ---- three lines
+
+pub three_then : (s v u : OutputState) (x : List ℕ) (xs : List (List ℕ)) (o : Unit {0}) (r : Result (Unit {0}) Failed)
+    → WritesLines s v (x ∷ []) (Ok o) → WritesLines v u xs r → WritesLines s u (x ∷ xs) r
+three_then s v u x xs o r h k = lines_then s v u (x ∷ []) xs o r h k
+
+pub three_cut : (s u : OutputState) (x : List ℕ) (xs : List (List ℕ)) (e : Failed) (r : Result (Unit {0}) Failed) → IsErr r
+    → WritesLines s u (x ∷ []) (Err e) → WritesLines s u (x ∷ xs) r
+three_cut s u x xs e r f h = lines_cut s u (x ∷ []) xs e r f h
+
+-- an answer that gives something
+pub cut_without : {X : Type 0} (s u : OutputState) (xs : List (List ℕ)) (e : Failed) (r : Result X Failed) → IsErr r → WritesLines s u xs (Err e)
+    → WritesLines s u xs (without r)
+cut_without s u xs e (Ok x) f h = absurd (cc)
+cut_without s u xs e (Err x) f h = record { ok = tt; err = h.err }
+
+pub made_without : {X : Type 0} (s u : OutputState) (xs : List (List ℕ)) (o : Unit {0}) (x : X) → WritesLines s u xs (Ok o)
+    → WritesLines s u xs (without {E = Failed} (Ok x))
+made_without s u xs o x h = record { ok = h.ok; err = tt }

@@ -2,17 +2,15 @@
 use Rattle.std.specs.Prelude.{Bool, if◌then◌else◌, nat_lt, nat_eq, not, ◌&&◌, ◌||◌, map, All, is_some, is_none, Option, Some}
 use Rattle.std.proofs.lemmas.Bool.{and_parts, not-true}
 use Rattle.std.proofs.lemmas.Bool.Decides.{nat_tests}
-use Rattle.st_state.specs.Orders.{is_due}
-use Rattle.st_state.specs.declared.devices.Order.{Order}
 use Rattle.st_rows.specs.Asked.{made_before}
 use Rattle.st_plain.specs.Reads.{reads_of}
-use Rattle.std.proofs.Common.{◌≡◌, ◌≢◌, ℕ, zero, suc, ◌+◌, ◌-◌, ◌*◌*◌, ◌^◌, ◌≤◌, ◌⊎◌, inl, inr, true, false, List, [], ◌∷◌, ◌++◌, length, None, refl, sym, ◌∙◌, ap, subst, arith}
+use Rattle.std.proofs.Common.{◌≡◌, ◌≢◌, ℕ, zero, suc, ◌+◌, ◌-◌, ◌*◌, ◌^◌, ◌≤◌, ◌⊎◌, inl, inr, true, false, List, [], ◌∷◌, ◌++◌, length, None, refl, sym, ◌∙◌, ap, subst, arith}
 use Rattle.st_bits.specs.declared.limits.TheConstants.{MOST_INSTRUCTIONS}
 use Rattle.st_banks.specs.declared.answers.LastAnswers.{LastAnswers}
 use Rattle.st_state.specs.Machine.{Machine}
 use Rattle.st_exec.specs.Step.{rests, step, interrupt}
 use Rattle.st_card.specs.declared.control_cards.Signal.{Signal}
-use Rattle.st_run.specs.Run.{Scene, interlude, stepped, with_due_signals, with_due_orders, with_order_at_rest, with_signals_at_rest, with_wait}
+use Rattle.st_run.specs.Run.{Scene, interlude, stepped, with_due_signals, with_due_orders, with_order_at_rest, with_signals_at_rest, with_wait, and_then, with_reader, with_printer, if_due}
 use Rattle.st_run.specs.Moments.{Moment, Standing, start, next_scene, next_state, standing, next_front, next_row, next_moment, has_card, has_waited, ends_segment}
 use Rattle.st_run.proofs.Bounds.{IsMoment, HasTime}
 use Rattle.st_run.proofs.DoneLemmas.{settled-done}
@@ -32,11 +30,14 @@ use Rattle.st_account.specs.Text.{segment_lines, segment_after, entry_lines, las
 
 none-is : {A : Type 0} (o : Option A) → is_none o ≡ true → o ≡ None
 none-is None h = refl
-none-is (Some x) h = absurd (cc)
+none-is (Some x) h = cc
 
-if-none : (b : Bool) → (if b then None {A = Order} else None) ≡ None
-if-none true = refl
-if-none false = refl
+orders-none : (s : Machine) (xs : List Signal) (cards : List (List ℕ)) → s.reader ≡ None → s.printer ≡ None
+    → (with_due_orders (at_hand s xs cards)).scene ≡ at_hand s xs cards
+unfolding with_due_orders
+orders-none s xs cards reader printer =
+    ap (λ o. (and_then (with_reader (if_due s.done o) (at_hand s xs cards)) (λ d. with_printer (if_due d.machine.done d.machine.printer) d)).scene) reader
+    ∙ ap (λ o. (with_printer (if_due s.done o) (at_hand s xs cards)).scene) printer
 
 not-less : (n : ℕ) → nat_lt n n ≡ false
 not-less n = grind (arith, nat_tests)
@@ -138,12 +139,12 @@ module _ (m : Moment) (s t : Machine) (xs ys : List Signal) (ps qs : List (List 
 
 module _ (s : Machine) (missed : Bool) (xs : List Signal) (still : still_by s missed xs ≡ true) where
   record Parts : Type 0 where
-    missed : missed ≡ false
-    signal : has_due xs s.done ≡ false
-    reader : s.reader ≡ None
-    printer : s.printer ≡ None
-    waiting : s.waiting ≡ false
-    interrupt : interrupt s ≡ None
+    right : missed ≡ false
+    no_signal : has_due xs s.done ≡ false
+    reader_free : s.reader ≡ None
+    printer_free : s.printer ≡ None
+    no_waiting : s.waiting ≡ false
+    none_taken : interrupt s ≡ None
 
   parts : Parts
   parts =
@@ -153,25 +154,22 @@ module _ (s : Machine) (missed : Bool) (xs : List Signal) (still : still_by s mi
       let d = and_parts _ _ c.0 in
       let e = and_parts _ _ d.0 in
       record {
-        missed = not-true missed e.0;
-        signal = not-true (has_due xs s.done) e.1;
-        reader = none-is s.reader d.1;
-        printer = none-is s.printer c.1;
-        waiting = not-true s.waiting b.1;
-        interrupt = none-is (interrupt s) a.1;
+        right = not-true missed e.0;
+        no_signal = not-true (has_due xs s.done) e.1;
+        reader_free = none-is s.reader d.1;
+        printer_free = none-is s.printer c.1;
+        no_waiting = not-true s.waiting b.1;
+        none_taken = none-is (interrupt s) a.1;
       }
 
   signals-still : (cards : List (List ℕ)) → with_due_signals s xs cards ≡ at_hand s xs cards
-  signals-still cards = due-none s xs cards parts.signal
+  signals-still cards = due-none s xs cards parts.no_signal
 
   orders-still : (cards : List (List ℕ)) → (with_due_orders (at_hand s xs cards)).scene ≡ at_hand s xs cards
-  unfolding with_due_orders
-  orders-still cards =
-      let p = parts in
-      rw (p.reader, if-none (is_due s.done None), p.printer, if-none (is_due s.done None)) refl
+  orders-still cards = orders-none s xs cards parts.reader_free parts.printer_free
 
   awake : rests s ≡ false
-  awake = rw parts.waiting refl
+  awake = rw parts.no_waiting refl
 
   wait-still : (cards : List (List ℕ)) → (with_wait (at_hand s xs cards)).scene ≡ at_hand s xs cards
   unfolding with_wait with_order_at_rest
@@ -205,11 +203,11 @@ module _ (s : Machine) (missed : Bool) (xs : List Signal) (still : still_by s mi
         ∙ not-less (length cards)
 
     no_interrupt : is_some (interrupt (next_state m)) ≡ false
-    no_interrupt = ap (λ c. is_some (interrupt c.machine)) same ∙ ap is_some parts.interrupt
+    no_interrupt = ap (λ c. is_some (interrupt c.machine)) same ∙ ap is_some parts.none_taken
 
     pub no-end : ends_segment m ≡ false
     unfolding ends_segment
-    no-end = rw (guessed, parts.missed, no_card, no_wait, no_interrupt) refl
+    no-end = rw (guessed, parts.right, no_card, no_wait, no_interrupt) refl
 
 -- where a segment ends, it is looked at what ran ahead
 pub end-looks : (left : ℕ) (s : Machine) (xs : List Signal) (cards : List (List ℕ)) (m : Moment) (missed still looks : Bool)

@@ -36,15 +36,15 @@ pub record IsStanding (p : Standing) (s : Machine) (l : Last) : Type 0 where
   pub front : p.front ≡ l.front
 
 -- what comes behind the moment is over, with this state; this is at hand of the moment, and of what came
-pub record IsBehind (m : Moment) (s : Machine) (l : Last) (found : List Ahead) (banks : LastAnswers) (card waited : Bool) : Type 0 where
+pub record IsBehind (m : Moment) (s : Machine) (l : Last) (found : List Ahead) (b : LastAnswers) (c w : Bool) : Type 0 where
   pub tick : m.tick ≡ l.tick
   pub front : m.front ≡ l.front
   pub missed : m.missed ≡ l.missed
   pub dropped : ends_segment m ≡ true → found ≡ map seen_of m.dropped
-  pub banks : ends_segment m ≡ true → banks ≡ m.banks
+  pub banks : ends_segment m ≡ true → b ≡ m.banks
   pub state : next_state m ≡ s
-  pub card : card ≡ has_card m
-  pub waited : waited ≡ has_waited m
+  pub card : c ≡ has_card m
+  pub waited : w ≡ has_waited m
 
 -- a signal is due
 abbrev pub has_due : List Signal → ℕ → Bool

@@ -164,6 +164,7 @@ pub(crate) fn at_start(ic: u32) -> Last
     ensures counter { result.ic ≡ ic }
     ensures reads { result.reads.items ≡ [] }
     ensures bus { result.bus ≡ result.front.bus }
+    ensures tight { IsTight 255 result.front }
 {
     let banks = LastAnswers::new();
     Last {
@@ -191,4 +192,26 @@ pub(crate) fn open_segment(last: &mut Last, banks: LastAnswers, dropped: u64)
     let start = last.tick + 1 + dropped;
     last.front = Front::new(banks, start);
     last.past = [Past::default(); 8];
+}
+
+/// The same where a segment ends; else the front goes on.
+pub(crate) fn open_if(ends: bool, last: &mut Last, banks: LastAnswers, dropped: u64)
+    requires dropped { dropped ≤ 8 }
+    requires early { last.old.tick ≤ 2 ^ 62 }
+    requires soon { All (λ t. t ≤ last.old.tick + 255) banks.ticks }
+    requires past { last.old.past ≡ last.old.front.past }
+    requires tight { IsTight 255 last.old.front }
+    requires done { last.old.front.c ≡ last.old.tick }
+    ensures front { last.new.front
+        ≡ (if ends then opening banks (last.old.tick + 1 + dropped) else last.old.front) }
+    ensures past { last.new.past ≡ last.new.front.past }
+    ensures tight { IsTight 255 last.new.front }
+    ensures tick { last.new.tick ≡ last.old.tick }
+    ensures missed { last.new.missed ≡ last.old.missed }
+    ensures order { last.new.tick ≤ last.new.front.c }
+    ensures bound { last.new.front.c ≤ last.new.tick + 9 }
+{
+    if ends {
+        open_segment(last, banks, dropped);
+    }
 }

@@ -1,5 +1,5 @@
 //! The run, line by line.
-ghost use Rattle.std.specs.Prelude.{◌≡◌, ℕ, ◌+◌, ◌*◌, ◌<◌, ◌≤◌, ◌^◌, ◌∷◌, ◌++◌, ◌||◌, not, nat_eq, [], if◌then◌else◌, is_some, length, map, All, IfSome, OnOk, IsOk};
+ghost use Rattle.std.specs.Prelude.{◌≡◌, ℕ, ◌+◌, ◌*◌, ◌<◌, ◌≤◌, ◌^◌, ◌∷◌, ◌++◌, ◌||◌, not, nat_eq, [], if◌then◌else◌, is_some, length, map, All, IfSome, IfOk, IsOk};
 ghost use Rattle.std.specs.List.{AllPass};
 ghost use Rattle.st_bits.specs.declared.limits.TheConstants.{MOST_INSTRUCTIONS};
 ghost use Rattle.st_card.specs.Limits.{is_signal};
@@ -25,7 +25,7 @@ ghost use Rattle.st_account.specs.Text.{why_by, segment_after, segment_lines, en
 ghost use Rattle.st_account.specs.Standing.{guessing, has_due, still_by, without, IsLast, IsStanding, IsBehind};
 ghost use Rattle.st_account.specs.declared.lines.Why.TheVariants.{Run as RunBegins};
 
-use crate::last::{Last, at_start, look_if, open_segment, put_past};
+use crate::last::{Last, at_start, look_if, open_if, put_past};
 use crate::lines::Why;
 use crate::writing::{Border, write_border, write_end, write_machine, write_totals};
 use st_banks::{Delays, LastAnswers};
@@ -169,6 +169,14 @@ fn execute(state: &mut State, taken: Option<u8>, p: &Prepared, last: &mut Last)
     last.ic = guessed_counter(p, state);
 }
 
+// The number of the next row.
+fn row_number(state: &State) -> u32
+    requires { state.now.done ≤ MOST_INSTRUCTIONS }
+    ensures { result ≡ state.now.done + 1 }
+{
+    state.done as u32 + 1
+}
+
 // The next entry is executed, and its lines are written; its segment starts at the tick of the front, if it is the first one of that.
 fn write_entry<K: Sink>(
     out: &mut K,
@@ -197,7 +205,7 @@ fn write_entry<K: Sink>(
     state.shape();
     let taken = interrupt(state);
     let address = next_address(state);
-    let n = state.done as u32 + 1;
+    let n = row_number(state);
     let p = plan(state, taken);
     let before = last.tick;
     let start = last.front.c;
@@ -205,6 +213,14 @@ fn write_entry<K: Sink>(
     execute(state, taken, &p, last);
     sums.add_row(&row, before, start);
     write_row(out, n, address, &row, before, start)
+}
+
+// The number of the segment of the next entry.
+fn next_number(begins: bool, k: u32) -> u32
+    requires { k + 1 < 2 ^ 32 }
+    ensures { result ≡ (if begins then k + 1 else k) }
+{
+    if begins { k + 1 } else { k }
 }
 
 // The border between the last entry and the next one: the front of the next one, and the lines where a segment ends or begins.
@@ -229,7 +245,7 @@ fn write_crossing<K: Sink>(
     ensures lines { (m : Moment) → IsBehind m state.now last.old found.now.items banks card waited →
         WritesLines (K.output out.old) (K.output out.new) (segment_lines k m) (without result) }
     ensures number { (m : Moment) → IsBehind m state.now last.old found.now.items banks card waited →
-        OnOk result (λ next. next ≡ segment_after k m) }
+        IfOk result (λ next. next ≡ segment_after k m) }
     ensures front { (m : Moment) → IsBehind m state.now last.old found.now.items banks card waited →
         last.new.front ≡ next_front m }
     ensures past { last.new.past ≡ last.new.front.past }
@@ -240,21 +256,19 @@ fn write_crossing<K: Sink>(
 {
     let taken = interrupt(state);
     let ends = is_end(last.missed, card, waited, taken);
-    if ends {
-        open_segment(last, banks, found.len() as u64);
-    }
+    open_if(ends, last, banks, found.len() as u64);
     let border = Border {
         ends,
         begins: either(k == 0, ends),
         k,
         tick: last.tick,
-        n: state.done as u32 + 1,
+        n: row_number(state),
         start: last.front.c,
         waited,
         why: why_of(k == 0, taken, last.missed),
     };
     write_border(out, border, found.as_slice())?;
-    Ok(if border.begins { k + 1 } else { k })
+    Ok(next_number(border.begins, k))
 }
 
 // Writes the lines of the end of a run.
@@ -270,7 +284,7 @@ fn write_last<K: Sink>(
     ensures { (m : Moment) → m.tick ≡ last.now.tick → next_state m ≡ state.now → found.now.items ≡ map seen_of m.dropped →
         WritesLines (K.output out.old) (K.output out.new) (last_lines k m) result }
 {
-    write_end(out, k, last.tick, state.done as u32 + 1, found.as_slice())?;
+    write_end(out, k, last.tick, row_number(state), found.as_slice())?;
     write_totals(out, is_at_rest(state), state.done, last.tick)
 }
 

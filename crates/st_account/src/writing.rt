@@ -1,5 +1,5 @@
 //! The lines where a segment ends, and where one begins.
-ghost use Rattle.std.specs.Prelude.{◌≡◌, ◌+◌, ◌<◌, ◌≤◌, ◌^◌, ℕ, ◌∷◌, ◌++◌, [], if◌then◌else◌, length, MatchOption, IfSome};
+ghost use Rattle.std.specs.Prelude.{◌≡◌, ◌+◌, ◌<◌, ◌≤◌, ◌^◌, ℕ, ◌∷◌, ◌++◌, [], if◌then◌else◌, length, min, MatchOption, IfSome};
 ghost use Rattle.st_io.specs.Lines.{WritesLines};
 ghost use Rattle.st_report.specs.Line.{end_line as run_end_line, done_line, ticks_line};
 ghost use Rattle.st_account.specs.Lines.{levels_line, delays_line, delays_by, start_line, end_line, drop_line};
@@ -193,14 +193,21 @@ fn write_ten<K: Sink>(out: &mut K, ds: &[u8]) -> Result<(), Failed>
     put(out, &line_delays(ds))
 }
 
+// How many of some delays stand in a line.
+fn count_of(ds: &[u8]) -> usize
+    ensures { result ≡ min (length ds.now) 10 }
+{
+    ds.len().min(10)
+}
+
 // Writes all delays, ten in a line.
 fn write_delays<K: Sink>(out: &mut K, ds: &[u8]) -> Result<(), Failed>
     ensures { (k : ℕ) → length ds.now ≤ k → WritesLines (K.output out.old) (K.output out.new) (delays_by k ds.now) result }
 {
-    if ds.is_empty() {
+    let count = count_of(ds);
+    if count == 0 {
         return Ok(());
     }
-    let count = ds.len().min(10);
     write_ten(out, front(ds, count))?;
     write_delays(out, behind(ds, count))
 }
