@@ -1,3 +1,0 @@
-pub mod LastLemmas
-pub mod LineLemmas
-pub mod RunLemmas

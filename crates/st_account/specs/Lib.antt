@@ -1,4 +1,0 @@
-pub mod Lines
-pub mod Text
-pub mod Answers
-pub mod Standing
