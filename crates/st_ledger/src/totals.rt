@@ -1,5 +1,5 @@
 //! The ticks of charges, stage by stage.
-ghost use Rattle.std.specs.Prelude.{◌≡◌, ◌+◌, ◌<◌, ◌≤◌, ◌∷◌, [], max, length, MatchOption, IfSome};
+ghost use Rattle.std.specs.Prelude.{◌≡◌, ◌+◌, ◌<◌, ◌∷◌, [], max, length, MatchOption, IfSome};
 ghost use Rattle.st_io.specs.Lines.{WritesLines};
 ghost use Rattle.st_ledger.specs.declared.charges.Stage.{Stage as StageOf};
 ghost use Rattle.st_ledger.specs.Charges.{parts as parts_of, charged, part_charges, ticks_for, all_ticks};

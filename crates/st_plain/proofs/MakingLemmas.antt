@@ -1,12 +1,12 @@
 -- Reads that are made one after another, as far as there is time.
-use Rattle.std.specs.Prelude.{Bool, if◌then◌else◌, nat_lt, map}
+use Rattle.std.specs.Prelude.{Bool, if◌then◌else◌, map}
 use Rattle.std.proofs.Common.{◌≡◌, ℕ, ◌+◌, ◌≤◌, ◌<◌, true, false, List, [], ◌∷◌, ◌++◌, refl, sym, ap, ◌∙◌, arith}
 use Rattle.std.proofs.lemmas.Bool.{lt-ltb, le-ltb}
 use Rattle.std.proofs.lemmas.List.Elements.{All-weaker}
 use Rattle.st_fetch.specs.declared.fetched.Fetched.{Fetched}
 use Rattle.st_rows.specs.Asked.{Read, after_one, made_before}
 use Rattle.st_rows.specs.BusTimes.{accept_at}
-use Rattle.st_rows.specs.Ranges.{AreDelays, IsBusWithin, IsNear}
+use Rattle.st_rows.specs.Ranges.{AreDelays, IsBusWithin}
 use Rattle.st_rows.specs.declared.bus.Bus.{Bus}
 use Rattle.st_rows.proofs.Served.{made-bounds}
 use Rattle.st_plain.specs.declared.making.Making.{Making}

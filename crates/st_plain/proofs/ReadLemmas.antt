@@ -1,11 +1,11 @@
 -- Reads that are asked for one after another.
 use Rattle.std.specs.Prelude.{Bool, if◌then◌else◌, nat_lt, not, is_none, map, get_or}
-use Rattle.std.proofs.Common.{◌≡◌, ℕ, zero, suc, ◌+◌, ◌-◌, ◌^◌, ◌≤◌, max, true, false, List, [], ◌∷◌, ◌++◌, length, Option, None, Some, refl, sym, ap, ◌∙◌, append_assoc, arith}
+use Rattle.std.proofs.Common.{◌≡◌, ℕ, zero, suc, ◌+◌, ◌-◌, ◌≤◌, max, true, false, List, [], ◌∷◌, ◌++◌, Option, None, Some, refl, sym, ap, ◌∙◌, append_assoc, arith}
 use Rattle.std.proofs.lemmas.List.{map-append, append-nil}
 use Rattle.st_bits.specs.Storage.{words_of_storage}
 use Rattle.st_fetch.specs.Planned.{tick_of}
 use Rattle.st_rows.specs.Asked.{Read, word_asked, words_asked, data_asked, operands_asked, inside_asked, is_inside_asked, following_asked, are_following_asked, side_asked, fetches_asked, asked}
-use Rattle.st_rows.specs.Rows.{fetch_word, fetch_words, is_forwarded, request_inside, tick_a, tick_p, operands}
+use Rattle.st_rows.specs.Rows.{fetch_word, fetch_words, request_inside, tick_a, tick_p, operands}
 use Rattle.st_rows.specs.declared.front.Front.{Front}
 use Rattle.st_rows.specs.declared.bus.Bus.{Bus}
 use Rattle.st_rows.specs.declared.entry.Entry.{Entry}

@@ -1,7 +1,7 @@
 //! The row of an entry, with the reads that are asked for it.
-ghost use Rattle.std.specs.Prelude.{◌≡◌, ℕ, true, false, List, [], ◌∷◌, ◌+◌, ◌*◌, ◌-◌, ◌<◌, ◌≤◌, ◌^◌, ◌++◌, IfSome, length, max};
+ghost use Rattle.std.specs.Prelude.{◌≡◌, ℕ, true, false, List, ◌+◌, ◌-◌, ◌<◌, ◌≤◌, ◌^◌, ◌++◌, IfSome, length, max};
 ghost use Rattle.st_rows.specs.Asked.{words_asked, side_asked, data_asked, operands_asked, following_asked, are_following_asked, fetches_asked, asked as asked_of};
-ghost use Rattle.st_rows.specs.Rows.{fetch_words, fetched, tick_a, tick_p, operands, row as row_of, after as after_of};
+ghost use Rattle.st_rows.specs.Rows.{fetch_words, fetched, row as row_of, after as after_of};
 ghost use Rattle.st_rows.specs.Ranges.{IsEntry, IsTight, IsFetchingWithin, ArePastWithin, IsReadable};
 ghost use Rattle.st_rows.specs.declared.bus.Bus.{Bus};
 ghost use Rattle.st_plain.specs.Reads.{reads_of, asked_if};

@@ -1,4 +1,4 @@
-use Rattle.std.proofs.Common.{refl, sym, ◌∙◌, ap}
+use Rattle.std.proofs.Common.{refl, ◌∙◌, ap}
 use Rattle.st_back.specs.Undone.{undone}
 use Rattle.st_back.proofs.StepLemmas.{entry-undone}
 use Rattle.st_back.proofs.RingLemmas.{fresh-sound}

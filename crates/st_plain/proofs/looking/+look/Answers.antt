@@ -1,4 +1,4 @@
-use Rattle.std.proofs.Common.{◌≡◌, ◌+◌, ◌-◌, ◌<◌, ◌≤◌, length, None, sym, ◌∙◌, ap, refl, arith}
+use Rattle.std.proofs.Common.{◌-◌, length, None, ◌∙◌, ap, arith}
 use Rattle.std.proofs.lemmas.List.{length_push}
 use Rattle.st_exec.specs.Completion.{guessed}
 use Rattle.st_state.specs.Machine.{Machine}
@@ -7,7 +7,6 @@ use Rattle.st_prep.specs.declared.entries.Prepared.{Prepared}
 use Rattle.st_rows.specs.Asked.{asked}
 use Rattle.st_rows.specs.Rows.{row, after}
 use Rattle.st_rows.specs.declared.front.Row.{Row}
-use Rattle.st_segment.specs.Entries.{entry}
 use Rattle.st_segment.proofs.EntryRanges.{entry-ranges}
 use Rattle.st_plain.specs.declared.looking.Ahead.{Ahead as Seen}
 use Rattle.st_plain.proofs.LookLemmas.{guess-counted, guess-done, found-none, found-late, reads-late, reads-last, found-same, found-look, made-last, made-look}

@@ -1,4 +1,4 @@
-use Rattle.std.proofs.Common.{◌+◌, ◌-◌, ◌*◌, ◌^◌, ◌≡◌, arith}
+use Rattle.std.proofs.Common.{◌+◌, ◌-◌, ◌*◌, ◌^◌, arith}
 use Rattle.st_rows.specs.Ranges.{IsFetchingWithin}
 use Rattle.st_rows.proofs.Within.{AreDelays-list, past-weaker, fetching-weaker}
 use Rattle.st_rows.proofs.Stages.{tight-bus, wanted-early, fetch_two-within}

@@ -1,4 +1,4 @@
-use Rattle.std.proofs.Common.{◌+◌, sym, arith}
+use Rattle.std.proofs.Common.{sym, arith}
 use Rattle.st_bits.specs.Storage.{words_of_storage_is}
 use Rattle.st_plain.specs.Reads.{reads_of}
 use Rattle.st_plain.proofs.ReadLemmas.{following-if, following-none}

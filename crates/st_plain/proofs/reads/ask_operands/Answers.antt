@@ -1,4 +1,4 @@
-use Rattle.std.proofs.Common.{◌+◌, ◌-◌, arith}
+use Rattle.std.proofs.Common.{◌-◌, arith}
 use Rattle.st_bits.specs.Storage.{words_of_storage_is}
 use Rattle.st_plain.proofs.ReadLemmas.{operands-turn, operands-end}
 use Rattle.st_plain.proofs.reads.ask_operands.Goals as goal

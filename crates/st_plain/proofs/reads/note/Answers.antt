@@ -1,5 +1,3 @@
-use Rattle.std.proofs.Common.{true, [], ◌∷◌, ◌++◌, ◌∙◌, ap, refl}
-use Rattle.st_plain.specs.Reads.{reads_of, read_of, asked_if}
 use Rattle.st_plain.proofs.ReadLemmas.{reads-pushed}
 use Rattle.st_plain.proofs.reads.note.Goals as goal
 

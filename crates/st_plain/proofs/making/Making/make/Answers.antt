@@ -1,4 +1,4 @@
-use Rattle.std.proofs.Common.{◌+◌, ◌∷◌, ◌∙◌, refl, arith}
+use Rattle.std.proofs.Common.{◌+◌, ◌∷◌, refl, arith}
 use Rattle.st_rows.proofs.Within.{AreDelays-list, bus-weaker}
 use Rattle.st_plain.specs.Reads.{read_of}
 use Rattle.st_plain.proofs.MakingLemmas.{made-skip, made-late, made-early, making-early, making-room}
