@@ -13,7 +13,7 @@ use Rattle.st_card.specs.declared.cards.CardKind.{CardKind}
 use Rattle.st_card.specs.declared.cards.CardKind.TheVariants.{Comment, Control, Statement}
 use Rattle.st_card.specs.declared.keywords.Keyword.{Keyword}
 use Rattle.st_card.specs.declared.keywords.Keyword.TheVariants.{Budget, Delays, Signals, Dump, Snap, Back, Listing, Trace, Time, Chart}
-use Rattle.st_top.specs.Delays.{is_delays, begins_delays, is_control, is_delays_card}
+use Rattle.st_top.specs.Delays.{is_delays, begins_delays, is_control, is_delays_card, asked_on}
 
 -- what is asked for without the delays
 abbrev pub still : Asked → Asked
@@ -115,10 +115,6 @@ asked_by Comment a text = Some a
 asked_by Control a text = added a text
 asked_by Statement a text = None
 
-abbrev pub asked_on : Option Asked → (Asked → Option Asked) → Option Asked
-asked_on None next = None
-asked_on (Some a) next = next a
-
 -- what is asked for with cards of these texts
 unfoldable pub asked_with : Asked → List (List ℕ) → Option Asked
 asked_with a [] = Some a
@@ -127,6 +123,15 @@ asked_with a (text ∷ texts) = asked_on (asked_by (kind_of text) a text) (λ b.
 pub asks-none : (a : Asked) → asked_with a [] ≡ Some a
 unfolding asked_with
 asks-none a = refl
+
+-- one text before others
+pub asks-some : (a z : Asked) (text : List ℕ) (texts : List (List ℕ)) → asked_with a (text ∷ texts) ≡ Some z
+    → (b : Asked) × (asked_by (kind_of text) a text ≡ Some b) × (asked_with b texts ≡ Some z)
+unfolding asked_with
+asks-some a z text texts h = by (asked_by (kind_of text) a text) h where
+  by : (o : Option Asked) → asked_on o (λ c. asked_with c texts) ≡ Some z → (b : Asked) × (o ≡ Some b) × (asked_with b texts ≡ Some z)
+  by None g = let no : ⊥ = cc in absurd no
+  by (Some b) g = (b, refl, g)
 
 -- those of texts that are no delays cards
 abbrev pub others : List (List ℕ) → List (List ℕ)

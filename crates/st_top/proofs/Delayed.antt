@@ -3,7 +3,7 @@ use Rattle.st_top.specs.Delays.{MarksAreTheReport, DelaysChangeNothingButTheTime
 use Rattle.st_top.proofs.MarkLemmas.{lines-run, lines-output}
 use Rattle.st_top.proofs.DelayLemmas.{run-same}
 use Rattle.st_top.proofs.JobLemmas.{jobs-same, texts-same}
-use Rattle.st_top.proofs.PartedJobs.{cards-differ}
+use Rattle.st_top.proofs.PartedJobs.{cards-differ, again-accepted}
 
 pub marks_are_the_report : MarksAreTheReport
 marks_are_the_report = record { run = lines-run; output = lines-output }
@@ -14,6 +14,7 @@ delays_change_nothing_but_the_timetable = run-same
 pub jobs_that_differ_in_delays_alone : JobsThatDifferInDelaysAlone
 jobs_that_differ_in_delays_alone = record {
   texts = λ job other a b is also h. jobs-same job other a b is also (cards-differ job other a b is also h);
+  accepted = again-accepted;
   run = jobs-same;
   load = texts-same;
 }

@@ -1,5 +1,5 @@
 -- What a job is assembled to hangs on its cards up to END, but for what the control cards behind it ask for.
-use Rattle.std.proofs.Common.{◌≡◌, ℕ, zero, suc, ◌+◌, ◌==◌, ◌&&◌, Bool, true, false, not, if◌then◌else◌, List, [], ◌∷◌, ◌++◌, length, map, filter, take, refl, sym, ◌∙◌, ap, subst, append_assoc, append-nil, length-append, arith, Result, Ok, Err, Option, Some, None, All}
+use Rattle.std.proofs.Common.{◌≡◌, ℕ, zero, suc, ◌+◌, ◌==◌, ◌&&◌, ◌||◌, Bool, true, false, not, if◌then◌else◌, List, [], ◌∷◌, ◌++◌, length, map, filter, take, refl, sym, ◌∙◌, ap, subst, append_assoc, append-nil, length-append, arith, Result, Ok, Err, Option, Some, None, is_some, All}
 use Rattle.std.proofs.lemmas.Bool.{or_parts}
 use Rattle.std.proofs.lemmas.List.{length-map}
 use Rattle.std.proofs.lemmas.List.Elements.{All-head, All-tail}
@@ -7,30 +7,32 @@ use Rattle.std.specs.Str.Lines.{strip_carriage_return}
 use Rattle.st_text.specs.Bytes.{line_end}
 use Rattle.st_text.specs.Pieces.{words, parted}
 use Rattle.st_card.specs.Cards.{columns, kind_of, card_at, cards_from, cards_of, text_in, IsCardOf}
-use Rattle.st_card.specs.Controls.{Asked, added}
+use Rattle.st_card.specs.Controls.{Asked, nothing_asked, added}
 use Rattle.st_card.specs.declared.cards.Card.{Card}
 use Rattle.st_card.specs.declared.cards.CardKind.{CardKind}
 use Rattle.st_card.specs.declared.cards.CardKind.TheVariants.{Comment, Control, Statement}
 use Rattle.st_card.specs.declared.faults.Fault.{Fault}
-use Rattle.st_card.specs.declared.faults.Fault.TheVariants.{BadControlCard}
+use Rattle.st_card.specs.declared.faults.Fault.TheVariants.{BadControlCard, CardAfterEnd, NoEnd}
 use Rattle.st_card.proofs.StandingLemmas.{cards_stand}
-use Rattle.st_strap.specs.Order.{judged}
+use Rattle.st_strap.specs.Order.{judged, mapped}
+use Rattle.st_strap.specs.Saying.{statement_of}
 use Rattle.st_asm.specs.Pass.{Refusal, onward, pass, unless_faulty, and_then}
-use Rattle.st_asm.specs.Lines.{silent}
-use Rattle.st_asm.specs.Forming.{Found, unread, first_fault_of, with_line, with_control, with_end, form_control, form_kind, form_card, form_pass}
+use Rattle.st_asm.specs.Lines.{name_field, statement_field, silent}
+use Rattle.st_asm.specs.Forming.{Found, unread, first_fault_of, with_line, with_control, with_statement, with_end, form_control, form_statement, form_kind, form_card, form_pass}
 use Rattle.st_asm.specs.Symbols.{table}
 use Rattle.st_asm.specs.Naming.{Named, name_pass}
 use Rattle.st_asm.specs.Valuing.{Laid, value_pass}
 use Rattle.st_asm.specs.Assembly.{Assembly, with_defaults, together, assembly}
 use Rattle.st_asm.specs.declared.valuing.Listed.{Listed}
 use Rattle.st_asm.proofs.FaultlessLemmas.{form_pass-faultless}
-use Rattle.st_asm.proofs.KeptLemmas.{form_pass-numbers}
+use Rattle.st_asm.proofs.KeptLemmas.{form_pass-numbers, name_pass-counts}
 use Rattle.st_exch.specs.Reader.{is_comment, is_statement, has_statement, behind_statements, card_words, texts_in, reader_cards}
 use Rattle.st_top.specs.Marks.{up_to_end, texts_up_to_end, end_card, DifferInDelays}
-use Rattle.st_top.specs.Delays.{is_control, begins_delays, is_delays_card, texts_behind_end, others_behind_end, DifferInDelaysCards}
+use Rattle.st_top.specs.Delays.{HasGoodDelays, asked_in, delays_behind_end, is_control, begins_delays, is_delays_card, texts_behind_end, others_behind_end, DifferInDelaysCards}
 use Rattle.st_top.proofs.MarkLemmas.{cards-split}
-use Rattle.st_top.proofs.PartedPasses.{Line, onward-ok, and_then-ok, onward-same, pass-append, quiet, quiet_rows, Parts, passes-parted}
-use Rattle.st_top.proofs.DelayCards.{still, others, asked_with, asks-none, asks-comment, asks-control, others-kept, others-left}
+use Rattle.st_top.proofs.PartedPasses.{Line, onward-ok, and_then-ok, onward-same, pass-append, quiet, no_places, quiet_rows, with_places, with_rows, names-parted, values-parted, Parts, passes-parted}
+use Rattle.st_top.proofs.AcceptedJobs.{mixed}
+use Rattle.st_top.proofs.DelayCards.{still, others, asked_by, asked_with, asks-none, asks-some, asks-comment, asks-control, others-kept, others-left}
 
 -- ---- cards and their texts
 
@@ -126,6 +128,7 @@ pass-texts job found n (card ∷ cards) numbered good =
 
 -- cards of these numbers and texts lead from one state to another: they say nothing, and ask for something
 record Went (from to : Found) (numbers : List ℕ) (texts : List (List ℕ)) : Type 0 where
+  ended : to.ended ≡ from.ended
   lines : to.lines ≡ from.lines ++ quiet numbers
   asked : asked_with (still from.asked) (others texts) ≡ Some (still to.asked)
 
@@ -141,12 +144,14 @@ went-on : (k : CardKind) (from state to : Found) (n : ℕ) (text : List ℕ) (ns
 unfolding form_control
 went-on Comment from state to n text ns texts kind none h rest =
     let is : with_line from (silent n) ≡ state = cc in record {
+      ended = rest.ended ∙ ap (λ (s : Found). s.ended) (sym is);
       lines = rest.lines ∙ ap (λ (s : Found). s.lines ++ quiet ns) (sym is) ∙ append_assoc from.lines (silent n ∷ []) (quiet ns);
       asked = asks-comment (still from.asked) (Some (still to.asked)) text texts kind
           (ap (λ (s : Found). asked_with (still s.asked) (others texts)) is ∙ rest.asked);
     }
 went-on Control from state to n text ns texts kind none h rest =
     let (b, asks, is) = control-ok from state n from.ended (added from.asked text) h in record {
+      ended = rest.ended ∙ ap (λ (s : Found). s.ended) (sym is);
       lines = rest.lines ∙ ap (λ (s : Found). s.lines ++ quiet ns) (sym is) ∙ append_assoc from.lines (silent n ∷ []) (quiet ns);
       asked = asks-control from.asked b (Some (still to.asked)) text texts kind asks
           (ap (λ (s : Found). asked_with (still s.asked) (others texts)) is ∙ rest.asked);
@@ -157,6 +162,7 @@ went : (job : List ℕ) (from to : Found) (cards : List Card) → AreGood job ca
     → pass (form_card job) (λ card. card.number) from cards ≡ Ok to → Went from to (map (λ card. card.number) cards) (map (text_in job) cards)
 went job from to [] good none h =
     let same : from ≡ to = cc in record {
+      ended = ap (λ (f : Found). f.ended) (sym same);
       lines = ap (λ (f : Found). f.lines) (sym same) ∙ sym (append-nil from.lines);
       asked = asks-none (still from.asked) ∙ ap (λ (f : Found). Some (still f.asked)) same;
     }
@@ -168,6 +174,132 @@ went job from to (card ∷ cards) good none h =
     (ap is_statement (sym good.0) ∙ parts.0)
     (sym (card-text job from card.number card refl good.0 good.1) ∙ on.good)
     (went job on.state to cards good.2 parts.1 on.next)
+
+some-same : {A : Type 0} (x y : A) → (the : Option A) → the ≡ Some x → the ≡ Some y → x ≡ y
+some-same x y the one two = cc
+
+-- ---- the cards up to END ask for nothing
+
+-- each card is a statement card or stands before one
+abbrev AreBefore : List Card → Type 0
+AreBefore [] = Unit {0}
+AreBefore (card ∷ cards) = (has_statement (card ∷ cards) ≡ true) × AreBefore cards
+
+front-statement : (cards : List Card) → has_statement (up_to_end cards) ≡ has_statement cards
+unfolding up_to_end
+front-statement [] = refl
+front-statement (card ∷ cards) = by (has_statement (card ∷ cards)) refl (front-statement cards) where
+  by : (b : Bool) → has_statement (card ∷ cards) ≡ b → has_statement (up_to_end cards) ≡ has_statement cards
+      → has_statement (if b then card ∷ up_to_end cards else []) ≡ b
+  by true is rest = ap (λ (v : Bool). is_statement card.kind || v) rest ∙ is
+  by false is rest = refl
+
+front-before : (cards : List Card) → AreBefore (up_to_end cards)
+unfolding up_to_end
+front-before [] = tt
+front-before (card ∷ cards) = by (has_statement (card ∷ cards)) refl (front-before cards) (front-statement cards) where
+  by : (b : Bool) → has_statement (card ∷ cards) ≡ b → AreBefore (up_to_end cards) → has_statement (up_to_end cards) ≡ has_statement cards
+      → AreBefore (if b then card ∷ up_to_end cards else [])
+  by true is rest same = (ap (λ (v : Bool). is_statement card.kind || v) same ∙ is, rest)
+  by false is rest same = tt
+
+if-ended : (e : Bool) (r : Result Found Fault) (s : Found) → e ≡ true → (if e then Err CardAfterEnd else r) ≡ Ok s → ⊥
+if-ended true r s e h = cc
+if-ended false r s e h = cc
+
+if-open : (e : Bool) (r : Result Found Fault) (s : Found) → (if e then Err CardAfterEnd else r) ≡ Ok s → r ≡ Ok s
+if-open true r s h = let no : ⊥ = cc in absurd no
+if-open false r s h = h
+
+if-control : (e : Bool) (r : Result Found Fault) (s : Found) → e ≡ false → (if e then r else Err BadControlCard) ≡ Ok s → ⊥
+if-control true r s e h = cc
+if-control false r s e h = cc
+
+mapped-asks : {S : Type 0} (from state : Found) (f : S → Found) (o : Result S Fault) → ((s : S) → (f s).asked ≡ from.asked)
+    → mapped f o ≡ Ok state → state.asked ≡ from.asked
+mapped-asks from state f (Ok s) same h = let is : f s ≡ state = cc in ap (λ (t : Found). t.asked) (sym is) ∙ same s
+mapped-asks from state f (Err e) same h = let no : ⊥ = cc in absurd no
+
+kind-asks : (k : CardKind) (from state : Found) (n : ℕ) (text : List ℕ) → from.ended ≡ false → form_kind k from n None text ≡ Ok state → state.asked ≡ from.asked
+unfolding form_control form_statement
+kind-asks Comment from state n text e h = let is : with_line from (silent n) ≡ state = cc in ap (λ (t : Found). t.asked) (sym is)
+kind-asks Control from state n text e h = absurd (if-control from.ended _ state e h)
+kind-asks Statement from state n text e h =
+    mapped-asks from state (λ s. with_statement from n (name_field text) s) (statement_of (name_field text) (statement_field text)) (λ s. refl)
+    (if-open from.ended _ state h)
+
+kind-ended : (k : CardKind) (from state : Found) (n : ℕ) (text : List ℕ) → from.ended ≡ true → form_kind k from n None text ≡ Ok state
+    → (state.ended ≡ true) × (is_statement k ≡ false)
+unfolding form_control form_statement
+kind-ended Comment from state n text e h = let is : with_line from (silent n) ≡ state = cc in (ap (λ (t : Found). t.ended) (sym is) ∙ e, refl)
+kind-ended Control from state n text e h =
+    let (b, asks, is) = control-ok from state n from.ended (added from.asked text) h in (ap (λ (t : Found). t.ended) (sym is) ∙ e, refl)
+kind-ended Statement from state n text e h = absurd (if-ended from.ended _ state e h)
+
+or-right : (a b : Bool) → (a || b) ≡ true → a ≡ false → b ≡ true
+or-right true b h off = cc
+or-right false b h off = h
+
+ended-stops : (job : List ℕ) (from to : Found) (cards : List Card) → AreGood job cards → has_statement cards ≡ true → from.ended ≡ true
+    → pass (form_card job) (λ card. card.number) from cards ≡ Ok to → ⊥
+ended-stops job from to [] good some e h = cc
+ended-stops job from to (card ∷ cards) good some e h =
+    let on = onward-ok (λ f. pass (form_card job) (λ c. c.number) f cards) card.number (form_card job from card) to h in
+    let step = sym (card-text job from card.number card refl good.0 good.1) ∙ on.good in
+    let k = kind-ended (kind_of (text_in job card)) from on.state card.number (text_in job card) e step in
+    ended-stops job on.state to cards good.2
+    (or-right (is_statement card.kind) (has_statement cards) some (ap is_statement good.0 ∙ k.1)) k.0 on.next
+
+stays : (job : List ℕ) (from to : Found) (cards : List Card) → AreBefore cards → AreGood job cards → from.ended ≡ true
+    → pass (form_card job) (λ card. card.number) from cards ≡ Ok to → to.asked ≡ from.asked
+stays job from to [] before good e h = let same : from ≡ to = cc in ap (λ (f : Found). f.asked) (sym same)
+stays job from to (card ∷ cards) before good e h = absurd (ended-stops job from to (card ∷ cards) good before.0 e h)
+
+open-front : (job : List ℕ) (from to : Found) (cards : List Card) → AreBefore cards → AreGood job cards → from.ended ≡ false
+    → pass (form_card job) (λ card. card.number) from cards ≡ Ok to → to.asked ≡ from.asked
+open-front job from to [] before good e h = let same : from ≡ to = cc in ap (λ (f : Found). f.asked) (sym same)
+open-front job from to (card ∷ cards) before good e h =
+    let on = onward-ok (λ f. pass (form_card job) (λ c. c.number) f cards) card.number (form_card job from card) to h in
+    let step = sym (card-text job from card.number card refl good.0 good.1) ∙ on.good in
+    by on.state.ended refl (λ still_open. open-front job on.state to cards before.1 good.2 still_open on.next)
+    (λ closed. stays job on.state to cards before.1 good.2 closed on.next)
+    ∙ kind-asks (kind_of (text_in job card)) from on.state card.number (text_in job card) e step where
+      by : {P : Type 0} (b : Bool) {c : Bool} → c ≡ b → (c ≡ false → P) → (c ≡ true → P) → P
+      by true is at-false at-true = at-true is
+      by false is at-false at-true = at-false is
+
+-- ---- cards behind END that are good
+
+kind-goes : (k : CardKind) (from : Found) (b : Asked) (n : ℕ) (text : List ℕ) → from.ended ≡ true → asked_by k from.asked text ≡ Some b
+    → form_kind k from n None text ≡ Ok (record { ended = true; asked = b; lines = from.lines ++ silent n ∷ [] })
+unfolding form_control
+kind-goes Comment from b n text e is =
+    let same : from.asked ≡ b = cc in
+    ap (λ (v : Bool). Ok (record { ended = v; asked = from.asked; lines = from.lines ++ silent n ∷ [] })) e
+    ∙ ap (λ (a : Asked). Ok (record { ended = true; asked = a; lines = from.lines ++ silent n ∷ [] })) same
+kind-goes Control from b n text e is =
+    ap (λ (v : Bool). if v then judged BadControlCard (added from.asked text) (λ asked. Ok (record { ended = v; asked = asked; lines = from.lines ++ silent n ∷ [] })) else Err BadControlCard) e
+    ∙ ap (λ (o : Option Asked). judged BadControlCard o (λ asked. Ok (record { ended = true; asked = asked; lines = from.lines ++ silent n ∷ [] }))) is
+kind-goes Statement from b n text e is = let no : ⊥ = cc in absurd no
+
+all-go : (job : List ℕ) (from : Found) (z : Asked) (cards : List Card) → AreGood job cards → from.ended ≡ true
+    → asked_with from.asked (map (text_in job) cards) ≡ Some z
+    → pass (form_card job) (λ card. card.number) from cards
+    ≡ Ok (record { ended = true; asked = z; lines = from.lines ++ quiet (map (λ card. card.number) cards) })
+all-go job from z [] good e h =
+    let same : from.asked ≡ z = some-same from.asked z (asked_with from.asked []) (asks-none from.asked) h in
+    ap (λ (v : Bool). Ok (record { ended = v; asked = from.asked; lines = from.lines })) e
+    ∙ ap (λ (a : Asked). Ok (record { ended = true; asked = a; lines = from.lines })) same
+    ∙ ap (λ (ls : List Line). Ok (record { ended = true; asked = z; lines = ls })) (sym (append-nil from.lines))
+all-go job from z (card ∷ cards) good e h =
+    let text = text_in job card in
+    let ns = map (λ (c : Card). c.number) cards in
+    let (b, is, more) = asks-some from.asked z text (map (text_in job) cards) h in
+    let state : Found = record { ended = true; asked = b; lines = from.lines ++ silent card.number ∷ [] } in
+    ap (onward (λ f. pass (form_card job) (λ c. c.number) f cards) card.number)
+    (card-text job from card.number card refl good.0 good.1 ∙ kind-goes (kind_of text) from b card.number text e is)
+    ∙ all-go job state z cards good.2 refl more
+    ∙ ap (λ (ls : List Line). Ok (record { ended = true; asked = z; lines = ls })) (append_assoc from.lines (silent card.number ∷ []) (quiet ns))
 
 -- ---- the reader
 
@@ -220,9 +352,15 @@ reader-others job good =
 record Read (job : List ℕ) (all : Found) : Type 0 where
   found : Found
   read : form_texts unread 1 (texts_up_to_end job) ≡ Ok found
+  ended : found.ended ≡ true
+  opened : found.asked ≡ nothing_asked
   went : Went found all (map (λ card. card.number) (behind_statements (cards_of job))) (texts_behind_end job)
   count : length found.lines ≡ end_card job
   reader : reader_cards job ≡ map card_words (comments (others_behind_end job))
+
+ended-true : (b : Bool) (found all : Found) (r : Refusal) → (if b then Ok found else Err r) ≡ Ok all → b ≡ true
+ended-true true found all r h = refl
+ended-true false found all r h = let no : ⊥ = cc in absurd no
 
 ended-same : (b : Bool) (found all : Found) (r : Refusal) → (if b then Ok found else Err r) ≡ Ok all → found ≡ all
 ended-same true found all r h = cc
@@ -263,6 +401,8 @@ job-read job all is =
     record {
       found = two.first;
       read = sym (pass-texts job unread 1 front (front-numbered 1 front behind numbered) (front-good job front behind split_good)) ∙ two.is;
+      ended = sym on.ended ∙ ap (λ (f : Found). f.ended) (sym same) ∙ ended-true formed.first.ended formed.first all _ formed.last;
+      opened = open-front job unread two.first front (front-before cards) (front-good job front behind split_good) refl two.is;
       went = on;
       count = counted job two.first all is on.lines;
       reader = reader-others job (behind-good job front behind split_good);
@@ -275,6 +415,8 @@ record FromFront (job : List ℕ) (a : Assembly) : Type 0 where
   laid : Laid
   asked : Asked
   read : form_texts unread 1 (texts_up_to_end job) ≡ Ok found
+  ended : found.ended ≡ true
+  opened : found.asked ≡ nothing_asked
   names : name_pass found.lines ≡ Ok named
   values : value_pass (table named.symbols) found.lines named.places ≡ Ok laid
   image : a.image ≡ laid.image
@@ -300,6 +442,8 @@ from-parts job all named laid read parts = record {
   laid = parts.laid;
   asked = all.asked;
   read = read.read;
+  ended = read.ended;
+  opened = read.opened;
   names = parts.names;
   values = parts.values;
   image = parts.image;
@@ -331,9 +475,6 @@ from-front job a is =
 
 ok-same : {A : Type 0} (x y : A) → (the : Result A Refusal) → the ≡ Ok x → the ≡ Ok y → x ≡ y
 ok-same x y the one two = cc
-
-some-same : {A : Type 0} (x y : A) → (the : Option A) → the ≡ Some x → the ≡ Some y → x ≡ y
-some-same x y the one two = cc
 
 defaults-still : (ds : List ℕ) (asked : Asked) → record (with_defaults asked) { delays = ds } ≡ record (with_defaults (still asked)) { delays = ds }
 unfolding with_defaults
@@ -370,3 +511,61 @@ cards-differ job other a b is also h =
           ∙ sym (ap (λ (z : Asked). record z { delays = ds }) y.controls);
       reader = x.reader ∙ ap (λ l. map card_words (comments l)) h.others ∙ sym y.reader;
     }
+
+-- ---- a job with other good delays cards
+
+some-of : {A : Type 0} (o : Option A) → is_some o ≡ true → (x : A) × (o ≡ Some x)
+some-of (Some x) h = (x, refl)
+some-of None h = let no : ⊥ = cc in absurd no
+
+with-true : (n : ℕ) (all : Found) → all.ended ≡ true → with_end n all ≡ Ok all
+with-true n all e = ap (λ (b : Bool). if b then Ok all else Err (record { card = n + 1; fault = NoEnd })) e
+
+-- the form pass, where the cards up to END lead to a state and those behind it are good
+form-again : (job : List ℕ) (found : Found) (z : Asked) → form_texts unread 1 (texts_up_to_end job) ≡ Ok found → found.ended ≡ true
+    → All (λ (card : Card). card.fault ≡ None) (cards_of job) → asked_with found.asked (texts_behind_end job) ≡ Some z
+    → form_pass job (cards_of job)
+    ≡ Ok (record { ended = true; asked = z; lines = found.lines ++ quiet (map (λ card. card.number) (behind_statements (cards_of job))) })
+unfolding form_pass
+form-again job found z read e no_faults asks =
+    let cards = cards_of job in
+    let front = up_to_end cards in
+    let behind = behind_statements cards in
+    let next = λ (from : Found) (cs : List Card). pass (form_card job) (λ card. card.number) from cs in
+    let split_good : AreGood job (front ++ behind) = subst (AreGood job) (sym (cards-split cards)) (are-good job cards (cards_stand job) no_faults) in
+    let numbered : AreNumbered 1 (front ++ behind) =
+    subst (AreNumbered 1) (sym (cards-split cards)) (take-numbered 20001 1 (cards_from 1 0 (parted line_end job)) (from-numbered 1 0 (parted line_end job))) in
+    let first : next unread front ≡ Ok found =
+    pass-texts job unread 1 front (front-numbered 1 front behind numbered) (front-good job front behind split_good) ∙ read in
+    let last = all-go job found z behind (behind-good job front behind split_good) e asks in
+    let whole = ap (next unread) (sym (cards-split cards)) ∙ pass-append (form_card job) (λ card. card.number) unread front behind
+    ∙ ap (λ r. and_then r (λ s. next s behind)) first ∙ last in
+    ap (λ r. and_then r (with_end (length cards))) whole
+
+-- the later passes over lines with cards that say nothing behind them
+again : (job : List ℕ) (all found : Found) (named : Named) (laid : Laid) (ns : List ℕ) → form_pass job (cards_of job) ≡ Ok all
+    → all.lines ≡ found.lines ++ quiet ns → name_pass found.lines ≡ Ok named → value_pass (table named.symbols) found.lines named.places ≡ Ok laid
+    → assembly job ≡ Ok (together all (with_places named (no_places ns)) (with_rows laid (quiet_rows ns)))
+unfolding assembly
+again job all found named laid ns formed lines names values =
+    let laying = λ (whole : Found) (n : Named). and_then (value_pass (table n.symbols) whole.lines n.places) (λ l. Ok (together whole n l)) in
+    let more = with_places named (no_places ns) in
+    let has_names = ap name_pass lines ∙ names-parted found.lines ns ∙ ap (λ r. and_then r (λ n. Ok (with_places n (no_places ns)))) names in
+    let has_values = ap (λ ls. value_pass (table named.symbols) ls (named.places ++ no_places ns)) lines
+    ∙ values-parted (table named.symbols) found.lines named.places ns (name_pass-counts found.lines named names)
+    ∙ ap (λ r. and_then r (λ l. Ok (with_rows l (quiet_rows ns)))) values in
+    ap (λ r. and_then r (λ whole. and_then (name_pass whole.lines) (laying whole))) formed
+    ∙ ap (λ r. and_then r (laying all)) has_names
+    ∙ ap (λ r. and_then r (λ l. Ok (together all more l))) has_values
+
+-- a job with the same cards but for its delays cards is not refused, where these are good
+pub again-accepted : (job other : List ℕ) (a : Assembly) → assembly job ≡ Ok a → DifferInDelaysCards job other → HasGoodDelays other
+    → (b : Assembly) × (assembly other ≡ Ok b)
+again-accepted job other a is h g =
+    let x = from-front job a is in
+    let (e, good) = some-of (asked_in nothing_asked (delays_behind_end other)) g.delays in
+    let (z, asks) = mixed (texts_behind_end other) x.found.asked nothing_asked (still x.asked) e (ap (λ (a : Asked). a.delays) x.opened)
+    (ap (asked_with (still x.found.asked)) (sym h.others) ∙ x.asks) good in
+    let ns = map (λ (card : Card). card.number) (behind_statements (cards_of other)) in
+    let formed = form-again other x.found z (ap (form_texts unread 1) (sym h.up_to_end) ∙ x.read) x.ended g.cards asks in
+    (_, again other (record { ended = true; asked = z; lines = x.found.lines ++ quiet ns }) x.found x.named x.laid ns formed refl x.names x.values)

@@ -83,7 +83,7 @@ abbrev pub no_places : List ℕ → List (Option ℕ)
 no_places ns = map (λ n. None) ns
 
 -- what is known with places more
-abbrev with_places : Named → List (Option ℕ) → Named
+abbrev pub with_places : Named → List (Option ℕ) → Named
 with_places named places = record { location = named.location; symbols = named.symbols; places = named.places ++ places }
 
 name-silent : (on_cards : List ℕ → Bool) (named : Named) (n : ℕ) → name_card on_cards named (silent n) ≡ Ok (with_places named (None ∷ []))
@@ -118,7 +118,7 @@ abbrev pub quiet_rows : List ℕ → List Listed
 quiet_rows ns = map quiet_row ns
 
 -- what is laid with rows more
-abbrev with_rows : Laid → List Listed → Laid
+abbrev pub with_rows : Laid → List Listed → Laid
 with_rows laid rows = record { image = laid.image; start = laid.start; rows = laid.rows ++ rows }
 
 -- cards that say nothing, with their places

@@ -1,9 +1,10 @@
 -- Jobs whose texts differ in their delays cards alone. They write the same, but for the lines that are marked.
-use Rattle.std.specs.Prelude.{◌≡◌, ℕ, ◌&&◌, Bool, true, false, not, List, [], ◌∷◌, map, filter, Option, Some, None, Ok}
+use Rattle.std.specs.Prelude.{◌≡◌, ℕ, ◌&&◌, Bool, true, false, not, List, [], ◌∷◌, map, filter, All, Option, Some, None, IsSome, Ok}
 use Rattle.st_text.specs.Pieces.{words}
 use Rattle.st_text.specs.Tables.{row_of}
 use Rattle.st_card.specs.Cards.{cards_of, text_in, kind_of, columns}
-use Rattle.st_card.specs.Controls.{Asked, keywords}
+use Rattle.st_card.specs.Controls.{Asked, nothing_asked, keywords, added}
+use Rattle.st_card.specs.declared.cards.Card.{Card}
 use Rattle.st_card.specs.declared.cards.CardKind.{CardKind}
 use Rattle.st_card.specs.declared.cards.CardKind.TheVariants.{Comment, Control, Statement}
 use Rattle.st_card.specs.declared.keywords.Keyword.{Keyword}
@@ -61,6 +62,26 @@ pub record DifferInDelaysCards (job other : List ℕ) : Type 0 where
   pub up_to_end : texts_up_to_end job ≡ texts_up_to_end other
   pub others : others_behind_end job ≡ others_behind_end other
 
+-- what comes next where something is asked for
+abbrev pub asked_on : Option Asked → (Asked → Option Asked) → Option Asked
+asked_on None next = None
+asked_on (Some asked) next = next asked
+
+-- what control cards of these texts ask for, one after the other, where each is good
+unfoldable pub asked_in : Asked → List (List ℕ) → Option Asked
+asked_in kept [] = Some kept
+asked_in kept (text ∷ texts) = asked_on (added kept text) (λ more. asked_in more texts)
+
+-- the texts of a job's delays cards behind END
+abbrev pub delays_behind_end : List ℕ → List (List ℕ)
+delays_behind_end job = filter is_delays_card (texts_behind_end job)
+
+-- no card of a job has a fault by itself, and its delays cards alone are good, one after the other: each has numbers from
+-- 1 to 255, and all of them together at most 4,096
+pub record HasGoodDelays (job : List ℕ) : Type 0 where
+  pub cards : All (λ (card : Card). card.fault ≡ None) (cards_of job)
+  pub delays : IsSome (asked_in nothing_asked (delays_behind_end job))
+
 -- the lines with their marks are those of the report of a run, one by one, and those that a command writes
 pub record MarksAreTheReport : Type 0 where
   pub run : (asked : Asked) (start : Scene) → all_lines (marked_run asked start) ≡ lines_of (run_report asked start)
@@ -73,10 +94,12 @@ DelaysChangeNothingButTheTimetable = (asked : Asked) (ds snaps : List ℕ) (time
     ≡ unmarked (marked_run asked start)
 
 -- two jobs that are not refused, and whose texts differ in their delays cards alone, write the same lines that are not
--- marked. So do all jobs that give the same but for the delays, and object texts of programs that differ in their delays alone
+-- marked; and where one of the two is not refused and the other's delays cards are good, that is not refused either. So do all jobs that give the same but for the delays, and object texts of programs that differ in their delays alone
 pub record JobsThatDifferInDelaysAlone : Type 0 where
   pub texts : (job other : List ℕ) (a b : Assembly) → assembly job ≡ Ok a → assembly other ≡ Ok b
       → DifferInDelaysCards job other → unmarked (marked_output Run job) ≡ unmarked (marked_output Run other)
+  pub accepted : (job other : List ℕ) (a : Assembly) → assembly job ≡ Ok a → DifferInDelaysCards job other → HasGoodDelays other
+      → (b : Assembly) × (assembly other ≡ Ok b)
   pub run : (job other : List ℕ) (a b : Assembly) → assembly job ≡ Ok a → assembly other ≡ Ok b
       → DifferInDelays job other a b → unmarked (marked_output Run job) ≡ unmarked (marked_output Run other)
   pub load : (text other : List ℕ) (p q : Program) → read_text text ≡ Ok p → read_text other ≡ Ok q

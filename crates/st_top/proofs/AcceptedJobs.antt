@@ -1,0 +1,205 @@
+-- A job whose delays cards are exchanged for other good ones is again not refused.
+use Rattle.std.proofs.Common.{◌≡◌, ℕ, ◌+◌, ◌==◌, ◌&&◌, ◌||◌, Bool, true, false, not, if◌then◌else◌, List, [], ◌∷◌, ◌++◌, length, map, filter, refl, sym, ◌∙◌, ap, subst, append_assoc, append-nil, Result, Ok, Err, Option, Some, None}
+use Rattle.std.specs.Prelude.{nat_le}
+use Rattle.std.specs.List.{list_all}
+use Rattle.std.proofs.lemmas.Bool.{or_parts}
+use Rattle.st_text.specs.Pieces.{words}
+use Rattle.st_text.specs.Tables.{row_of}
+use Rattle.st_bits.specs.declared.limits.TheConstants.{LONGEST_LIST}
+use Rattle.st_card.specs.declared.limits.TheConstants.{MOST_DELAY}
+use Rattle.st_card.specs.Cards.{columns, kind_of, cards_of, text_in}
+use Rattle.st_card.specs.Controls.{Asked, nothing_asked, keywords, card_numbers, is_in_range, with_delays, with_keyword, with_card, with_words, added}
+use Rattle.st_card.specs.declared.cards.Card.{Card}
+use Rattle.st_card.specs.declared.cards.CardKind.{CardKind}
+use Rattle.st_card.specs.declared.cards.CardKind.TheVariants.{Comment, Control, Statement}
+use Rattle.st_card.specs.declared.faults.Fault.{Fault}
+use Rattle.st_card.specs.declared.faults.Fault.TheVariants.{BadControlCard, CardAfterEnd}
+use Rattle.st_card.specs.declared.keywords.Keyword.{Keyword}
+use Rattle.st_card.specs.declared.keywords.Keyword.TheVariants.{Budget, Delays, Signals, Dump, Snap, Back, Listing, Trace, Time, Chart}
+use Rattle.st_top.specs.Delays.{is_delays, begins_delays, is_control, is_delays_card, asked_on, asked_in}
+use Rattle.st_top.proofs.DelayCards.{still, stills, others, asked_by, asked_with, other-still, delays-still, others-kept, others-left, asks-none}
+
+-- ---- a good delays card is good beside others
+
+-- the numbers of a delays card are added to delays, whatever else is asked for
+like-if : (test : Bool) (ds : List ℕ) (a d e : Asked) → a.delays ≡ d.delays → (if test then Some (record d { delays = d.delays ++ ds }) else None) ≡ Some e
+    → (b : Asked) × ((if test then Some (record a { delays = a.delays ++ ds }) else None) ≡ Some b) × (b.delays ≡ e.delays)
+like-if true ds a d e same h =
+    let is : record d { delays = d.delays ++ ds } ≡ e = cc in
+    (record a { delays = a.delays ++ ds }, refl, ap (λ l. l ++ ds) same ∙ ap (λ (z : Asked). z.delays) is)
+like-if false ds a d e same h = let no : ⊥ = cc in absurd no
+
+-- what it is to be good beside others
+abbrev Likewise : (Asked → Option Asked) → Asked → Asked → Type 0
+Likewise next a e = (b : Asked) × (next a ≡ Some b) × (b.delays ≡ e.delays)
+
+with-like : (a d e : Asked) (ns : List ℕ) → a.delays ≡ d.delays → with_delays d ns ≡ Some e → Likewise (λ z. with_delays z ns) a e
+with-like a d e [] same h = let no : ⊥ = cc in absurd no
+with-like a d e (n ∷ ns) same h =
+    like-if (nat_le (length a.delays + length (n ∷ ns)) LONGEST_LIST && list_all (is_in_range 1 MOST_DELAY) (n ∷ ns)) (n ∷ ns) a d e same
+    (ap (λ (l : List ℕ). if nat_le (length l + length (n ∷ ns)) LONGEST_LIST && list_all (is_in_range 1 MOST_DELAY) (n ∷ ns)
+    then Some (record d { delays = d.delays ++ n ∷ ns }) else None) same ∙ h)
+
+keyword-like : (k : Keyword) (a d e : Asked) (ns : List ℕ) → is_delays (Some k) ≡ true → a.delays ≡ d.delays → with_keyword k d ns ≡ Some e
+    → Likewise (λ z. with_keyword k z ns) a e
+keyword-like Delays a d e ns h same is = with-like a d e ns same is
+keyword-like Budget a d e ns h same is = let no : ⊥ = cc in absurd no
+keyword-like Signals a d e ns h same is = let no : ⊥ = cc in absurd no
+keyword-like Dump a d e ns h same is = let no : ⊥ = cc in absurd no
+keyword-like Snap a d e ns h same is = let no : ⊥ = cc in absurd no
+keyword-like Back a d e ns h same is = let no : ⊥ = cc in absurd no
+keyword-like Listing a d e ns h same is = let no : ⊥ = cc in absurd no
+keyword-like Trace a d e ns h same is = let no : ⊥ = cc in absurd no
+keyword-like Time a d e ns h same is = let no : ⊥ = cc in absurd no
+keyword-like Chart a d e ns h same is = let no : ⊥ = cc in absurd no
+
+card-like : (o : Option Keyword) (a d e : Asked) (ns : Option (List ℕ)) → is_delays o ≡ true → a.delays ≡ d.delays → with_card d o ns ≡ Some e
+    → Likewise (λ z. with_card z o ns) a e
+card-like None a d e ns h same is = let no : ⊥ = cc in absurd no
+card-like (Some k) a d e None h same is = let no : ⊥ = cc in absurd no
+card-like (Some k) a d e (Some ns) h same is = keyword-like k a d e ns h same is
+
+words-like : (a d e : Asked) (ws : List (List ℕ)) → begins_delays ws ≡ true → a.delays ≡ d.delays → with_words d ws ≡ Some e
+    → Likewise (λ z. with_words z ws) a e
+words-like a d e [] h same is = let no : ⊥ = cc in absurd no
+words-like a d e (word ∷ more) h same is = card-like (row_of word keywords) a d e (card_numbers more) h same is
+
+-- another card leaves the delays
+left-if : (test : Bool) (a x b : Asked) → x.delays ≡ a.delays → (if test then Some x else None) ≡ Some b → b.delays ≡ a.delays
+left-if true a x b same h = let is : x ≡ b = cc in ap (λ (z : Asked). z.delays) (sym is) ∙ same
+left-if false a x b same h = let no : ⊥ = cc in absurd no
+
+left-none : (test : Bool) (a x b : Asked) → x.delays ≡ a.delays → (if test then None else Some x) ≡ Some b → b.delays ≡ a.delays
+left-none false a x b same h = let is : x ≡ b = cc in ap (λ (z : Asked). z.delays) (sym is) ∙ same
+left-none true a x b same h = let no : ⊥ = cc in absurd no
+
+keyword-leaves : (k : Keyword) (a b : Asked) (ns : List ℕ) → is_delays (Some k) ≡ false → with_keyword k a ns ≡ Some b → b.delays ≡ a.delays
+keyword-leaves Delays a b ns h is = let no : ⊥ = cc in absurd no
+keyword-leaves Budget a b [] h is = let no : ⊥ = cc in absurd no
+keyword-leaves Budget a b (n ∷ []) h is = left-if _ a _ b refl is
+keyword-leaves Budget a b (n ∷ m ∷ ns) h is = let no : ⊥ = cc in absurd no
+keyword-leaves Signals a b [] h is = let no : ⊥ = cc in absurd no
+keyword-leaves Signals a b (n ∷ []) h is = let no : ⊥ = cc in absurd no
+keyword-leaves Signals a b (n ∷ m ∷ []) h is = left-if _ a _ b refl is
+keyword-leaves Signals a b (n ∷ m ∷ k ∷ ns) h is = let no : ⊥ = cc in absurd no
+keyword-leaves Dump a b [] h is = let no : ⊥ = cc in absurd no
+keyword-leaves Dump a b (n ∷ []) h is = let no : ⊥ = cc in absurd no
+keyword-leaves Dump a b (n ∷ m ∷ []) h is = left-if _ a _ b refl is
+keyword-leaves Dump a b (n ∷ m ∷ k ∷ ns) h is = let no : ⊥ = cc in absurd no
+keyword-leaves Snap a b [] h is = let no : ⊥ = cc in absurd no
+keyword-leaves Snap a b (n ∷ []) h is = left-if _ a _ b refl is
+keyword-leaves Snap a b (n ∷ m ∷ ns) h is = let no : ⊥ = cc in absurd no
+keyword-leaves Back a b [] h is = let no : ⊥ = cc in absurd no
+keyword-leaves Back a b (n ∷ []) h is = left-if _ a _ b refl is
+keyword-leaves Back a b (n ∷ m ∷ ns) h is = let no : ⊥ = cc in absurd no
+keyword-leaves Listing a b [] h is = left-none a.list a _ b refl is
+keyword-leaves Listing a b (n ∷ ns) h is = let no : ⊥ = cc in absurd no
+keyword-leaves Trace a b [] h is = left-none a.trace a _ b refl is
+keyword-leaves Trace a b (n ∷ ns) h is = let no : ⊥ = cc in absurd no
+keyword-leaves Time a b [] h is = left-none a.time a _ b refl is
+keyword-leaves Time a b (n ∷ ns) h is = let no : ⊥ = cc in absurd no
+keyword-leaves Chart a b [] h is = left-none a.chart a _ b refl is
+keyword-leaves Chart a b (n ∷ ns) h is = let no : ⊥ = cc in absurd no
+
+card-leaves : (o : Option Keyword) (a b : Asked) (ns : Option (List ℕ)) → is_delays o ≡ false → with_card a o ns ≡ Some b → b.delays ≡ a.delays
+card-leaves None a b ns h is = let no : ⊥ = cc in absurd no
+card-leaves (Some k) a b None h is = let no : ⊥ = cc in absurd no
+card-leaves (Some k) a b (Some ns) h is = keyword-leaves k a b ns h is
+
+words-leave : (a b : Asked) (ws : List (List ℕ)) → begins_delays ws ≡ false → with_words a ws ≡ Some b → b.delays ≡ a.delays
+words-leave a b [] h is = let no : ⊥ = cc in absurd no
+words-leave a b (word ∷ more) h is = card-leaves (row_of word keywords) a b (card_numbers more) h is
+
+-- ---- all cards behind END are good, where the delays cards and the others are
+
+-- something, from a part of it
+stills-some : (o : Option Asked) (s : Asked) → stills o ≡ Some s → (b : Asked) × (o ≡ Some b) × (still b ≡ s)
+stills-some None s h = let no : ⊥ = cc in absurd no
+stills-some (Some b) s h = let is : still b ≡ s = cc in (b, refl, is)
+
+on-some : (o : Option Asked) (next : Asked → Option Asked) (s : Asked) → asked_on o next ≡ Some s → (b : Asked) × (o ≡ Some b) × (next b ≡ Some s)
+on-some None next s h = let no : ⊥ = cc in absurd no
+on-some (Some b) next s h = (b, refl, h)
+
+-- what is asked for with all of some texts
+abbrev All-asked : Asked → List (List ℕ) → Type 0
+All-asked a texts = (z : Asked) × (asked_with a texts ≡ Some z)
+
+-- the texts that are delays cards
+abbrev pub delays_in : List (List ℕ) → List (List ℕ)
+delays_in texts = filter is_delays_card texts
+
+-- the two kinds of texts, from here on
+abbrev Mixes : List (List ℕ) → Type 0
+Mixes texts = (a d s e : Asked) → a.delays ≡ d.delays → asked_with (still a) (others texts) ≡ Some s → asked_in d (delays_in texts) ≡ Some e
+    → All-asked a texts
+
+mix-delays : (text : List ℕ) (texts : List (List ℕ)) (a d s e : Asked) → kind_of text ≡ Control → begins_delays (words (columns text)) ≡ true
+    → Mixes texts → a.delays ≡ d.delays → asked_with (still a) (others texts) ≡ Some s
+    → (f : Asked) × (added d text ≡ Some f) × (asked_in f (delays_in texts) ≡ Some e) → All-asked a (text ∷ texts)
+unfolding asked_with
+mix-delays text texts a d s e kind begins rest same others_good (f, is, good) =
+    let (b, adds, like) = words-like a d f (words (columns text)) begins same is in
+    let (z, all) = rest b f s e like (ap (λ c. asked_with c (others texts)) (delays-still a b text begins adds) ∙ others_good) good in (
+      z,
+      ap (λ (k : CardKind). asked_on (asked_by k a text) (λ c. asked_with c texts)) kind
+          ∙ ap (λ o. asked_on o (λ c. asked_with c texts)) adds ∙ all,
+    )
+
+mix-other : (k : CardKind) (text : List ℕ) (texts : List (List ℕ)) (a d s e : Asked) → kind_of text ≡ k → (is_control k && begins_delays (words (columns text))) ≡ false
+    → Mixes texts → a.delays ≡ d.delays → asked_on (asked_by k (still a) text) (λ c. asked_with c (others texts)) ≡ Some s
+    → asked_in d (delays_in texts) ≡ Some e → All-asked a (text ∷ texts)
+unfolding asked_with
+mix-other Comment text texts a d s e kind plain rest same others_good good =
+    let (z, all) = rest a d s e same others_good good in
+    (z, ap (λ (k : CardKind). asked_on (asked_by k a text) (λ c. asked_with c texts)) kind ∙ all)
+mix-other Control text texts a d s e kind plain rest same others_good good =
+    let (sb, adds, more) = on-some (added (still a) text) (λ c. asked_with c (others texts)) s others_good in
+    let (b, is, still_is) = stills-some (added a text) sb (sym (other-still a text plain) ∙ adds) in
+    let (z, all) = rest b d s e (words-leave a b (words (columns text)) plain is ∙ same)
+    (ap (λ c. asked_with c (others texts)) still_is ∙ more) good in (
+      z,
+      ap (λ (k : CardKind). asked_on (asked_by k a text) (λ c. asked_with c texts)) kind
+          ∙ ap (λ o. asked_on o (λ c. asked_with c texts)) is ∙ all,
+    )
+mix-other Statement text texts a d s e kind plain rest same others_good good = let no : ⊥ = cc in absurd no
+
+control-and : (k : CardKind) (b : Bool) → (is_control k && b) ≡ true → (k ≡ Control) × (b ≡ true)
+control-and Comment b h = let no : ⊥ = cc in absurd no
+control-and Control b h = (refl, h)
+control-and Statement b h = let no : ⊥ = cc in absurd no
+
+in-some : (d e : Asked) (text : List ℕ) (texts : List (List ℕ)) → asked_in d (text ∷ texts) ≡ Some e
+    → (f : Asked) × (added d text ≡ Some f) × (asked_in f texts ≡ Some e)
+unfolding asked_in
+in-some d e text texts h = by (added d text) h where
+  by : (o : Option Asked) → asked_on o (λ more. asked_in more texts) ≡ Some e → (f : Asked) × (o ≡ Some f) × (asked_in f texts ≡ Some e)
+  by o g = on-some o (λ more. asked_in more texts) e g
+
+delays-kept : (text : List ℕ) (texts : List (List ℕ)) → is_delays_card text ≡ true → delays_in (text ∷ texts) ≡ text ∷ delays_in texts
+delays-kept text texts h = ap (λ (b : Bool). if b then text ∷ delays_in texts else delays_in texts) h
+
+delays-left : (text : List ℕ) (texts : List (List ℕ)) → is_delays_card text ≡ false → delays_in (text ∷ texts) ≡ delays_in texts
+delays-left text texts h = ap (λ (b : Bool). if b then text ∷ delays_in texts else delays_in texts) h
+
+card-is : (text : List ℕ) → is_delays_card text ≡ (is_control (kind_of text) && begins_delays (words (columns text)))
+unfolding is_delays_card
+card-is text = refl
+
+opened : (a : Asked) (text : List ℕ) (texts : List (List ℕ)) → asked_with (still a) (text ∷ others texts)
+    ≡ asked_on (asked_by (kind_of text) (still a) text) (λ c. asked_with c (others texts))
+unfolding asked_with
+opened a text texts = refl
+
+pub mixed : (texts : List (List ℕ)) → Mixes texts
+mixed [] a d s e same others_good good = (a, asks-none a)
+mixed (text ∷ texts) a d s e same others_good good = by (is_delays_card text) refl (mixed texts) where
+  by : (b : Bool) → is_delays_card text ≡ b → Mixes texts → All-asked a (text ∷ texts)
+  by true is rest =
+      let two = control-and (kind_of text) (begins_delays (words (columns text))) (sym (card-is text) ∙ is) in
+      mix-delays text texts a d s e two.0 two.1 rest same (ap (asked_with (still a)) (sym (others-left text texts is)) ∙ others_good)
+      (in-some d e text (delays_in texts) (ap (asked_in d) (sym (delays-kept text texts is)) ∙ good))
+  by false is rest =
+      mix-other (kind_of text) text texts a d s e refl (sym (card-is text) ∙ is) rest same
+      (sym (opened a text texts) ∙ ap (asked_with (still a)) (sym (others-kept text texts is)) ∙ others_good)
+      (ap (asked_in d) (sym (delays-left text texts is)) ∙ good)
