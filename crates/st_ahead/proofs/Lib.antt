@@ -20,3 +20,4 @@ pub mod Idling
 pub mod Passing
 pub mod Runs
 pub mod Stopping
+pub mod Laws

@@ -7,3 +7,4 @@ pub mod Inside
 pub mod Going
 pub mod RunTo
 pub mod Running
+pub mod Laws

@@ -3,14 +3,9 @@ ghost use Rattle.std.specs.Prelude.{◌≡◌, ℕ, ◌+◌, ◌-◌, ◌<◌, �
 ghost use Rattle.st_rows.specs.declared.front.Front.{Front as FrontOf};
 ghost use Rattle.st_levels.specs.Levels.{due_of};
 
-use crate::going_laws::{
-    next_entries_are_known, open_levels_run_ahead, planned_entries_become_levels,
-};
 use crate::look::Look;
 use st_banks::Delays;
 use st_prep::{Place, Prepared};
-use st_rows::{completions_are_bounded, rows_are_in_order};
-use st_segment::guesses_leave_the_rest;
 use st_state::State;
 
 impl<const N: usize> Look<N> {
@@ -85,9 +80,6 @@ impl<const N: usize> Look<N> {
         if self.next.planned {
             return;
         }
-        next_entries_are_known();
-        open_levels_run_ahead();
-        rows_are_in_order();
         let _few = self.levels.len();
         let _last = last;
         self.next.plan_before(
@@ -115,10 +107,6 @@ impl<const N: usize> Look<N> {
             IsGoing delays.now N now now t state.now f self.new }
         ensures count { count self.new ≡ count self.old + 1 }
     {
-        planned_entries_become_levels();
-        guesses_leave_the_rest();
-        rows_are_in_order();
-        completions_are_bounded();
         delays.shape();
         let _few = self.levels.len();
         self.next.prepare(self.levels.index(), state);

@@ -5,11 +5,9 @@ ghost use Rattle.st_rows.specs.declared.front.Front.{Front as FrontOf};
 ghost use Rattle.st_ahead.specs.Running.{IsAwake, comes};
 
 use crate::look::Look;
-use crate::look_laws::{looks_are_levels, the_banks_are_left};
 use st_banks::Delays;
-use st_exec::{entries_count_as_one, interrupt, is_at_rest};
+use st_exec::{interrupt, is_at_rest};
 use st_levels::Completed;
-use st_segment::steps_are_guesses;
 use st_state::{State, is_due};
 
 /// An entry that is done, behind which something may come.
@@ -47,10 +45,6 @@ impl<const N: usize> Look<N> {
             IsLook delays.now N (now - 1) now taken.old state.old f self.old → now ≤ last → IsAwake taken.old state.old →
             HasRun delays.now N count last now taken.old state.old f taken.new state.new self.new result }
     {
-        looks_are_levels();
-        the_banks_are_left();
-        steps_are_guesses();
-        entries_count_as_one();
         delays.shape();
         'entries: loop {
             let Some(tick) = self.go_to(last, state, delays) else {

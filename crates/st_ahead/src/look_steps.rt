@@ -3,7 +3,6 @@ ghost use Rattle.std.specs.Prelude.{◌≡◌, ℕ, ◌+◌, ◌<◌, ◌≤◌,
 ghost use Rattle.st_rows.specs.declared.front.Front.{Front as FrontOf};
 
 use crate::look::Look;
-use crate::look_laws::looks_are_levels;
 use st_banks::Delays;
 use st_state::State;
 
@@ -22,7 +21,6 @@ impl<const N: usize> Look<N> {
             IsLook delays.now N now now t state.now f self.old →
             IsLook delays.now N now (now + 1) t state.now f self.new }
     {
-        looks_are_levels();
         self.shape();
         delays.shape();
         self.go_to(now, state, delays);

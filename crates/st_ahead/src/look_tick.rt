@@ -11,7 +11,6 @@ ghost use Rattle.st_ahead.specs.Look.{IsLook, IsOutlook, count};
 ghost use Rattle.st_ahead.specs.Ticked.{IsTicked};
 
 use crate::look::Look;
-use crate::look_laws::looks_are_levels;
 use st_levels::Completed;
 use st_prep::place_of;
 use st_state::State;
@@ -25,7 +24,6 @@ impl<const N: usize> Look<N> {
             IsLook ds N tick now t state.old f self.old → (1 ≤ count self.old → now ≡ tick + 1) →
             IsTicked ds N now t state.old f self.old state.new self.new result }
     {
-        looks_are_levels();
         if self.levels.is_due(now) {
             let done = self.complete(state);
             self.fill(state, now);

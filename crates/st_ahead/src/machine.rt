@@ -3,13 +3,10 @@ ghost use Rattle.std.specs.Prelude.{◌≡◌, ℕ, ◌+◌, ◌-◌, ◌<◌, �
 
 use crate::events::{Event, LevelView, Row, Settled, View};
 use crate::look::Look;
-use crate::look_laws::{looks_are_levels, signals_leave_looks, the_banks_are_left};
 use st_banks::{Delays, LastAnswers};
-use st_exec::{entries_count_as_one, is_at_rest, orders_are_passed_over};
-use st_levels::levels_are_the_entries_ahead;
+use st_exec::is_at_rest;
 use st_prep::place_of;
 use st_ring::SpecRing;
-use st_segment::{entries_are_in_range, steps_are_guesses};
 use st_state::State;
 use std::marker::Model;
 
@@ -81,12 +78,6 @@ impl<const N: usize> Machine<N> {
         ensures event { IsEvent self.old result }
         ensures after { self.new ≡ ticked self.old }
     {
-        the_banks_are_left();
-        looks_are_levels();
-        entries_are_in_range();
-        levels_are_the_entries_ahead();
-        steps_are_guesses();
-        entries_count_as_one();
         self.delays.shape();
         self.look.shape();
         let now = self.now;
@@ -119,9 +110,6 @@ impl<const N: usize> Machine<N> {
         requires done { self.old.state.done < 2 ^ 63 }
         ensures { RunsTo count last result self.old self.new }
     {
-        levels_are_the_entries_ahead();
-        steps_are_guesses();
-        entries_count_as_one();
         self.delays.shape();
         let now = self.now;
         if now > last {
@@ -183,7 +171,6 @@ impl<const N: usize> Machine<N> {
             self.pass();
             return;
         }
-        levels_are_the_entries_ahead();
         let now = self.now;
         self.look.go_on(now, &self.state, &self.delays);
         self.owed = false;
@@ -262,8 +249,6 @@ impl<const N: usize> Machine<N> {
         ensures dropped { result ≡ dropped self.old }
         ensures after { self.new ≡ ended self.old }
     {
-        looks_are_levels();
-        levels_are_the_entries_ahead();
         self.delays.shape();
         self.look.shape();
         if self.ended {
@@ -326,9 +311,6 @@ impl<const N: usize> Machine<N> {
         requires turn { MaySignal self.old }
         ensures { self.new ≡ signalled_by i self.old }
     {
-        signals_leave_looks();
-        orders_are_passed_over();
-        levels_are_the_entries_ahead();
         self.delays.shape();
         self.state.signal(i);
         self.state.shape();
@@ -355,7 +337,6 @@ impl<const N: usize> Machine<N> {
         ensures dropped { result ≡ dropped self.old }
         ensures after { self.new ≡ ended self.old }
     {
-        looks_are_levels();
         self.delays.shape();
         self.look.shape();
         if self.ended {
@@ -389,8 +370,6 @@ impl<const N: usize> Machine<N> {
         requires turn { MayServe self.old }
         ensures { IfSome self.old.state.reader (λ order. self.new ≡ read_in_by order.word None self.old) }
     {
-        signals_leave_looks();
-        orders_are_passed_over();
         self.delays.shape();
         st_exec::read_in(&mut self.state, None);
         self.state.shape();
@@ -415,8 +394,6 @@ impl<const N: usize> Machine<N> {
         ensures words { IfSome self.old.state.printer (λ order. result ≡ words_from self.old.state order.word 8) }
         ensures after { self.new ≡ printed_by self.old }
     {
-        signals_leave_looks();
-        orders_are_passed_over();
         self.delays.shape();
         let words = st_exec::print_out(&mut self.state);
         self.state.shape();
@@ -428,7 +405,6 @@ impl<const N: usize> Machine<N> {
         ensures levels { AreLevelsOf self.entry.now result.now }
         ensures few { length result.now ≤ 8 }
     {
-        looks_are_levels();
         self.delays.shape();
         self.look.shape();
         self.state.shape();
@@ -439,7 +415,6 @@ impl<const N: usize> Machine<N> {
     pub fn index(&self) -> &[u64; 16]
         ensures { result.now ≡ index_of self.entry.now }
     {
-        looks_are_levels();
         self.delays.shape();
         self.look.shape();
         self.state.shape();
@@ -489,7 +464,6 @@ impl<const N: usize> Machine<N> {
         ensures value { result ≡ get_or (shown self.entry.now).levels k None }
         ensures eight { length (shown self.entry.now).levels ≡ 8 }
     {
-        looks_are_levels();
         let tick = self.last_tick();
         self.delays.shape();
         self.look.shape();

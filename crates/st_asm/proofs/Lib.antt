@@ -7,3 +7,4 @@ pub mod KeptLemmas
 pub mod ImageLemmas
 pub mod FaultlessLemmas
 pub mod ValueLemmas
+pub mod Laws

@@ -15,3 +15,4 @@ pub mod Sound
 pub mod Kept
 pub mod Stops
 pub mod Answers
+pub mod Laws

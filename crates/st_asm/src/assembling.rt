@@ -10,7 +10,7 @@ use crate::forming::form_pass;
 use crate::naming::{Symbol, name_pass};
 use crate::stop::AsmError;
 use crate::valuing::{Listed, value_pass};
-use st_card::{Card, Controls, cards_stand_in_their_job, split};
+use st_card::{Card, Controls, split};
 use std::alloc::Global;
 
 // How many instructions may be done where no card says it.
@@ -71,7 +71,6 @@ pub fn assemble_cards(alloc: Global, job: &[u8], cards: &[Card]) -> Result<Assem
     // No card has a fault by itself, so each text can be printed.
     ensures faultless { IfOk result (λ a. All (λ card. card.fault ≡ None) (cards_of job.now)) }
 {
-    cards_stand_in_their_job();
     let deck = form_pass(alloc, job, cards)?;
     let names = name_pass(alloc, deck.lines.as_slice())?;
     let layout = value_pass(

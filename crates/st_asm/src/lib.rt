@@ -6,7 +6,6 @@ mod alone;
 mod assembling;
 mod checks;
 mod forming;
-mod laws;
 mod laying;
 mod line;
 mod naming;
@@ -19,7 +18,6 @@ mod valuing;
 
 pub use alone::{LaidBits, laid_alone};
 pub use assembling::{Assembled, assemble, assemble_cards};
-pub use laws::{cards_have_their_first_fault, passes_stop_at_the_first_fault};
 pub use naming::Symbol;
 pub use stop::AsmError;
 pub use valuing::Listed;

@@ -3,3 +3,4 @@ pub mod StepLemmas
 pub mod RingLemmas
 pub mod LawLemmas
 pub mod ManyLemmas
+pub mod Laws

@@ -1,1 +1,2 @@
 pub mod BankLemmas
+pub mod Laws

@@ -1,2 +1,3 @@
 pub mod Bank
 pub mod Delay
+pub mod Laws

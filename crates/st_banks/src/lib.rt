@@ -5,12 +5,7 @@
 mod answers;
 mod banks;
 mod delays;
-mod laws;
 
 pub use answers::{BANKS, LastAnswers};
 pub use banks::Banks;
 pub use delays::{DelayError, Delays};
-pub use laws::{
-    delays_are_bounded, reads_are_accepted_at_their_tick, reads_keep_their_bank_busy,
-    words_lie_in_banks,
-};

@@ -4,12 +4,22 @@
 #![tactic(auto, using(st_bits::specs::Storage::words_of_storage_is))]
 
 #[cfg(test)]
+mod blank;
+#[cfg(test)]
 mod decks;
 #[cfg(test)]
+mod lines;
+#[cfg(test)]
 mod machines;
+#[cfg(test)]
+mod overlapped;
+#[cfg(test)]
+mod pictures;
 #[cfg(test)]
 mod reads;
 #[cfg(test)]
 mod runs;
 #[cfg(test)]
 mod statements;
+#[cfg(test)]
+mod steps;

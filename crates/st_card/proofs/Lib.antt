@@ -3,3 +3,4 @@ pub mod TextLemmas
 pub mod LimitLemmas
 pub mod StandingLemmas
 pub mod OrderLemmas
+pub mod Laws

@@ -3,3 +3,4 @@ pub mod Cards
 pub mod Controls
 pub mod Limits
 pub mod Answers
+pub mod Laws

@@ -5,11 +5,9 @@ mod cards;
 mod control_cards;
 mod faults;
 mod keywords;
-mod laws;
 pub mod limits;
 
 pub use cards::{Card, CardKind, columns, split};
 pub use control_cards::{CardError, Controls, Signal};
 pub use faults::Fault;
 pub use keywords::{Addition, Keyword};
-pub use laws::cards_stand_in_their_job;

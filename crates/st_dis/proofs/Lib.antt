@@ -16,3 +16,4 @@ pub mod WordsLead
 pub mod PassesLead
 pub mod ThreePasses
 pub mod AssembledBack
+pub mod Laws

@@ -4,3 +4,4 @@ pub mod Spelling
 pub mod Deck
 pub mod Answers
 pub mod Read
+pub mod Laws

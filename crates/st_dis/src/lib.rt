@@ -3,7 +3,6 @@
 
 mod counting;
 mod disassembling;
-mod laws;
 mod names;
 mod pieces;
 mod spelling;
@@ -11,7 +10,3 @@ mod texts;
 mod writing;
 
 pub use disassembling::{DisError, disassemble};
-pub use laws::{
-    cards_are_lines, controls_come_back, decks_are_cut_into_their_cards,
-    decks_assemble_to_their_program, places_come_back, statements_lay_their_word,
-};

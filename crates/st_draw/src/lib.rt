@@ -18,6 +18,3 @@ mod words;
 
 pub use program::draw;
 pub use status::Status;
-
-#[cfg(test)]
-mod tests;

@@ -1,2 +1,3 @@
 pub mod Reader
 pub mod Printer
+pub mod Laws

@@ -6,7 +6,7 @@ ghost use Rattle.st_card.specs.declared.cards.Card.{Card as CardRow};
 ghost use Rattle.st_exch.specs.Reader as spec;
 
 use st_bits::NoMemory;
-use st_card::{Card, CardKind, cards_stand_in_their_job, split};
+use st_card::{Card, CardKind, split};
 use std::alloc::Global;
 use std::collections::VecDeque;
 use std::marker::Model;
@@ -57,7 +57,6 @@ impl Hopper {
         requires { cards.now ≡ cards_of job.now }
         ensures { IfOk result (λ hopper. hopper ≡ spec.reader_cards job.now) }
     {
-        cards_stand_in_their_job();
         let mut waiting = VecDeque::new(alloc);
         let behind = behind_statements(cards);
         for card in behind {

@@ -3,9 +3,7 @@
 #![tactic(auto)]
 
 mod hopper;
-mod laws;
 mod printer;
 
 pub use hopper::Hopper;
-pub use laws::cards_are_eight_words;
 pub use printer::print_text;

@@ -17,3 +17,4 @@ pub mod MachineKept
 pub mod UnwrittenLemmas
 pub mod BesideEntries
 pub mod MissedLemmas
+pub mod Laws

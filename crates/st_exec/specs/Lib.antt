@@ -6,3 +6,4 @@ pub mod Deed
 pub mod Completion
 pub mod Ahead
 pub mod Trails
+pub mod Laws

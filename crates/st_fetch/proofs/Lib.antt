@@ -2,3 +2,4 @@ pub mod HeldLemmas
 pub mod OldestFirst
 pub mod Windows
 mod Shifted
+pub mod Laws

@@ -1,3 +1,4 @@
 pub mod HeldWords
 pub mod Planned
 pub mod Queue
+pub mod Laws

@@ -5,11 +5,9 @@
 mod contents;
 mod fetched;
 mod held;
-mod laws;
 mod wants;
 
 pub use contents::Contents;
 pub use fetched::{Fetched, HeldWords};
 pub use held::{Held, Hold};
-pub use laws::{answers_are_known, requests_hold_four, stores_change_content_alone};
 pub use wants::{WANTS, Want, Wants};

@@ -1,6 +1,11 @@
 -- The numbers that definitions take from the code, read off it.
-use Rattle.std.proofs.Common.{refl}
-use Rattle.st_laws.specs.Laws.{LimitsInFigures, ControlsInFigures, RegistersInFigures, IndicatorsInFigures}
+use Rattle.st_expr.specs.System.{system_symbols}
+use Rattle.st_strap.specs.Reading.{index_fields}
+use Rattle.std.proofs.Common.{refl, rules}
+use Rattle.st_laws.specs.Laws.{LimitsInFigures, ControlsInFigures, RegistersInFigures, IndicatorsInFigures, DigitsAgree, CountsAgree, SymbolsAgree, SizesOfStorageAgree, NumbersAgree, MadeDecksAreNotRefused, LaidNumbersAreRead}
+use Rattle.st_laws.proofs.AgreementLemmas.{value-bytes, digits-joined, zeros-counted, ones-counted, counts-kept, shown-in, laid-in, spelled-agree}
+use Rattle.st_laws.proofs.MadeDecks.{made-assembled}
+use Rattle.st_laws.proofs.LaidFields.{binary-read, decimal-read, digits-read}
 
 pub limits_in_figures : LimitsInFigures
 limits_in_figures = record {
@@ -86,3 +91,42 @@ indicators_in_figures = record {
   accumulator_equal = refl;
   accumulator_high = refl;
 }
+
+pub digits_agree : DigitsAgree
+digits_agree = record {
+  value = value-bytes;
+  digits = digits-joined;
+}
+
+pub counts_agree : CountsAgree
+counts_agree = record {
+  zeros = zeros-counted;
+  ones = ones-counted;
+  kept = counts-kept;
+}
+
+pub symbols_agree : SymbolsAgree
+unfolding index_fields system_symbols
+symbols_agree = record {
+  index_words = search rules;
+  zeros_count = search rules;
+  ones_count = search rules;
+}
+
+pub sizes_of_storage_agree : SizesOfStorageAgree
+sizes_of_storage_agree = record {
+  shown = shown-in;
+  laid = laid-in;
+}
+
+pub numbers_agree : NumbersAgree
+numbers_agree = record {
+  short = search rules;
+  spelled = spelled-agree;
+}
+
+pub made_decks_are_not_refused : MadeDecksAreNotRefused
+made_decks_are_not_refused = made-assembled
+
+pub laid_numbers_are_read : LaidNumbersAreRead
+laid_numbers_are_read = record { binary = binary-read; decimal = decimal-read; digits = digits-read }

@@ -10,3 +10,4 @@ pub mod PassLemmas
 pub mod OrderLemmas
 pub mod NoLevels
 pub mod RestLemmas
+pub mod Laws

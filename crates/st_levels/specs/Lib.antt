@@ -1,3 +1,4 @@
 pub mod Slots
 pub mod PlannedRows
 pub mod Levels
+pub mod Laws

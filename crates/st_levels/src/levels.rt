@@ -16,7 +16,6 @@ ghost use Rattle.st_levels.specs.Levels.{LevelsView, AreSound, AreAhead, AreFull
 ghost use Rattle.st_levels.specs.PlannedRows.{planned};
 
 use crate::filling::fill_all;
-use crate::laws::levels_that_are_not_done_run_ahead;
 use crate::plans::{Plan, Plans};
 use crate::slots::{change, missed};
 use st_exec::complete_in;
@@ -206,7 +205,6 @@ impl<const N: usize> Levels<N> {
             ((w : ℕ) → word_of state.now w ≡ word_of s w) →
             AreAhead ds n now t s f last self.new × AreFull ds n now t s f self.new.ring }
     {
-        levels_that_are_not_done_run_ahead();
         fill_all(&mut self.ring, &self.plans, state, now);
     }
 

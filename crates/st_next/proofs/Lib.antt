@@ -13,3 +13,4 @@ pub mod Preparing
 pub mod Goes
 pub mod Starting
 pub mod Whole
+pub mod Laws

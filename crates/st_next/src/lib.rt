@@ -2,11 +2,6 @@
 //! `docs/timetable.md` has the rules.
 #![tactic(auto, using(st_bits::specs::Storage::words_of_storage_is))]
 
-mod laws;
 mod next;
 
-pub use laws::{
-    entries_are_planned_in_time, entries_begin_anywhere, reads_so_far_come_first,
-    reads_so_far_give_the_bus,
-};
 pub use next::Next;

@@ -4,7 +4,6 @@
 mod drafts;
 mod images;
 mod items;
-mod laws;
 mod meaning;
 mod order;
 mod reading;
@@ -12,9 +11,5 @@ mod spelling;
 mod writing;
 
 pub use images::Image;
-pub use laws::{
-    accepted_texts_are_written, lines_are_kept, lines_are_read_back, refused_texts_have_a_bad_line,
-    written_texts_are_read_back,
-};
 pub use reading::{ObjectError, read_object};
 pub use writing::write_object;

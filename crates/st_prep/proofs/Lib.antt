@@ -15,3 +15,4 @@ pub mod BesideLemmas
 pub mod FewLemmas
 pub mod GivenLemmas
 pub mod PlainLemmas
+pub mod Laws

@@ -8,3 +8,4 @@ pub mod Reading
 pub mod Alike
 pub mod BesideOrders
 pub mod FewWords
+pub mod Laws

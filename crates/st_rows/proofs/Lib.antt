@@ -15,3 +15,4 @@ pub mod Parts
 pub mod LogLaws
 pub mod Writers
 mod Shifted
+pub mod Laws

@@ -6,3 +6,4 @@ pub mod LogLaws
 pub mod Notes
 pub mod Ranges
 pub mod Rows
+pub mod Laws

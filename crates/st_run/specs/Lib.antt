@@ -12,3 +12,4 @@ pub mod Ticking
 pub mod Leaving
 pub mod Between
 pub mod RunLaws
+pub mod Laws

@@ -8,3 +8,4 @@ pub mod SameReading
 pub mod PassedOver
 pub mod InstructionRuns
 pub mod EntryRanges
+pub mod Laws

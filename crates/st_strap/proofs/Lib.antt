@@ -9,3 +9,4 @@ pub mod PlaceCards
 pub mod OperandCards
 pub mod FirstFields
 pub mod Apart
+pub mod Laws

@@ -10,3 +10,4 @@ pub mod Saying
 pub mod Faults
 pub mod WellFormed
 pub mod Spots
+pub mod Laws

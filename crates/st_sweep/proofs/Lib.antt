@@ -5,3 +5,4 @@ pub mod MarkLemmas
 pub mod PlainRun
 pub mod ToldTicks
 pub mod Falling
+pub mod Laws

@@ -3,3 +3,4 @@ pub mod Sweep
 pub mod Marks
 pub mod SideBySide
 pub mod Starts
+pub mod Laws

@@ -2,11 +2,9 @@
 #![tactic(auto, using(st_bits::specs::Storage::words_of_storage_is))]
 
 mod calm;
-mod laws;
 mod settling;
 mod start;
 mod sweeping;
 mod written;
 
-pub use laws::more_levels_are_no_slower;
 pub use sweeping::{Swept, sweep};

@@ -66,6 +66,3 @@ fn count(levels: &[Option<LevelView>]) -> u8
         _ => 0,
     }
 }
-
-#[cfg(test)]
-mod tests;

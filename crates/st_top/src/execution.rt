@@ -49,7 +49,7 @@ use st_asm::Assembled;
 use st_back::Back;
 use st_banks::Delays;
 use st_bits::NoMemory;
-use st_card::{Card, Controls, Signal, cards_stand_in_their_job};
+use st_card::{Card, Controls, Signal};
 use st_exch::Hopper;
 use st_io::{Failed, Sink};
 use st_object::Image;
@@ -266,7 +266,6 @@ pub fn execute<K: Sink>(
         (ran_by made job.now (Ok (shown program.now))) result }
     ensures in_time { KeepsTime program.now.controls.delays result }
 {
-    cards_stand_in_their_job();
     let words = program.image.as_slice();
     let start = program.start;
     let Ok((mut run, mut past)) = prepare(alloc, job, cards, words, start, &program.controls) else {

@@ -21,5 +21,4 @@ mod telling;
 
 pub use answer::{Answer, Status};
 pub use command::Command;
-pub use objects::{lines_are_the_deck, lines_are_the_object_text};
 pub use program::stretch;

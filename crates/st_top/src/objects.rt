@@ -3,10 +3,9 @@ ghost use Rattle.std.specs.Prelude.{◌≡◌, ◌+◌, ◌≤◌, [], Ok, lengt
 ghost use Rattle.st_asm.specs.Assembly.{shown};
 ghost use Rattle.st_text.specs.Pieces.{parted};
 ghost use Rattle.st_io.specs.Lines.{WritesLines, text};
-ghost use Rattle.st_dis.specs.Deck.{deck_text};
-ghost use Rattle.st_object.specs.Object.{Program, IsProgram, object_text};
+ghost use Rattle.st_object.specs.Object.{IsProgram};
 ghost use Rattle.st_top.specs.Answers.{Writes};
-ghost use Rattle.st_top.specs.ObjectText.{program_in, object_lines, deck_lines, ended_lines};
+ghost use Rattle.st_top.specs.ObjectText.{program_in, object_lines, ended_lines};
 ghost use Rattle.st_top.specs.Layers.{Ends};
 ghost use Rattle.st_top.specs.Output.{lines_alone, disassembled_by};
 ghost use Rattle.st_top.specs.declared.answer.Status.TheVariants.{Done};
@@ -105,13 +104,3 @@ pub fn answer_deck<K: Sink>(
     )?;
     Ok(answer_text(out, deck.as_slice()))
 }
-
-/// The lines of the object text of a program, one after another, are that text.
-pub fn lines_are_the_object_text()
-    ensures { (p : Program) → text (object_lines p) ≡ object_text p }
-{}
-
-/// The lines of the deck of a program, one after another, are that deck.
-pub fn lines_are_the_deck()
-    ensures { (p : Program) → text (deck_lines p) ≡ deck_text p }
-{}

@@ -15,10 +15,11 @@ use Rattle.st_asm.specs.declared.line.Line.{Line}
 use Rattle.st_asm.proofs.KeptLemmas.{few-cards, form_pass-deck, name_pass-named, together-sound}
 use Rattle.st_asm.proofs.FaultlessLemmas.{form_pass-faultless}
 use Rattle.st_asm.proofs.assembling.assemble_cards.Goals as goal
+use Rattle.st_card.proofs.Laws.{cards_stand_in_their_job}
 
 pub form_pass-requires-clause-texts : goal.form_pass-requires-clause-texts
 form_pass-requires-clause-texts c =
-    subst (λ (cs : List Card). All (IsCardOf c.args.job.now) cs) (sym c.requires) (c.cards_stand_in_their_job.ensures c.args.job.now)
+    subst (λ (cs : List Card). All (IsCardOf c.args.job.now) cs) (sym c.requires) (cards_stand_in_their_job c.args.job.now)
 
 pub form_pass-requires-clause-few : goal.form_pass-requires-clause-few
 form_pass-requires-clause-few c = subst (λ (cs : List Card). length cs ≤ 20001) (sym c.requires) (few-cards c.args.job.now)

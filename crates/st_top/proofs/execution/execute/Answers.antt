@@ -6,10 +6,11 @@ use Rattle.st_top.proofs.Listings.{has_cards}
 use Rattle.st_top.proofs.Outputs.{writes_output}
 use Rattle.st_top.proofs.Times.{keeps_time}
 use Rattle.st_top.proofs.execution.execute.Goals as goal
+use Rattle.st_card.proofs.Laws.{cards_stand_in_their_job}
 
 pub answer_run-requires-clause-cards : goal.answer_run-requires-clause-cards
 answer_run-requires-clause-cards g c =
-    has_cards c.args.job.now c.args.program.now.listing.items c.args.cards.now c.requires.cards (c.cards_stand_in_their_job.ensures c.args.job.now)
+    has_cards c.args.job.now c.args.program.now.listing.items c.args.cards.now c.requires.cards (cards_stand_in_their_job c.args.job.now)
     c.requires.good c.requires.sound.rows c.requires.sound.row_count
 
 pub returns-clause-writes : goal.returns-clause-writes

@@ -9,6 +9,7 @@ use Rattle.st_ahead.specs.Going.{IsGoing}
 use Rattle.st_ahead.proofs.Further.{going-planned, going-still, going-front, open-waits, closed-waits, some-by, known, known-further}
 use Rattle.st_ahead.proofs.Gone.{before-due, due-last, due-first}
 use Rattle.st_ahead.proofs.look.Look.plan_before.Goals as goal
+use Rattle.st_ahead.proofs.Laws.{next_entries_are_known, open_levels_run_ahead}
 
 pub returns-then-self-clause-going : goal.returns-then-self-clause-going
 returns-then-self-clause-going g c = λ t f tick given.
@@ -35,9 +36,9 @@ plan_before-requires-clause-known g c = λ waits.
     let opened : is_open view ≡ true =
     open-waits (count view == 0) view.front.serial view.next.words.awaited view.front.c due waits
     (λ none. omega (arith, at, due-last ds n tick t s f view.front view.levels.ring view.levels.plans is.machine is.indicator is.ahead.levels (some-by (count view) none))) in
-    let run = c.open_levels_run_ahead.ensures ds n tick t s f view is.ahead is.prepared is.not_done opened in
+    let run = open_levels_run_ahead ds n tick t s f view is.ahead is.prepared is.not_done opened in
     let late = before-due ds n tick (due - 1) t s f view.front view.levels.ring view.levels.plans is.machine is.indicator is.ahead.levels (omega (arith, waits, at)) in
-    let before = c.next_entries_are_known.ensures ds n tick (due - 1) t s f view is.machine is.indicator is.ahead late
+    let before = next_entries_are_known ds n tick (due - 1) t s f view is.machine is.indicator is.ahead late
     (omega (arith, c.len-few.ensures.value, c.len-few.ensures.within, c.requires.few)) run in
     subst (λ (x : List ℕ). IsKnown ds n (due - 1) view.front x s view.next) (sym c.index.ensures) (known ds n tick tick (due - 1) t s f view is opened before)
 
@@ -67,10 +68,10 @@ returns-clause-going g c = λ t f tick given.
     (λ none. omega (arith, at, due-last ds n tick t s f view.front view.levels.ring view.levels.plans is.machine is.indicator is.ahead.levels (some-by (count view) none))) in
     elim (cases_Bool (is_open view)) [
       | inl opened ↦
-          let run = c.open_levels_run_ahead.ensures ds n tick t s f view is.ahead is.prepared is.not_done opened in
+          let run = open_levels_run_ahead ds n tick t s f view is.ahead is.prepared is.not_done opened in
           let first = due-first ds n tick due t s f view is at in
           let late = before-due ds n tick (due - 1) t s f view.front view.levels.ring view.levels.plans is.machine is.indicator is.ahead.levels (omega (arith, at, first)) in
-          let before = c.next_entries_are_known.ensures ds n tick (due - 1) t s f view is.machine is.indicator is.ahead late
+          let before = next_entries_are_known ds n tick (due - 1) t s f view is.machine is.indicator is.ahead late
           (omega (arith, c.len-few.ensures.value, c.len-few.ensures.within, c.requires.few)) run in
           let goes = subst (λ (x : List ℕ). GoesOn ds n (due - 1) view.front x s view.next c.plan_before.new.self due) c.index.ensures c.plan_before.ensures.next in
           known-further ds n tick due t s f view c.plan_before.new.self c.plan_before.new.log opened c.if-self.false before goes c.plan_before.ensures.further is

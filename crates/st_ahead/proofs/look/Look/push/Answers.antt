@@ -22,6 +22,9 @@ use Rattle.st_ring.specs.declared.level.Level.{Level}
 use Rattle.st_ahead.proofs.Due.{row-p}
 use Rattle.st_ahead.proofs.Pushed.{going-pushed}
 use Rattle.st_ahead.proofs.look.Look.push.Goals as goal
+use Rattle.st_ahead.proofs.Laws.{planned_entries_become_levels}
+use Rattle.st_rows.proofs.Laws.{completions_are_bounded, rows_are_in_order}
+use Rattle.st_segment.proofs.Laws.{guesses_leave_the_rest}
 
 -- no word is fetched yet
 abbrev begun : Bus → Fetching
@@ -39,7 +42,7 @@ prepare-requires-clause-ready g c =
     let is = subst (λ (w : LookView). IsGoing ds n now (now + 1) t s f w) (sym c.self.view_is) c.requires.going.going in
     let planned : view.next.planned ≡ true = ap (λ (w : LookView). w.next.planned) c.self.view_is ∙ c.requires.planned in
     let due : view.next.formed.p ≡ now = ap (λ (w : LookView). w.next.formed.p) c.self.view_is ∙ c.requires.due in
-    let becomes = c.planned_entries_become_levels.ensures ds n now t s f view c.requires.some c.requires.few
+    let becomes = planned_entries_become_levels ds n now t s f view c.requires.some c.requires.few
     (AreDelays-list ds c.shape.ensures) (omega (arith, c.len-few.ensures.value, c.len-few.ensures.within)) c.requires.early is planned due in
     let u = guesses (count view) t s in
     record {
@@ -67,7 +70,7 @@ fill-filled-requires g c =
     let is = subst (λ (w : LookView). IsGoing ds n now (now + 1) t s f w) (sym c.self.view_is) c.requires.going.going in
     let planned : view.next.planned ≡ true = ap (λ (w : LookView). w.next.planned) c.self.view_is ∙ c.requires.planned in
     let due : view.next.formed.p ≡ now = ap (λ (w : LookView). w.next.formed.p) c.self.view_is ∙ c.requires.due in
-    let becomes = c.planned_entries_become_levels.ensures ds n now t s f view c.requires.some c.requires.few
+    let becomes = planned_entries_become_levels ds n now t s f view c.requires.some c.requires.few
     (AreDelays-list ds c.shape.ensures) (omega (arith, c.len-few.ensures.value, c.len-few.ensures.within)) c.requires.early is planned due in
     let entry_is : c.prepare.new.self.entry ≡ view.next.entry = ap (λ (next : Next). next.entry) c.prepare.ensures.rest in
     let formed_is : c.prepare.new.self.formed ≡ view.next.formed = ap (λ (next : Next). next.formed) c.prepare.ensures.rest in
@@ -93,7 +96,7 @@ returns-clause-going g c = λ t f given.
     let planned : view.next.planned ≡ true = ap (λ (w : LookView). w.next.planned) c.self.view_is ∙ c.requires.planned in
     let due : view.next.formed.p ≡ now = ap (λ (w : LookView). w.next.formed.p) c.self.view_is ∙ c.requires.due in
     let are = AreDelays-list ds c.shape.ensures in
-    let becomes = c.planned_entries_become_levels.ensures ds n now t s f view c.requires.some c.requires.few
+    let becomes = planned_entries_become_levels ds n now t s f view c.requires.some c.requires.few
     are (omega (arith, c.len-few.ensures.value, c.len-few.ensures.within)) c.requires.early is planned due in
     let k = table_behind (count view) t in
     let u = guesses (count view) t s in
@@ -108,13 +111,13 @@ returns-clause-going g c = λ t f given.
     let entry_is : c.prepare.new.self.entry ≡ x = ap (λ (next : Next). next.entry) c.prepare.ensures.rest in
     let row_is : filled.row ≡ row ds n view.front x = c.fill-filled.ensures.value ∙ ap (row ds n view.front) entry_is in
     let p_is : filled.row.p ≡ now = ap (λ (r : Row). r.p) row_is ∙ row-p ds n view.front x ∙ sym becomes.tick ∙ due in
-    let ready : (row ds n view.front x).p ≤ (row ds n view.front x).r = c.rows_are_in_order.ensures.ready ds n view.front x in
-    let done : (row ds n view.front x).r < (row ds n view.front x).c = (c.rows_are_in_order.ensures.done ds n view.front x becomes.range).0 in
+    let ready : (row ds n view.front x).p ≤ (row ds n view.front x).r = rows_are_in_order.ready ds n view.front x in
+    let done : (row ds n view.front x).r < (row ds n view.front x).c = (rows_are_in_order.done ds n view.front x becomes.range).0 in
     let late : now < filled.row.c = omega (arith, ready, done, p_is, ap (λ (r : Row). r.p) row_is, ap (λ (r : Row). r.c) row_is) in
     let front : new.front ≡ after ds n view.front x =
     c.pass.ensures ds n c.fill-filled.ensures.value c.fill-filled.ensures.bus ∙ ap (after ds n view.front) entry_is in
-    let tight = subst (λ (h : Front). IsTight 255 h) (sym front) (c.completions_are_bounded.ensures.tight 255 n ds view.front x are becomes.range is.tight) in
-    let bound : new.front.c ≤ view.front.c + 16576 = omega (arith, ap (λ (h : Front). h.c) front, c.completions_are_bounded.ensures.bound 255 n ds view.front x are becomes.range is.tight) in
+    let tight = subst (λ (h : Front). IsTight 255 h) (sym front) (completions_are_bounded.tight 255 n ds view.front x are becomes.range is.tight) in
+    let bound : new.front.c ≤ view.front.c + 16576 = omega (arith, ap (λ (h : Front). h.c) front, completions_are_bounded.bound 255 n ds view.front x are becomes.range is.tight) in
     let pushed = c.push.ensures.ahead ds n now t s f view.front is.machine is.indicator is.ahead becomes.run refl plan_is
     (row_is ∙ ap (row ds n view.front) same) (c.fill-filled.ensures.fills ∙ ap (fills ds n view.front) (entry_is ∙ same)) in
     let ahead = subst (λ (h : Front). AreAhead ds n now t s f h new.levels) (ap (after ds n view.front) (sym same) ∙ sym front) pushed in
@@ -126,7 +129,7 @@ returns-clause-going g c = λ t f given.
     (c.fill-filled.ensures.log
     ∙ ap (λ (e : Entry). noted ds (prepared_asked ds n view.front e) c.prepare.new.self.words.bus view.log) entry_is
     ∙ ap (λ (w : Fetching). noted ds (prepared_asked ds n view.front x) w.bus view.log) (ap (λ (next : Next). next.words) c.prepare.ensures.rest))
-    (c.guesses_leave_the_rest.ensures.counter (count view) t s)
+    (guesses_leave_the_rest.counter (count view) t s)
 
 pub returns-clause-count : goal.returns-clause-count
 returns-clause-count g c =

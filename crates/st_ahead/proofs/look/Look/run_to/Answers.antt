@@ -19,6 +19,9 @@ use Rattle.st_ahead.proofs.Runs.{running-starts, running-idle, running-on, runni
 use Rattle.st_ahead.proofs.Standing.{answers-same, after-c}
 use Rattle.st_ahead.proofs.TickCases.{guess-words}
 use Rattle.st_ahead.proofs.look.Look.run_to.Goals as goal
+use Rattle.st_ahead.proofs.Laws.{looks_are_levels, the_banks_are_left}
+use Rattle.st_segment.proofs.Laws.{steps_are_guesses}
+use Rattle.st_exec.proofs.Laws.{entries_count_as_one}
 
 pub entries-init : goal.entries-init
 entries-init g c = record {
@@ -69,7 +72,7 @@ returns-in_default g c = λ f now h soon awake.
     let filled = (c.fill.ensures ds last (last + 1) k u run.front are out (omega arith) (omega arith) out.not_done (λ w. refl)).0 in
     let w = c.fill.new.self in
     let late = oldest-late ds n last (last + 1) k u run.front w c.requires.some are (omega arith) filled
-    (c.looks_are_levels.ensures ds n last (last + 1) k u run.front w c.requires.some c.requires.few are (omega arith) c.shape-in_default.ensures filled) in
+    (looks_are_levels ds n last (last + 1) k u run.front w c.requires.some c.requires.few are (omega arith) c.shape-in_default.ensures filled) in
     running-ends ds n c.args.count last now c.args.taken.now k c.args.state.now u f c.entries.self w run late filled
 
 pub entries-preserved : goal.entries-preserved
@@ -90,7 +93,7 @@ entries-preserved g c =
           let all = c.complete-done.ensures ds (due - 1) due k run.front are at.look at.row_is in
           running-on ds n c.args.count c.args.last now due c.args.taken.now k c.args.state.now u c.complete-done.new.state f c.entries.self c.go_to.new.self
           c.complete-done.new.self c.complete-done.result run at all.0 all.1 all.2 goes.0 goes.1 goes.2 goes.3
-          (c.steps_are_guesses.ensures.right k u at.look.machine at.look.indicator);
+          (steps_are_guesses.right k u at.look.machine at.look.indicator);
       done =
           omega (
             arith,
@@ -112,7 +115,7 @@ entries-smaller g c =
     let due = c.in-Some.tick in
     let all = c.complete-done.ensures ds (due - 1) due k run.front are at.look at.row_is in
     let goes = c.is_stopped.ensures.goes c.if-is_stopped.false in
-    let counted : c.complete-done.new.state.done ≡ u.done + 1 = ap (λ (m : Machine). m.done) all.0 ∙ c.entries_count_as_one.ensures (plan u k) u in
+    let counted : c.complete-done.new.state.done ≡ u.done + 1 = ap (λ (m : Machine). m.done) all.0 ∙ entries_count_as_one (plan u k) u in
     omega (
       arith,
       counted,
@@ -142,7 +145,7 @@ returns-then-is_stopped g c = λ f now h soon awake.
     let final = c.fill-then-is_stopped.new.self in
     let same : answers_before due final ≡ answers_before due w =
     answers-same due w final (filled.1 ∙ all.3) (ap (λ (x : Next). x.words) filled.2 ∙ all.4) in
-    let left = c.the_banks_are_left.ensures ds n (due - 1) due k u run.front w c.requires.some c.requires.few are
+    let left = the_banks_are_left ds n (due - 1) due k u run.front w c.requires.some c.requires.few are
     (omega (arith, at.later)) c.shape-in-entries.ensures at.some at.look at.row_is in
     record {
       table = k;

@@ -13,6 +13,7 @@ use Rattle.st_ahead.proofs.LevelTicks.{done-later, done-after}
 use Rattle.st_ahead.proofs.DoneLooks.{look-without}
 use Rattle.st_ahead.proofs.TickCases.{due-later, unprepared, guess-words}
 use Rattle.st_ahead.proofs.look.Look.tick.Goals as goal
+use Rattle.st_ahead.proofs.Laws.{looks_are_levels}
 
 pub returns-then-is_due : goal.returns-then-is_due
 returns-then-is_due g c = λ ds tick t f one most are h next.
@@ -64,7 +65,7 @@ returns-else-len-gt0 g c = λ ds tick t f one most are h next.
     let is : inside ≡ v = c.self.view_is in
     let empty : count v ≡ 0 = subst (λ (w : LookView). count w ≡ 0) is (omega (arith, c.len.ensures.value, c.if-len-gt0.false)) in
     let look = look-without ds n tick now t s f v empty h in
-    let none = c.looks_are_levels.ensures ds n now now t s f v one most are (omega arith) (omega (arith, empty)) look in
+    let none = looks_are_levels ds n now now t s f v one most are (omega arith) (omega (arith, empty)) look in
     record {
       state = refl;
       later = unprepared ds n (count v) now t s f one empty are (entry-ranges t s h.machine h.indicator) h.oldest none;

@@ -8,6 +8,7 @@ use Rattle.st_ahead.specs.Look.{count}
 use Rattle.st_ahead.specs.Inside.{standing}
 use Rattle.st_ahead.proofs.Settling.{end-again, end-first, ending, fresh-closing, counted-index}
 use Rattle.st_ahead.proofs.machine.Machine.end.Goals as goal
+use Rattle.st_ahead.proofs.Laws.{looks_are_levels}
 
 pub returns-then-self-clause-dropped : goal.returns-then-self-clause-dropped
 returns-then-self-clause-dropped g c =
@@ -48,7 +49,7 @@ invariant_of-self g c =
     let fresh = fresh-closing n i.delays i.state i.taken i.behind i.now i.owed i.ended i.fresh i.look done in
     let most : count i.look ≤ n = c.shape-2.ensures in
     (end-first n i.delays i.state i.taken i.behind i.now i.owed i.ended i.fresh i.look c.end-dropped.new.self c.self.invariant owes c.if-self.false fresh most
-    (λ look. c.looks_are_levels.ensures i.delays n i.now i.now i.taken (with_counter i.behind i.state) (oldest_front i.look.levels.plans i.look.front) i.look
+    (λ look. looks_are_levels i.delays n i.now i.now i.taken (with_counter i.behind i.state) (oldest_front i.look.levels.plans i.look.front) i.look
     c.self.invariant.some c.self.invariant.few (AreDelays-list i.delays c.shape.ensures) (omega arith) most look)
     (λ look. c.end-dropped.ensures.opened i.delays i.now i.taken (with_counter i.behind i.state) (oldest_front i.look.levels.plans i.look.front) look
     (counted-index i.behind i.state))
@@ -65,7 +66,7 @@ returns-clause-dropped g c =
     subst (λ (m : Overlap). c.end-dropped.result ≡ dropped m) c.self.view_is
     (c.end-dropped.ensures.dropped ∙
     (end-first n i.delays i.state i.taken i.behind i.now i.owed i.ended i.fresh i.look c.end-dropped.new.self c.self.invariant owes c.if-self.false fresh most
-    (λ look. c.looks_are_levels.ensures i.delays n i.now i.now i.taken (with_counter i.behind i.state) (oldest_front i.look.levels.plans i.look.front) i.look
+    (λ look. looks_are_levels i.delays n i.now i.now i.taken (with_counter i.behind i.state) (oldest_front i.look.levels.plans i.look.front) i.look
     c.self.invariant.some c.self.invariant.few (AreDelays-list i.delays c.shape.ensures) (omega arith) most look)
     (λ look. c.end-dropped.ensures.opened i.delays i.now i.taken (with_counter i.behind i.state) (oldest_front i.look.levels.plans i.look.front) look
     (counted-index i.behind i.state))
@@ -82,7 +83,7 @@ returns-clause-after g c =
     let w = c.end-dropped.new.self in
     subst (λ (m : Overlap). standing n i.delays i.state i.taken i.behind i.now i.owed true i.fresh w ≡ ended m) c.self.view_is
     (end-first n i.delays i.state i.taken i.behind i.now i.owed i.ended i.fresh i.look w c.self.invariant owes c.if-self.false fresh most
-    (λ look. c.looks_are_levels.ensures i.delays n i.now i.now i.taken (with_counter i.behind i.state) (oldest_front i.look.levels.plans i.look.front) i.look
+    (λ look. looks_are_levels i.delays n i.now i.now i.taken (with_counter i.behind i.state) (oldest_front i.look.levels.plans i.look.front) i.look
     c.self.invariant.some c.self.invariant.few (AreDelays-list i.delays c.shape.ensures) (omega arith) most look)
     (λ look. c.end-dropped.ensures.opened i.delays i.now i.taken (with_counter i.behind i.state) (oldest_front i.look.levels.plans i.look.front) look
     (counted-index i.behind i.state))

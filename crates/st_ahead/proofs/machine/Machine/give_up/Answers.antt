@@ -7,6 +7,7 @@ use Rattle.st_ahead.specs.Look.{count}
 use Rattle.st_ahead.specs.Inside.{standing}
 use Rattle.st_ahead.proofs.Settling.{end-again, given-up, giving-up, counted-index}
 use Rattle.st_ahead.proofs.machine.Machine.give_up.Goals as goal
+use Rattle.st_ahead.proofs.Laws.{looks_are_levels}
 
 pub returns-then-self-clause-dropped : goal.returns-then-self-clause-dropped
 returns-then-self-clause-dropped g c =
@@ -36,7 +37,7 @@ invariant_of-self g c =
     let none = subst (λ (m : Overlap). m.closing ≡ None) (sym c.self.view_is) c.requires.none in
     let most : count i.look ≤ n = c.shape-2.ensures in
     (given-up n i.delays i.state i.taken i.behind i.now i.owed i.ended i.fresh i.look c.give_up-dropped.new.self c.self.invariant owes c.if-self.false none most
-    (λ look. c.looks_are_levels.ensures i.delays n i.now i.now i.taken (with_counter i.behind i.state) (oldest_front i.look.levels.plans i.look.front) i.look
+    (λ look. looks_are_levels i.delays n i.now i.now i.taken (with_counter i.behind i.state) (oldest_front i.look.levels.plans i.look.front) i.look
     c.self.invariant.some c.self.invariant.few (AreDelays-list i.delays c.shape.ensures) (omega arith) most look)
     (λ look. c.give_up-dropped.ensures.opened i.delays i.now i.taken (with_counter i.behind i.state) (oldest_front i.look.levels.plans i.look.front) look
     (counted-index i.behind i.state))).0
@@ -51,7 +52,7 @@ returns-clause-dropped g c =
     subst (λ (m : Overlap). c.give_up-dropped.result ≡ dropped m) c.self.view_is
     (c.give_up-dropped.ensures.dropped ∙
     (given-up n i.delays i.state i.taken i.behind i.now i.owed i.ended i.fresh i.look c.give_up-dropped.new.self c.self.invariant owes c.if-self.false none most
-    (λ look. c.looks_are_levels.ensures i.delays n i.now i.now i.taken (with_counter i.behind i.state) (oldest_front i.look.levels.plans i.look.front) i.look
+    (λ look. looks_are_levels i.delays n i.now i.now i.taken (with_counter i.behind i.state) (oldest_front i.look.levels.plans i.look.front) i.look
     c.self.invariant.some c.self.invariant.few (AreDelays-list i.delays c.shape.ensures) (omega arith) most look)
     (λ look. c.give_up-dropped.ensures.opened i.delays i.now i.taken (with_counter i.behind i.state) (oldest_front i.look.levels.plans i.look.front) look
     (counted-index i.behind i.state))).1)
@@ -66,7 +67,7 @@ returns-clause-after g c =
     let w = c.give_up-dropped.new.self in
     subst (λ (m : Overlap). standing n i.delays i.state i.taken i.behind i.now i.owed true i.fresh w ≡ ended m) c.self.view_is
     (given-up n i.delays i.state i.taken i.behind i.now i.owed i.ended i.fresh i.look w c.self.invariant owes c.if-self.false none most
-    (λ look. c.looks_are_levels.ensures i.delays n i.now i.now i.taken (with_counter i.behind i.state) (oldest_front i.look.levels.plans i.look.front) i.look
+    (λ look. looks_are_levels i.delays n i.now i.now i.taken (with_counter i.behind i.state) (oldest_front i.look.levels.plans i.look.front) i.look
     c.self.invariant.some c.self.invariant.few (AreDelays-list i.delays c.shape.ensures) (omega arith) most look)
     (λ look. c.give_up-dropped.ensures.opened i.delays i.now i.taken (with_counter i.behind i.state) (oldest_front i.look.levels.plans i.look.front) look
     (counted-index i.behind i.state))).2

@@ -6,6 +6,7 @@ use Rattle.st_ahead.specs.Calls.{passed}
 use Rattle.st_ahead.specs.Inside.{standing}
 use Rattle.st_ahead.proofs.Settling.{go-inside, going-look, look-goes}
 use Rattle.st_ahead.proofs.machine.Machine.go_on.Goals as goal
+use Rattle.st_levels.proofs.Laws.{levels_are_the_entries_ahead}
 
 pub pass-requires : goal.pass-requires
 pass-requires g c =
@@ -58,7 +59,7 @@ invariant_of-self g c =
     (go-inside n i.delays i.state i.taken i.behind i.now i.owed i.ended i.fresh i.look w c.self.invariant owes c.if-self.false right
     (subst (λ (m : Overlap). interrupt_due m ≡ None) (sym c.self.view_is) c.requires.due)
     (subst (λ (m : Overlap). rests m.state ≡ false) (sym c.self.view_is) c.requires.goes)
-    look (c.levels_are_the_entries_ahead.ensures.oldest i.delays n i.now i.taken i.state f w.front w.levels look.ahead)).0
+    look (levels_are_the_entries_ahead.oldest i.delays n i.now i.taken i.state f w.front w.levels look.ahead)).0
 
 pub returns : goal.returns
 returns g c =
@@ -74,4 +75,4 @@ returns g c =
     (go-inside n i.delays i.state i.taken i.behind i.now i.owed i.ended i.fresh i.look w c.self.invariant owes c.if-self.false right
     (subst (λ (m : Overlap). interrupt_due m ≡ None) (sym c.self.view_is) c.requires.due)
     (subst (λ (m : Overlap). rests m.state ≡ false) (sym c.self.view_is) c.requires.goes)
-    look (c.levels_are_the_entries_ahead.ensures.oldest i.delays n i.now i.taken i.state f w.front w.levels look.ahead)).1
+    look (levels_are_the_entries_ahead.oldest i.delays n i.now i.taken i.state f w.front w.levels look.ahead)).1

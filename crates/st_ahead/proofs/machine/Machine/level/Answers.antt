@@ -8,6 +8,7 @@ use Rattle.st_ahead.specs.Inside.{standing, kept_at}
 use Rattle.st_ahead.proofs.Showing.{look-inside, soon-last, showing}
 use Rattle.st_ahead.proofs.Views.{showing-level, showing-eight}
 use Rattle.st_ahead.proofs.machine.Machine.level.Goals as goal
+use Rattle.st_ahead.proofs.Laws.{looks_are_levels}
 
 pub returns-clause-value : goal.returns-clause-value
 returns-clause-value g c =
@@ -15,7 +16,7 @@ returns-clause-value g c =
     let i = c.self.inside in
     let m = standing n i.delays i.state i.taken i.behind i.now i.owed i.ended i.fresh i.look in
     let look = look-inside n i.delays i.state i.taken i.behind i.now i.owed i.ended i.fresh i.look c.self.invariant c.shape-3.ensures in
-    let is = showing m i.look look (c.looks_are_levels.ensures i.delays n (last_tick m) i.now i.taken (seen m) m.front i.look
+    let is = showing m i.look look (looks_are_levels i.delays n (last_tick m) i.now i.taken (seen m) m.front i.look
     c.self.invariant.some c.self.invariant.few (AreDelays-list i.delays c.shape.ensures) (soon-last i.owed i.now) c.shape-2.ensures look) in
     let tick = c.last_tick-tick.ensures ∙ ap (λ (x : Overlap). last_tick x) (sym c.self.view_is) in
     subst (λ (x : Overlap). c.level.result ≡ get_or (shown x).levels c.args.k None) c.self.view_is
@@ -27,7 +28,7 @@ returns-clause-eight g c =
     let i = c.self.inside in
     let m = standing n i.delays i.state i.taken i.behind i.now i.owed i.ended i.fresh i.look in
     let look = look-inside n i.delays i.state i.taken i.behind i.now i.owed i.ended i.fresh i.look c.self.invariant c.shape-3.ensures in
-    let is = showing m i.look look (c.looks_are_levels.ensures i.delays n (last_tick m) i.now i.taken (seen m) m.front i.look
+    let is = showing m i.look look (looks_are_levels i.delays n (last_tick m) i.now i.taken (seen m) m.front i.look
     c.self.invariant.some c.self.invariant.few (AreDelays-list i.delays c.shape.ensures) (soon-last i.owed i.now) c.shape-2.ensures look) in
     let most : count i.look ≤ n = c.shape-2.ensures in
     let few : n ≤ 8 = c.self.invariant.few in

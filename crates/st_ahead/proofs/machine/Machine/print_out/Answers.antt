@@ -9,6 +9,8 @@ use Rattle.st_ahead.specs.Calls.{MayServe, printed_by}
 use Rattle.st_ahead.specs.Inside.{standing}
 use Rattle.st_ahead.proofs.Signals.{signal-inside}
 use Rattle.st_ahead.proofs.machine.Machine.print_out.Goals as goal
+use Rattle.st_exec.proofs.Laws.{orders_are_passed_over}
+use Rattle.st_ahead.proofs.Laws.{signals_leave_looks}
 
 pub invariant_of-self : goal.invariant_of-self
 invariant_of-self g c =
@@ -16,8 +18,8 @@ invariant_of-self g c =
     let i = c.self.inside in
     signal-inside n i.delays i.state c.print_out-words.new.state i.taken i.behind i.now i.owed i.ended i.fresh i.look c.self.invariant
     (inr (subst MayServe (sym c.self.view_is) c.requires.turn)) c.shape-2.ensures
-    (subst (λ (u : Machine). AreAlikeBesideOrders i.state u) (sym c.print_out-words.ensures.state) (c.orders_are_passed_over.ensures.printed i.state))
-    (λ x y f look late done m alike. c.signals_leave_looks.ensures.look i.delays n i.now i.now x y f i.look
+    (subst (λ (u : Machine). AreAlikeBesideOrders i.state u) (sym c.print_out-words.ensures.state) (orders_are_passed_over.printed i.state))
+    (λ x y f look late done m alike. signals_leave_looks.look i.delays n i.now i.now x y f i.look
     c.self.invariant.some c.self.invariant.few (AreDelays-list i.delays c.shape.ensures) look late done m alike)
 
 pub returns-clause-words : goal.returns-clause-words

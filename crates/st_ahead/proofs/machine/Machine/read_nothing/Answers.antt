@@ -8,6 +8,8 @@ use Rattle.st_ahead.specs.Inside.{standing}
 use Rattle.st_ahead.proofs.Signals.{signal-inside}
 use Rattle.st_ahead.proofs.Cards.{no_card-alike, with-read}
 use Rattle.st_ahead.proofs.machine.Machine.read_nothing.Goals as goal
+use Rattle.st_exec.proofs.Laws.{orders_are_passed_over}
+use Rattle.st_ahead.proofs.Laws.{signals_leave_looks}
 
 pub invariant_of-self : goal.invariant_of-self
 invariant_of-self g c =
@@ -16,8 +18,8 @@ invariant_of-self g c =
     let some = subst (λ (m : Overlap). IsSome m.state.reader) (sym c.self.view_is) c.requires.order in
     signal-inside n i.delays i.state c.read_in.new.state i.taken i.behind i.now i.owed i.ended i.fresh i.look c.self.invariant
     (inr (subst MayServe (sym c.self.view_is) c.requires.turn)) c.shape-2.ensures
-    (no_card-alike i.state c.read_in.new.state i.state.reader (c.orders_are_passed_over.ensures.no_card i.state) some c.read_in.ensures)
-    (λ x y f look late done m alike. c.signals_leave_looks.ensures.look i.delays n i.now i.now x y f i.look
+    (no_card-alike i.state c.read_in.new.state i.state.reader (orders_are_passed_over.no_card i.state) some c.read_in.ensures)
+    (λ x y f look late done m alike. signals_leave_looks.look i.delays n i.now i.now x y f i.look
     c.self.invariant.some c.self.invariant.few (AreDelays-list i.delays c.shape.ensures) look late done m alike)
 
 pub returns : goal.returns

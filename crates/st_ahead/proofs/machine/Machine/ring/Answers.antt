@@ -7,6 +7,7 @@ use Rattle.st_ahead.specs.Shown.{AreLevelsOf}
 use Rattle.st_ahead.specs.Inside.{standing}
 use Rattle.st_ahead.proofs.Showing.{look-inside, soon-last, showing, showing-ring}
 use Rattle.st_ahead.proofs.machine.Machine.ring.Goals as goal
+use Rattle.st_ahead.proofs.Laws.{looks_are_levels}
 
 pub returns-clause-levels : goal.returns-clause-levels
 returns-clause-levels g c =
@@ -14,7 +15,7 @@ returns-clause-levels g c =
     let i = c.self.inside in
     let m = standing n i.delays i.state i.taken i.behind i.now i.owed i.ended i.fresh i.look in
     let look = look-inside n i.delays i.state i.taken i.behind i.now i.owed i.ended i.fresh i.look c.self.invariant c.shape-3.ensures in
-    let is = showing m i.look look (c.looks_are_levels.ensures i.delays n (last_tick m) i.now i.taken (seen m) m.front i.look
+    let is = showing m i.look look (looks_are_levels i.delays n (last_tick m) i.now i.taken (seen m) m.front i.look
     c.self.invariant.some c.self.invariant.few (AreDelays-list i.delays c.shape.ensures) (soon-last i.owed i.now) c.shape-2.ensures look) in
     subst (λ (x : Overlap). AreLevelsOf x c.ring.result.now) c.self.view_is
     (subst (λ (levels : List Level). AreLevelsOf m levels) (sym c.ring.ensures) (showing-ring m i.look is))

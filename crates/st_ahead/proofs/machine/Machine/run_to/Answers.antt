@@ -14,6 +14,9 @@ use Rattle.st_ahead.proofs.Idling.{passed-none}
 use Rattle.st_ahead.proofs.Standing.{idle, guess-seen, told as told_row}
 use Rattle.st_ahead.proofs.Stopping.{awake-inside, passed-machine, stopped-machine}
 use Rattle.st_ahead.proofs.machine.Machine.run_to.Goals as goal
+use Rattle.st_levels.proofs.Laws.{levels_are_the_entries_ahead}
+use Rattle.st_segment.proofs.Laws.{steps_are_guesses}
+use Rattle.st_exec.proofs.Laws.{entries_count_as_one}
 
 pub returns-then-now-last : goal.returns-then-now-last
 returns-then-now-last g c =
@@ -65,7 +68,7 @@ invariant_of-self g c =
     let awake = awake-inside n i.delays i.state i.taken i.behind i.now i.owed i.ended i.fresh v c.self.invariant owes in
     let by = subst (λ (x : Option Stop). HasRun i.delays n c.args.count c.args.last i.now i.taken i.state f c.run_to-stop.new.taken c.run_to-stop.new.state w x) c.in_default.is
     (c.run_to-stop.ensures f i.now at.look (omega (arith, c.if-now-last.false)) awake) in
-    let front = c.levels_are_the_entries_ahead.ensures.oldest i.delays n c.args.last c.run_to-stop.new.taken c.run_to-stop.new.state by.front w.front w.levels by.look.ahead in
+    let front = levels_are_the_entries_ahead.oldest i.delays n c.args.last c.run_to-stop.new.taken c.run_to-stop.new.state by.front w.front w.levels by.look.ahead in
     let all = passed-machine n i.delays i.state c.run_to-stop.new.state i.taken c.run_to-stop.new.taken i.behind i.now c.args.last c.args.count i.owed i.ended i.fresh v w
     c.self.invariant owes c.requires.last by front in
     all.0
@@ -82,7 +85,7 @@ returns-in_default g c =
     let awake = awake-inside n i.delays i.state i.taken i.behind i.now i.owed i.ended i.fresh v c.self.invariant owes in
     let by = subst (λ (x : Option Stop). HasRun i.delays n c.args.count c.args.last i.now i.taken i.state f c.run_to-stop.new.taken c.run_to-stop.new.state w x) c.in_default.is
     (c.run_to-stop.ensures f i.now at.look (omega (arith, c.if-now-last.false)) awake) in
-    let front = c.levels_are_the_entries_ahead.ensures.oldest i.delays n c.args.last c.run_to-stop.new.taken c.run_to-stop.new.state by.front w.front w.levels by.look.ahead in
+    let front = levels_are_the_entries_ahead.oldest i.delays n c.args.last c.run_to-stop.new.taken c.run_to-stop.new.state by.front w.front w.levels by.look.ahead in
     let all = passed-machine n i.delays i.state c.run_to-stop.new.state i.taken c.run_to-stop.new.taken i.behind i.now c.args.last c.args.count i.owed i.ended i.fresh v w
     c.self.invariant owes c.requires.last by front in
     subst (λ (m : Overlap). ArePassed c.args.count (c.args.last + 1 - m.now) m (standing n i.delays c.run_to-stop.new.state c.run_to-stop.new.taken i.behind (c.args.last + 1) i.owed i.ended i.fresh w))
@@ -102,11 +105,11 @@ invariant_of-self-2 g c =
     (c.run_to-stop.ensures f i.now at.look (omega (arith, c.if-now-last.false)) awake) in
     let stop = c.in-Some.stop in
     let told = by.done_at in
-    let front = c.levels_are_the_entries_ahead.ensures.oldest i.delays n stop.tick None (guess by.table by.state) (after i.delays n by.front (entry by.table by.state)) w.front w.levels
+    let front = levels_are_the_entries_ahead.oldest i.delays n stop.tick None (guess by.table by.state) (after i.delays n by.front (entry by.table by.state)) w.front w.levels
     told.look.ahead in
     let guessed = guess-seen by.table by.state c.run_to-stop.new.state (is_missed (plan by.state by.table) by.state) stop.done.missed refl told.state told.told.missed
-    (c.steps_are_guesses.ensures.right by.table by.state by.machine by.indicator) (c.steps_are_guesses.ensures.missed by.table by.state by.machine by.indicator) in
-    let counted = c.done_in-number.ensures ∙ ap (λ (m : Machine). m.done) told.state ∙ c.entries_count_as_one.ensures (plan by.state by.table) by.state in
+    (steps_are_guesses.right by.table by.state by.machine by.indicator) (steps_are_guesses.missed by.table by.state by.machine by.indicator) in
+    let counted = c.done_in-number.ensures ∙ ap (λ (m : Machine). m.done) told.state ∙ entries_count_as_one (plan by.state by.table) by.state in
     let all = stopped-machine n i.delays i.state c.run_to-stop.new.state i.taken c.run_to-stop.new.taken i.behind i.now c.args.last c.args.count stop.tick c.done_in-number.result
     i.owed i.ended i.fresh v w stop.done c.self.invariant owes c.requires.last by front guessed counted in
     all.0
@@ -125,11 +128,11 @@ returns g c =
     (c.run_to-stop.ensures f i.now at.look (omega (arith, c.if-now-last.false)) awake) in
     let stop = c.in-Some.stop in
     let told = by.done_at in
-    let front = c.levels_are_the_entries_ahead.ensures.oldest i.delays n stop.tick None (guess by.table by.state) (after i.delays n by.front (entry by.table by.state)) w.front w.levels
+    let front = levels_are_the_entries_ahead.oldest i.delays n stop.tick None (guess by.table by.state) (after i.delays n by.front (entry by.table by.state)) w.front w.levels
     told.look.ahead in
     let guessed = guess-seen by.table by.state c.run_to-stop.new.state (is_missed (plan by.state by.table) by.state) stop.done.missed refl told.state told.told.missed
-    (c.steps_are_guesses.ensures.right by.table by.state by.machine by.indicator) (c.steps_are_guesses.ensures.missed by.table by.state by.machine by.indicator) in
-    let counted = c.done_in-number.ensures ∙ ap (λ (m : Machine). m.done) told.state ∙ c.entries_count_as_one.ensures (plan by.state by.table) by.state in
+    (steps_are_guesses.right by.table by.state by.machine by.indicator) (steps_are_guesses.missed by.table by.state by.machine by.indicator) in
+    let counted = c.done_in-number.ensures ∙ ap (λ (m : Machine). m.done) told.state ∙ entries_count_as_one (plan by.state by.table) by.state in
     let all = stopped-machine n i.delays i.state c.run_to-stop.new.state i.taken c.run_to-stop.new.taken i.behind i.now c.args.last c.args.count stop.tick c.done_in-number.result
     i.owed i.ended i.fresh v w stop.done c.self.invariant owes c.requires.last by front guessed counted in
     subst (λ (m : Overlap). StopsAt c.args.count c.args.last (told_row c.done_in-number.result stop.done.address stop.done.p stop.done.r stop.tick) m

@@ -6,6 +6,8 @@ use Rattle.st_ahead.specs.Calls.{MaySignal, signalled_by}
 use Rattle.st_ahead.specs.Inside.{standing}
 use Rattle.st_ahead.proofs.Signals.{signal-inside}
 use Rattle.st_ahead.proofs.machine.Machine.signal.Goals as goal
+use Rattle.st_exec.proofs.Laws.{orders_are_passed_over}
+use Rattle.st_ahead.proofs.Laws.{signals_leave_looks}
 
 pub invariant_of-self : goal.invariant_of-self
 invariant_of-self g c =
@@ -14,8 +16,8 @@ invariant_of-self g c =
     let u = c.signal.new.self in
     signal-inside n i.delays i.state u i.taken i.behind i.now i.owed i.ended i.fresh i.look c.self.invariant
     (subst MaySignal (sym c.self.view_is) c.requires.turn) c.shape-2.ensures
-    (subst (λ x. AreAlikeBesideOrders i.state x) (sym c.signal.ensures) (c.orders_are_passed_over.ensures.signalled i.state c.args.i))
-    (λ x y f look late done m alike. c.signals_leave_looks.ensures.look i.delays n i.now i.now x y f i.look
+    (subst (λ x. AreAlikeBesideOrders i.state x) (sym c.signal.ensures) (orders_are_passed_over.signalled i.state c.args.i))
+    (λ x y f look late done m alike. signals_leave_looks.look i.delays n i.now i.now x y f i.look
     c.self.invariant.some c.self.invariant.few (AreDelays-list i.delays c.shape.ensures) look late done m alike)
 
 pub returns : goal.returns

@@ -15,6 +15,10 @@ use Rattle.st_ahead.proofs.Gone.{outlook-of}
 use Rattle.st_ahead.proofs.Standing.{idle, not-first, passed-tick, done-tick, guess-seen, row-tick, banks-at, some-due, told}
 use Rattle.st_ahead.proofs.TickCases.{unprepared}
 use Rattle.st_ahead.proofs.machine.Machine.tick.Goals as goal
+use Rattle.st_levels.proofs.Laws.{levels_are_the_entries_ahead}
+use Rattle.st_ahead.proofs.Laws.{looks_are_levels, the_banks_are_left}
+use Rattle.st_segment.proofs.Laws.{entries_are_in_range, steps_are_guesses}
+use Rattle.st_exec.proofs.Laws.{entries_count_as_one}
 
 pub tick-done-requires : goal.tick-done-requires
 tick-done-requires g c =
@@ -35,7 +39,7 @@ invariant_of-self g c =
     let by = subst (λ (x : Option Completed). IsTicked i.delays n i.now i.taken i.state f v u w x) c.in_default.is
     (c.tick-done.ensures i.delays (i.now - 1) i.taken f c.self.invariant.some c.self.invariant.few are at.look (not-first i.now v.levels.ring at.look.prepared)) in
     let all = passed-tick n i.delays i.state u i.taken i.behind i.now i.owed i.ended i.fresh v w c.self.invariant owes early by
-    (c.levels_are_the_entries_ahead.ensures.oldest i.delays n i.now i.taken i.state f w.front w.levels by.look.ahead) in
+    (levels_are_the_entries_ahead.oldest i.delays n i.now i.taken i.state f w.front w.levels by.look.ahead) in
     all.0
 
 pub returns-in_default-clause-event : goal.returns-in_default-clause-event
@@ -53,7 +57,7 @@ returns-in_default-clause-event g c =
     let by = subst (λ (x : Option Completed). IsTicked i.delays n i.now i.taken i.state f v u w x) c.in_default.is
     (c.tick-done.ensures i.delays (i.now - 1) i.taken f c.self.invariant.some c.self.invariant.few are at.look (not-first i.now v.levels.ring at.look.prepared)) in
     let all = passed-tick n i.delays i.state u i.taken i.behind i.now i.owed i.ended i.fresh v w c.self.invariant owes early by
-    (c.levels_are_the_entries_ahead.ensures.oldest i.delays n i.now i.taken i.state f w.front w.levels by.look.ahead) in
+    (levels_are_the_entries_ahead.oldest i.delays n i.now i.taken i.state f w.front w.levels by.look.ahead) in
     subst (λ (m : Overlap). is_done m ≡ false) c.self.view_is all.1
 
 pub returns-in_default-clause-after : goal.returns-in_default-clause-after
@@ -71,7 +75,7 @@ returns-in_default-clause-after g c =
     let by = subst (λ (x : Option Completed). IsTicked i.delays n i.now i.taken i.state f v u w x) c.in_default.is
     (c.tick-done.ensures i.delays (i.now - 1) i.taken f c.self.invariant.some c.self.invariant.few are at.look (not-first i.now v.levels.ring at.look.prepared)) in
     let all = passed-tick n i.delays i.state u i.taken i.behind i.now i.owed i.ended i.fresh v w c.self.invariant owes early by
-    (c.levels_are_the_entries_ahead.ensures.oldest i.delays n i.now i.taken i.state f w.front w.levels by.look.ahead) in
+    (levels_are_the_entries_ahead.oldest i.delays n i.now i.taken i.state f w.front w.levels by.look.ahead) in
     subst (λ (m : Overlap). standing n i.delays u i.taken i.behind i.now true i.ended i.fresh w ≡ ticked m) c.self.view_is all.2
 
 pub invariant_of-self-2 : goal.invariant_of-self-2
@@ -93,16 +97,16 @@ invariant_of-self-2 g c =
     let t = at.look.indicator in
     let most : count v ≤ n = c.shape-2.ensures in
     let few : i.now ≤ i.now - 1 + 1 = omega arith in
-    let levels = c.looks_are_levels.ensures i.delays n (i.now - 1) i.now i.taken i.state f v c.self.invariant.some c.self.invariant.few are few most at.look in
+    let levels = looks_are_levels i.delays n (i.now - 1) i.now i.taken i.state f v c.self.invariant.some c.self.invariant.few are few most at.look in
     let some = some-due (count v) (λ empty. unprepared i.delays n (count v) i.now i.taken i.state f c.self.invariant.some empty are
-    (c.entries_are_in_range.ensures.ranges i.taken i.state m t) at.look.oldest levels by.due) in
+    (entries_are_in_range.ranges i.taken i.state m t) at.look.oldest levels by.due) in
     let next = not-first i.now v.levels.ring at.look.prepared some in
-    let left = c.the_banks_are_left.ensures i.delays n (i.now - 1) i.now i.taken i.state f v
+    let left = the_banks_are_left i.delays n (i.now - 1) i.now i.taken i.state f v
     c.self.invariant.some c.self.invariant.few are next most some (outlook-of i.delays n (i.now - 1) i.now i.taken i.state f v at.look) by.due in
     let banks = banks-at n i.delays i.state i.taken i.now v left.0 in
     let guessed = guess-seen i.taken i.state u (is_missed (plan i.state i.taken) i.state) done.missed refl by.state by.told.missed
-    (c.steps_are_guesses.ensures.right i.taken i.state m t) (c.steps_are_guesses.ensures.missed i.taken i.state m t) in
-    let front = c.levels_are_the_entries_ahead.ensures.oldest i.delays n i.now None (guess i.taken i.state) (after i.delays n f (entry i.taken i.state)) w.front w.levels by.look.ahead in
+    (steps_are_guesses.right i.taken i.state m t) (steps_are_guesses.missed i.taken i.state m t) in
+    let front = levels_are_the_entries_ahead.oldest i.delays n i.now None (guess i.taken i.state) (after i.delays n f (entry i.taken i.state)) w.front w.levels by.look.ahead in
     let all = done-tick n i.delays i.state u i.taken i.behind i.now i.owed i.ended i.fresh v w done c.self.invariant owes early by front banks left.1 guessed in
     all.0
 
@@ -125,19 +129,19 @@ returns-clause-event g c =
     let t = at.look.indicator in
     let most : count v ≤ n = c.shape-2.ensures in
     let few : i.now ≤ i.now - 1 + 1 = omega arith in
-    let levels = c.looks_are_levels.ensures i.delays n (i.now - 1) i.now i.taken i.state f v c.self.invariant.some c.self.invariant.few are few most at.look in
+    let levels = looks_are_levels i.delays n (i.now - 1) i.now i.taken i.state f v c.self.invariant.some c.self.invariant.few are few most at.look in
     let some = some-due (count v) (λ empty. unprepared i.delays n (count v) i.now i.taken i.state f c.self.invariant.some empty are
-    (c.entries_are_in_range.ensures.ranges i.taken i.state m t) at.look.oldest levels by.due) in
+    (entries_are_in_range.ranges i.taken i.state m t) at.look.oldest levels by.due) in
     let next = not-first i.now v.levels.ring at.look.prepared some in
-    let left = c.the_banks_are_left.ensures i.delays n (i.now - 1) i.now i.taken i.state f v
+    let left = the_banks_are_left i.delays n (i.now - 1) i.now i.taken i.state f v
     c.self.invariant.some c.self.invariant.few are next most some (outlook-of i.delays n (i.now - 1) i.now i.taken i.state f v at.look) by.due in
     let banks = banks-at n i.delays i.state i.taken i.now v left.0 in
     let guessed = guess-seen i.taken i.state u (is_missed (plan i.state i.taken) i.state) done.missed refl by.state by.told.missed
-    (c.steps_are_guesses.ensures.right i.taken i.state m t) (c.steps_are_guesses.ensures.missed i.taken i.state m t) in
-    let front = c.levels_are_the_entries_ahead.ensures.oldest i.delays n i.now None (guess i.taken i.state) (after i.delays n f (entry i.taken i.state)) w.front w.levels by.look.ahead in
+    (steps_are_guesses.right i.taken i.state m t) (steps_are_guesses.missed i.taken i.state m t) in
+    let front = levels_are_the_entries_ahead.oldest i.delays n i.now None (guess i.taken i.state) (after i.delays n f (entry i.taken i.state)) w.front w.levels by.look.ahead in
     let all = done-tick n i.delays i.state u i.taken i.behind i.now i.owed i.ended i.fresh v w done c.self.invariant owes early by front banks left.1 guessed in
     let row = row-tick n i.delays i.state u i.taken i.behind i.now i.owed i.ended i.fresh v w done c.self.invariant owes by
-    (c.entries_count_as_one.ensures (plan i.state i.taken) i.state) in
+    (entries_count_as_one (plan i.state i.taken) i.state) in
     subst (λ (m : Overlap). (is_done m ≡ true) × (told c.done_in-number.result done.address done.p done.r i.now ≡ row_done m)) c.self.view_is (all.1, ap (λ k. told k done.address done.p done.r i.now) c.done_in-number.ensures ∙ row)
 
 pub returns-clause-after : goal.returns-clause-after
@@ -159,15 +163,15 @@ returns-clause-after g c =
     let t = at.look.indicator in
     let most : count v ≤ n = c.shape-2.ensures in
     let few : i.now ≤ i.now - 1 + 1 = omega arith in
-    let levels = c.looks_are_levels.ensures i.delays n (i.now - 1) i.now i.taken i.state f v c.self.invariant.some c.self.invariant.few are few most at.look in
+    let levels = looks_are_levels i.delays n (i.now - 1) i.now i.taken i.state f v c.self.invariant.some c.self.invariant.few are few most at.look in
     let some = some-due (count v) (λ empty. unprepared i.delays n (count v) i.now i.taken i.state f c.self.invariant.some empty are
-    (c.entries_are_in_range.ensures.ranges i.taken i.state m t) at.look.oldest levels by.due) in
+    (entries_are_in_range.ranges i.taken i.state m t) at.look.oldest levels by.due) in
     let next = not-first i.now v.levels.ring at.look.prepared some in
-    let left = c.the_banks_are_left.ensures i.delays n (i.now - 1) i.now i.taken i.state f v
+    let left = the_banks_are_left i.delays n (i.now - 1) i.now i.taken i.state f v
     c.self.invariant.some c.self.invariant.few are next most some (outlook-of i.delays n (i.now - 1) i.now i.taken i.state f v at.look) by.due in
     let banks = banks-at n i.delays i.state i.taken i.now v left.0 in
     let guessed = guess-seen i.taken i.state u (is_missed (plan i.state i.taken) i.state) done.missed refl by.state by.told.missed
-    (c.steps_are_guesses.ensures.right i.taken i.state m t) (c.steps_are_guesses.ensures.missed i.taken i.state m t) in
-    let front = c.levels_are_the_entries_ahead.ensures.oldest i.delays n i.now None (guess i.taken i.state) (after i.delays n f (entry i.taken i.state)) w.front w.levels by.look.ahead in
+    (steps_are_guesses.right i.taken i.state m t) (steps_are_guesses.missed i.taken i.state m t) in
+    let front = levels_are_the_entries_ahead.oldest i.delays n i.now None (guess i.taken i.state) (after i.delays n f (entry i.taken i.state)) w.front w.levels by.look.ahead in
     let all = done-tick n i.delays i.state u i.taken i.behind i.now i.owed i.ended i.fresh v w done c.self.invariant owes early by front banks left.1 guessed in
     subst (λ (m : Overlap). standing n i.delays u None done.missed i.now true i.ended true w ≡ ticked m) c.self.view_is all.2

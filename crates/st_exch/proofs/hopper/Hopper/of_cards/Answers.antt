@@ -5,6 +5,7 @@ use Rattle.st_card.specs.declared.cards.Card.{Card}
 use Rattle.st_card.specs.Cards.{IsCardOf}
 use Rattle.st_exch.specs.Reader.{texts_in, reader_cards}
 use Rattle.st_exch.proofs.hopper.Hopper.of_cards.Goals as goal
+use Rattle.st_card.proofs.Laws.{cards_stand_in_their_job}
 
 pub loop-card-init : goal.loop-card-init
 loop-card-init c =
@@ -16,7 +17,7 @@ loop-card-init c =
           ∙ c.behind_statements-behind.ensures.before c.args.job.now);
       cards = subst (λ (x : List Card). All (IsCardOf c.args.job.now) x) (sym c.behind_statements-behind.ensures.back)
           (All-drop (IsCardOf c.args.job.now) (length cards - length behind) cards
-          (subst (λ (x : List Card). All (IsCardOf c.args.job.now) x) (sym c.requires) (c.cards_stand_in_their_job.ensures c.args.job.now)));
+          (subst (λ (x : List Card). All (IsCardOf c.args.job.now) x) (sym c.requires) (cards_stand_in_their_job c.args.job.now)));
     }
 
 pub loop-card-preserved : goal.loop-card-preserved

@@ -8,6 +8,7 @@ use Rattle.st_levels.specs.Levels.{LevelsView, AreLevels}
 use Rattle.st_levels.specs.declared.plans.Plan.{Plan}
 use Rattle.st_levels.proofs.FillLemmas.{levels-filled, low-by, all-next}
 use Rattle.st_levels.proofs.levels.Levels.fill.Goals as goal
+use Rattle.st_levels.proofs.Laws.{levels_that_are_not_done_run_ahead}
 
 pub invariant_of-self : goal.invariant_of-self
 invariant_of-self g c =
@@ -32,7 +33,7 @@ returns-clause-ahead g c = λ ds n tick most t s f last are m some h behind prep
     let soon = All-weaker (λ (level : Level). level.p ≤ c.args.now) (λ level. level.p < c.args.now + 1) (λ level p. omega (arith, p)) v.ring prepared in
     let late = All-weaker (λ (q : Plan). c.args.now < q.c) (λ q. c.args.now + 1 ≤ q.c) (λ q c_late. omega (arith, c_late)) v.plans open_c in
     let low = low-by (length v.ring) c.args.state.now t s agrees
-    (λ two. c.levels_that_are_not_done_run_ahead.ensures ds n tick (c.args.now + 1) t s f last v h soon late two) in
+    (λ two. levels_that_are_not_done_run_ahead ds n tick (c.args.now + 1) t s f last v h soon late two) in
     let next = levels-filled ds n tick c.args.now most c.args.state.now are behind 0 t s f last v.ring v.plans new m some h.levels open_c (omega arith)
     (λ w above early. agrees w) low
     (λ k level q at beside. c.fill_all.ensures.levels k level q (ap (λ (r : List Level). slice_get r k) ring ∙ at)

@@ -1,0 +1,25 @@
+-- What holds of the three passes, whatever the job.
+use Rattle.std.specs.Prelude.{◌≡◌, List, ℕ, Bool}
+use Rattle.st_card.specs.declared.cards.Card.{Card}
+use Rattle.st_strap.specs.Faults.{fault_in}
+use Rattle.st_asm.specs.Forming.{Found, form_card, unread}
+use Rattle.st_asm.specs.Naming.{name_card, unnamed}
+use Rattle.st_asm.specs.Stops.{StopsAtFirst, StopsForm, StopsInOrder, form_fault}
+use Rattle.st_asm.specs.Valuing.{value_card, unlaid}
+
+-- Each pass is refused exactly where some card has a fault in the state which the cards before it leave, and
+-- none of those before it has one: at that card, for that fault. The form pass is also refused where no card is
+-- faulty and none says the end; and a job is refused by the earliest pass that is.
+pub record PassesStopAtTheFirstFault : Type 0 where
+  pub form : (job : List ℕ) → StopsAtFirst (form_card job) (λ card. card.number) unread
+  pub name : (on_cards : List ℕ → Bool)
+      → StopsAtFirst (name_card on_cards) (λ line. line.card) unnamed
+  pub value : (symbols : List (List ℕ × ℕ))
+      → StopsAtFirst (value_card symbols) (λ p. p.0.card) unlaid
+  pub end : (job : List ℕ) (cards : List Card) → StopsForm job cards
+  pub order : (job : List ℕ) → StopsInOrder job
+
+-- A card is refused in the form pass for the first of its faults in the order in which they count.
+abbrev pub CardsHaveTheirFirstFault : Type 0
+CardsHaveTheirFirstFault = (job : List ℕ) (found : Found) (card : Card) →
+    fault_in (form_card job found card) ≡ form_fault card.kind job found card

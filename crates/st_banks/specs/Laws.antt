@@ -1,0 +1,29 @@
+-- What holds of delays and banks, whatever is read.
+use Rattle.std.specs.Prelude.{◌≡◌, ◌≢◌, ◌<◌, ◌≤◌, ℕ, List, length, All, Some, None}
+use Rattle.st_banks.specs.Bank.{BankTimes, IsBankTimes, bank_of, last_answer, accept_tick, accepted, after_read}
+use Rattle.st_banks.specs.Delay.{delay, answer_tick}
+use Rattle.st_banks.specs.declared.answers.TheConstants.{BANKS}
+
+-- No read takes longer than the longest delay of the list.
+abbrev pub DelaysAreBounded : Type 0
+DelaysAreBounded = (list : List ℕ) (most tick : ℕ) → 1 ≤ length list → All (λ d. d ≤ most) list →
+    delay list tick ≤ most
+
+-- Each word lies in a bank.
+abbrev pub WordsLieInBanks : Type 0
+WordsLieInBanks = (w : ℕ) → bank_of w < BANKS
+
+-- A read keeps its own bank busy until its answer, and leaves every other bank.
+pub record ReadsKeepTheirBankBusy : Type 0 where
+  pub own : (m : BankTimes) (v w answer : ℕ) → IsBankTimes m → bank_of v ≡ bank_of w →
+      last_answer (after_read m w (Some answer)) v ≡ answer
+  pub others : (m : BankTimes) (v w answer : ℕ) → bank_of v ≢ bank_of w →
+      last_answer (after_read m w (Some answer)) v ≡ last_answer m v
+
+-- A read that can be made from a tick on and is wanted from a want on is accepted at its accept tick, and at no earlier one.
+pub record ReadsAreAcceptedAtTheirTick : Type 0 where
+  pub then : (m : BankTimes) (w tick want : ℕ) →
+      accepted m w (accept_tick m.answers w tick want)
+      ≡ Some (answer_tick m.delays (accept_tick m.answers w tick want))
+  pub not_before : (m : BankTimes) (w tick want t : ℕ) → tick ≤ t → want ≤ t →
+      t < accept_tick m.answers w tick want → accepted m w t ≡ None

@@ -1,0 +1,26 @@
+//! The state that tests begin with.
+ghost use Rattle.std.specs.Prelude.{◌≡◌, ℕ, length, slice_index, IfOk};
+
+use st_bits::WORDS;
+use st_state::State;
+use std::alloc::{AllocError, Global};
+use std::test::Fail;
+
+// A list of `n` words with no bit that is one.
+fn zeros(alloc: Global, n: usize) -> Result<Vec<u64>, AllocError>
+    ensures size { IfOk result (λ v. length v.items ≡ n) }
+    ensures zeros { IfOk result (λ v. (w : ℕ) → slice_index v.items w ≡ 0) }
+{
+    vec![in alloc; 0; n]
+}
+
+/// The state that a blank image opens with, its counter at the left half of word 32.
+pub fn opened(alloc: Global) -> Result<State, Fail>
+    ensures { IfOk result (λ s. s.done ≡ 0) }
+{
+    let image = zeros(alloc, WORDS as usize)?;
+    let Ok(state) = State::new(alloc, &image, 64) else {
+        return Err(Fail::from(AllocError));
+    };
+    Ok(state)
+}

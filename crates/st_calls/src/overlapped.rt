@@ -1,0 +1,105 @@
+//! A machine that is stopped between two entries, which no run does, against an independent model of it.
+ghost use Rattle.std.specs.Prelude.{◌≡◌, ◌+◌, ◌-◌, ◌<◌, ◌≤◌, true, false, IfOk};
+
+use crate::blank;
+use st_ahead::{Event, Machine, Settled};
+use st_banks::Delays;
+use st_bits::WORDS;
+use st_state::State;
+use std::alloc::{AllocError, Global};
+use std::process::Abort;
+use std::test::Fail;
+
+// A multiplication, which takes 12 ticks, an addition to index word 1, and a wait; they start at word 32.
+const CARDS: [(u32, u64); 3] = [
+    (32, 0x000A_00F0_0000_0520),
+    (33, 0x0000_4330_0000_0970),
+    (40, 7),
+];
+
+// The state before them.
+fn opened(rt: &impl Abort, alloc: Global) -> Result<State, Fail> {
+    let mut state = blank::opened(alloc)?;
+    for (w, word) in &CARDS {
+        assert!(rt; *w < WORDS);
+        state.store(*w, *word);
+    }
+    Ok(state)
+}
+
+// A machine of four levels before its first tick, each read of which takes one tick.
+fn begun(rt: &impl Abort, alloc: Global, state: State) -> Result<Machine<4>, Fail>
+    ensures settled { IfOk result (λ m. m.owed ≡ false) }
+    ensures first { IfOk result (λ m. m.now ≡ 0) }
+    ensures done { IfOk result (λ m. m.state.done ≡ 0) }
+{
+    assert!(rt; state.done == 0 && !state.enabled && !state.waiting);
+    match Delays::new(alloc, &[1]) {
+        Ok(delays) => Ok(Machine::new(state, delays)),
+        Err(_) => Err(Fail::from(AllocError)),
+    }
+}
+
+// Makes a tick at which no entry is done.
+fn make_tick(rt: &impl Abort, machine: &mut Machine<4>)
+    requires settled { machine.old.owed ≡ false }
+    requires early { machine.old.now < 1000 }
+    requires done { machine.old.state.done ≡ 0 }
+    ensures owed { machine.new.owed ≡ true }
+    ensures now { machine.new.now ≡ machine.old.now }
+    ensures done { machine.new.state.done ≡ 0 }
+{
+    let Event::Passed = machine.tick() else {
+        panic!(rt; "an entry is done");
+    };
+}
+
+// Settles it; the machine goes on.
+fn settle(rt: &impl Abort, machine: &mut Machine<4>)
+    requires owed { machine.old.owed ≡ true }
+    requires done { machine.old.state.done ≡ 0 }
+    ensures settled { machine.new.owed ≡ false }
+    ensures now { machine.new.now ≡ machine.old.now + 1 }
+    ensures done { machine.new.state.done ≡ 0 }
+{
+    let Settled::Goes = machine.settle() else {
+        panic!(rt; "something else comes");
+    };
+}
+
+// Makes so many ticks at which no entry is done, and settles them.
+fn make_ticks(rt: &impl Abort, machine: &mut Machine<4>, count: u64)
+    requires settled { machine.old.owed ≡ false }
+    requires early { machine.old.now + count ≤ 1000 }
+    requires done { machine.old.state.done ≡ 0 }
+    ensures settled { machine.new.owed ≡ false }
+    ensures now { machine.new.now ≡ machine.old.now + count }
+    ensures done { machine.new.state.done ≡ 0 }
+{
+    'ticks: for _k in 0..count {
+        make_tick(rt, machine);
+        settle(rt, machine);
+    }
+}
+
+#[test]
+fn a_machine_that_is_stopped_between_two_entries_drops_its_levels(
+    rt: HostRuntime,
+) -> Result<(), Fail> {
+    let alloc = rt.alloc();
+    let state = opened(&rt, alloc)?;
+    let mut machine = begun(&rt, alloc, state)?;
+    make_ticks(&rt, &mut machine, 10);
+    make_tick(&rt, &mut machine);
+    assert_eq!(rt; machine.ring().len(), 2);
+    assert_eq!(rt; machine.index()[1], 1 << 46);
+    assert_eq!(rt; machine.stop(), 2);
+    assert_eq!(rt; machine.ring().len(), 0);
+    let view = machine.view();
+    assert_eq!(rt; (view.tick, view.done), (10, 0));
+    assert_eq!(rt; view.x, [0; 16]);
+    assert_eq!(rt; view.levels, [None; 8]);
+    let state = machine.state();
+    assert_eq!(rt; (state.ic, state.word(40)), (64, 7));
+    Ok(())
+}

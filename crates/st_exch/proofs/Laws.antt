@@ -1,0 +1,9 @@
+-- What holds of the cards that the reader holds of a job, proved.
+use Rattle.st_exch.proofs.CardLemmas.{cards-size, cards-below}
+use Rattle.st_exch.specs.Laws.{CardsAreEightWords}
+
+pub cards_are_eight_words : CardsAreEightWords
+cards_are_eight_words = record {
+  size = λ job. cards-size job;
+  below = λ job are. cards-below job are;
+}

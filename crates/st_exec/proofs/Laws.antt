@@ -1,0 +1,60 @@
+-- What holds of completion itself, and not of one call, proved.
+use Rattle.st_exec.proofs.Unchanged.{completed-done}
+use Rattle.st_exec.proofs.AheadLemmas.{completed-past, missed-branch, guessed-right}
+use Rattle.st_exec.proofs.AlikeDeeds.{guessed-alike, completed-alike}
+use Rattle.st_exec.proofs.MachineKept.{kept-completed}
+use Rattle.st_exec.proofs.UnwrittenLemmas.{early-index_words, completed-unwritten, guessed-unwritten, guessed-machine, guessed-following, guessed-alone, guessed-rest, guessed-done, guessed-past}
+use Rattle.st_exec.proofs.BesideEntries.{guessed-beside, beside-printed, beside-no_card, beside-signalled, beside-same, beside-then}
+use Rattle.std.proofs.Common.{rules}
+use Rattle.st_exec.specs.Laws.{EntriesAreBounded, EntriesCountAsOne, EntriesAheadLeaveTheRest, OnlyIndicatorBranchesAreMissed, IndicatorsArePassedOver, EntriesLeaveStates, EarlyChangesLeaveTheirIndexWords, EntriesLeaveWhatTheyDoNotWrite, GuessesLeaveStates, OrdersArePassedOver}
+
+pub entries_are_bounded : EntriesAreBounded
+entries_are_bounded = record {
+  some_cost = search rules;
+  cost = search rules;
+  reads = search rules;
+}
+
+pub entries_count_as_one : EntriesCountAsOne
+entries_count_as_one = completed-done
+
+pub entries_ahead_leave_the_rest : EntriesAheadLeaveTheRest
+entries_ahead_leave_the_rest = completed-past
+
+pub only_indicator_branches_are_missed : OnlyIndicatorBranchesAreMissed
+only_indicator_branches_are_missed = record {
+  right = guessed-right;
+  missed = missed-branch;
+}
+
+pub indicators_are_passed_over : IndicatorsArePassedOver
+indicators_are_passed_over = record { guessed = guessed-alike; completed = completed-alike }
+
+pub entries_leave_states : EntriesLeaveStates
+entries_leave_states = kept-completed
+
+pub early_changes_leave_their_index_words : EarlyChangesLeaveTheirIndexWords
+early_changes_leave_their_index_words = early-index_words
+
+pub entries_leave_what_they_do_not_write : EntriesLeaveWhatTheyDoNotWrite
+entries_leave_what_they_do_not_write = record { completed = completed-unwritten; guessed = guessed-unwritten }
+
+pub guesses_leave_states : GuessesLeaveStates
+guesses_leave_states = record {
+  machine = guessed-machine;
+  following = guessed-following;
+  alone = guessed-alone;
+  rest = guessed-rest;
+  done = guessed-done;
+  past = guessed-past;
+}
+
+pub orders_are_passed_over : OrdersArePassedOver
+orders_are_passed_over = record {
+  guessed = guessed-beside;
+  printed = beside-printed;
+  no_card = beside-no_card;
+  signalled = beside-signalled;
+  same = beside-same;
+  joined = beside-then;
+}

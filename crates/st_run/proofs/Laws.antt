@@ -1,0 +1,58 @@
+-- What holds of each run with its timetable, proved.
+use Rattle.st_run.proofs.Untimed.{timed-plain}
+use Rattle.st_run.specs.Moments.{start, next_moment}
+use Rattle.std.proofs.Common.{sym, ◌∙◌, refl}
+use Rattle.st_run.proofs.Bounds.{run-time}
+use Rattle.st_run.proofs.EndLemmas.{run-ends}
+use Rattle.st_run.proofs.OrderLemmas.{timed-order}
+use Rattle.st_run.proofs.ShownLemmas.{timed-shown}
+use Rattle.st_run.proofs.Turns.{nothing-ahead, snapshot-none}
+use Rattle.st_run.proofs.PrintLemmas.{settled-one}
+use Rattle.st_run.proofs.GuessLemmas.{behind-right, behind-missed}
+use Rattle.st_run.proofs.SceneLemmas.{interrupt-below, settled-scene, stepped-scene}
+use Rattle.st_run.specs.Laws.{TheTimedRunIsTheRun, DelaysChangeNothingButTicks, RunsAreInTime, EventsComeInOrder, SnapshotsAreShownUpToTheEnd, NothingIsAheadBehindAnEnd, PrintsComeOneAtATime, DroppedEntriesFollowTheGuess, ScenesAreKept}
+
+pub the_timed_run_is_the_run : TheTimedRunIsTheRun
+the_timed_run_is_the_run = record {
+  whole = λ ds snaps n left scene. timed-plain ds n left (start scene) snaps;
+  from = λ ds snaps n left m. timed-plain ds n left m snaps;
+}
+
+pub delays_change_nothing_but_ticks : DelaysChangeNothingButTicks
+delays_change_nothing_but_ticks = λ ds es snaps shots n k left scene.
+    timed-plain ds n left (start scene) snaps ∙ sym (timed-plain es k left (start scene) shots)
+
+pub runs_are_in_time : RunsAreInTime
+runs_are_in_time = record {
+  each = λ ds snaps most n left scene are levels is. run-time most n ds are levels left scene snaps is;
+  end = λ ds snaps most n left scene are levels is. run-ends most n ds are levels left scene snaps 0 is;
+}
+
+pub events_come_in_order : EventsComeInOrder
+events_come_in_order = λ ds snaps n left scene rising. timed-order ds n left (start scene) snaps refl rising
+
+pub snapshots_are_shown_up_to_the_end : SnapshotsAreShownUpToTheEnd
+snapshots_are_shown_up_to_the_end = λ ds snaps n left scene. timed-shown ds n left (start scene) snaps 0 refl
+
+pub nothing_is_ahead_behind_an_end : NothingIsAheadBehindAnEnd
+nothing_is_ahead_behind_an_end = record {
+  ahead = λ ds n tick m ended early. nothing-ahead ds n m tick ended early;
+  state = λ tick taken s. snapshot-none tick taken s;
+}
+
+pub prints_come_one_at_a_time : PrintsComeOneAtATime
+prints_come_one_at_a_time = λ scene. settled-one scene
+
+pub dropped_entries_follow_the_guess : DroppedEntriesFollowTheGuess
+dropped_entries_follow_the_guess = record {
+  right = λ ds n k p is right. behind-right ds n k p is right;
+  missed = λ ds n k p is missed. behind-missed ds n k p is missed;
+}
+
+pub scenes_are_kept : ScenesAreKept
+unfolding next_moment
+scenes_are_kept = record {
+  between = λ m is. settled-scene m.scene is;
+  done = λ ds n p is. stepped-scene p.scene is;
+  taken = λ p. interrupt-below p.scene.machine;
+}

@@ -1,0 +1,54 @@
+-- What holds of the entries ahead, whatever is executed, proved.
+use Rattle.st_segment.proofs.EntryRanges.{entry-ranges, entry-reads, entry-words, entry-own}
+use Rattle.st_segment.proofs.GuessLemmas.{guesses-machine, guesses-next, ahead-next, front-next}
+use Rattle.st_segment.proofs.IndexLemmas.{split-change, index-split}
+use Rattle.st_segment.proofs.RestLemmas.{low-kept, enabled-kept, storage-kept, counter-behind}
+use Rattle.st_segment.proofs.SeenLemmas.{reading-behind, seen-behind}
+use Rattle.st_segment.proofs.KnownEarly.{known-early}
+use Rattle.st_segment.proofs.StepLemmas.{guess-right, guess-missed, guess-alone}
+use Rattle.st_segment.proofs.PassedOver.{entry-same, passed-over, rows-same, plan-same}
+use Rattle.st_segment.specs.Laws.{EntriesAreInRange, GuessesGoOn, IndexWordsRunAhead, GuessesLeaveTheRest, EntriesBehindAreSeen, EntriesAreKnownEarly, StepsAreGuesses, SignalsArePassedOver}
+
+pub entries_are_in_range : EntriesAreInRange
+entries_are_in_range = record { ranges = entry-ranges; reads = entry-reads; words = entry-words; own = entry-own }
+
+pub guesses_go_on : GuessesGoOn
+guesses_go_on = record {
+  machine = guesses-machine;
+  state = guesses-next;
+  next = ahead-next;
+  front = front-next;
+}
+
+pub index_words_run_ahead : IndexWordsRunAhead
+index_words_run_ahead = record {
+  change = split-change;
+  state = index-split;
+}
+
+pub guesses_leave_the_rest : GuessesLeaveTheRest
+guesses_leave_the_rest = record {
+  low = low-kept;
+  enabled = enabled-kept;
+  storage = storage-kept;
+  counter = counter-behind;
+}
+
+pub entries_behind_are_seen : EntriesBehindAreSeen
+entries_behind_are_seen = record {
+  reading = reading-behind;
+  seen = seen-behind;
+}
+
+pub entries_are_known_early : EntriesAreKnownEarly
+entries_are_known_early = known-early
+
+pub steps_are_guesses : StepsAreGuesses
+steps_are_guesses = record {
+  right = guess-right;
+  missed = guess-missed;
+  alone = guess-alone;
+}
+
+pub signals_are_passed_over : SignalsArePassedOver
+signals_are_passed_over = record { entry = entry-same; same = passed-over; rows = rows-same; plans = plan-same }

@@ -1,0 +1,14 @@
+-- The object text of a job and the deck of a program, written line by line.
+use Rattle.std.specs.Prelude.{◌≡◌}
+use Rattle.st_io.specs.Lines.{text}
+use Rattle.st_dis.specs.Deck.{deck_text}
+use Rattle.st_object.specs.Object.{Program, object_text}
+use Rattle.st_top.specs.ObjectText.{object_lines, deck_lines}
+
+-- The lines of the object text of a program, one after another, are that text.
+abbrev pub LinesAreTheObjectText : Type 0
+LinesAreTheObjectText = (p : Program) → text (object_lines p) ≡ object_text p
+
+-- The lines of the deck of a program, one after another, are that deck.
+abbrev pub LinesAreTheDeck : Type 0
+LinesAreTheDeck = (p : Program) → text (deck_lines p) ≡ deck_text p
