@@ -12,3 +12,4 @@ pub mod AcceptedTexts
 pub mod ProgramLines
 pub mod ReadBack
 pub mod BadLines
+pub mod OtherDelays

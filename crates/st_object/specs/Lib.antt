@@ -4,3 +4,4 @@ pub mod Draft
 pub mod Meaning
 pub mod Object
 pub mod Answers
+pub mod DelayLines
