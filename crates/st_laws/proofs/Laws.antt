@@ -1,6 +1,6 @@
 -- The numbers that definitions take from the code, read off it.
 use Rattle.std.proofs.Common.{refl}
-use Rattle.st_laws.specs.Laws.{LimitsInFigures, ControlsInFigures, RegistersInFigures, IndicatorsInFigures}
+use Rattle.st_laws.specs.Laws.{LimitsInFigures, ControlsInFigures, RegistersInFigures, IndicatorsInFigures, BanksInFigures, FormatsInFigures, ExpressionsInFigures, StatementsInFigures}
 
 pub limits_in_figures : LimitsInFigures
 limits_in_figures = record {
@@ -85,4 +85,29 @@ indicators_in_figures = record {
   accumulator_low = refl;
   accumulator_equal = refl;
   accumulator_high = refl;
+}
+
+pub banks_in_figures : BanksInFigures
+banks_in_figures = record { banks = refl }
+
+pub formats_in_figures : FormatsInFigures
+formats_in_figures = record {
+  floating_group = refl;
+  branch_group = refl;
+  unused = refl;
+}
+
+pub expressions_in_figures : ExpressionsInFigures
+expressions_in_figures = record {
+  last_address = refl;
+  last_bit = refl;
+}
+
+pub statements_in_figures : StatementsInFigures
+statements_in_figures = record {
+  most_offset = refl;
+  most_moved = refl;
+  most_waited = refl;
+  most_count = refl;
+  most_flags = refl;
 }

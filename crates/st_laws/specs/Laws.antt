@@ -4,6 +4,10 @@ use Rattle.st_bits.specs.declared.limits.TheConstants.{WORDS, LAST_WORD, MOST_IN
 use Rattle.st_card.specs.declared.limits.TheConstants.{MOST_DELAY, MOST_DUMPS, MOST_SNAPS, MOST_BACK, MOST_NUMBER}
 use Rattle.st_bits.specs.declared.register.TheConstants.{ZERO, INTERRUPT_ADDRESS, BOUNDS, COUNTS, LEFT_HALF, RIGHT_HALF, SIGN_BYTE, INDICATORS, MASK, REMAINDER, FACTOR, TRANSIT, FIRST_INDEX_WORD, FIRST_STORAGE_WORD}
 use Rattle.st_bits.specs.declared.indicators.TheConstants.{MACHINE_CHECK, INSTRUCTION_CHECK, INSTRUCTION_REJECT, EXCHANGE_CONTROL_CHECK, TIME_SIGNAL, PROCESSOR_SIGNAL, EXCHANGE_CHECK_REJECT, UNIT_NOT_READY_REJECT, CHANNEL_BUSY_REJECT, EXCHANGE_PROGRAM_CHECK, UNIT_CHECK, END_EXCEPTION, END_OF_OPERATION, CHANNEL_SIGNAL, OPERATION_INVALID, ADDRESS_INVALID, UNENDED_SEQUENCE, EXECUTE_EXCEPTION, DATA_STORE, DATA_FETCH, INSTRUCTION_FETCH, LOST_CARRY, PARTIAL_FIELD, ZERO_DIVISOR, FLAG_T, FLAG_U, FLAG_V, INDEX_FLAG, BINARY_TRANSIT, DECIMAL_TRANSIT, FIRST_PROGRAM_INDICATOR, INDEX_COUNT_ZERO, INDEX_VALUE_LESS, INDEX_VALUE_ZERO, INDEX_VALUE_GREATER, INDEX_LOW, INDEX_EQUAL, INDEX_HIGH, TO_MEMORY_OPERATION, RESULT_LESS, RESULT_ZERO, RESULT_GREATER, RESULT_NEGATIVE, ACCUMULATOR_LOW, ACCUMULATOR_EQUAL, ACCUMULATOR_HIGH}
+use Rattle.st_banks.specs.declared.answers.TheConstants.{BANKS}
+use Rattle.st_format.specs.declared.operations.TheConstants.{FLOATING_GROUP, BRANCH_GROUP, UNUSED}
+use Rattle.st_expr.specs.declared.terms.TheConstants.{LAST_ADDRESS, LAST_BIT}
+use Rattle.st_asm.specs.declared.checks.TheConstants.{MOST_OFFSET, MOST_MOVED, MOST_WAITED, MOST_COUNT, MOST_FLAGS}
 
 -- limits of the machine and of a job: words of storage, the last of them, instructions of a run, delays and signals
 pub record LimitsInFigures : Type 0 where
@@ -85,3 +89,27 @@ pub record IndicatorsInFigures : Type 0 where
   pub accumulator_low : ACCUMULATOR_LOW ≡ 60
   pub accumulator_equal : ACCUMULATOR_EQUAL ≡ 61
   pub accumulator_high : ACCUMULATOR_HIGH ≡ 62
+
+-- how many banks storage has
+pub record BanksInFigures : Type 0 where
+  pub banks : BANKS ≡ 6
+
+-- numbers of operations of the half-word format: the floating group, the branch group, and the one that is none
+pub record FormatsInFigures : Type 0 where
+  pub floating_group : FLOATING_GROUP ≡ 0
+  pub branch_group : BRANCH_GROUP ≡ 23
+  pub unused : UNUSED ≡ 12
+
+-- limits of expressions: the last word address and the last bit of a word
+pub record ExpressionsInFigures : Type 0 where
+  pub last_address : LAST_ADDRESS ≡ 262143
+  pub last_bit : LAST_BIT ≡ 63
+
+-- limits of statements: an offset, words that are moved, instructions that an order waits for, the count and the flags of
+-- an index word
+pub record StatementsInFigures : Type 0 where
+  pub most_offset : MOST_OFFSET ≡ 127
+  pub most_moved : MOST_MOVED ≡ 16
+  pub most_waited : MOST_WAITED ≡ 1000
+  pub most_count : MOST_COUNT ≡ 262143
+  pub most_flags : MOST_FLAGS ≡ 7

@@ -12,3 +12,4 @@ pub mod Layers
 pub mod Running
 pub mod Marks
 pub mod Delays
+pub mod Laws
