@@ -16,19 +16,20 @@ use st_strap::{CompactStatement, Statement};
 // The first bit behind the addresses.
 const ADDRESSES: u64 = 1 << 24;
 
-// The most bits that an operand stands left of the accumulator's last one.
-const MOST_OFFSET: u64 = 127;
+/// The most bits that an operand stands left of the accumulator's last one.
+pub const MOST_OFFSET: u64 = 127;
 
-// The most words that are moved.
-const MOST_MOVED: u64 = 16;
+/// The most words that are moved.
+pub const MOST_MOVED: u64 = 16;
 
-// The most instructions that an order waits for.
-const MOST_WAITED: u64 = 1_000;
+/// The most instructions that an order waits for.
+pub const MOST_WAITED: u64 = 1_000;
 
-// The greatest count of an index word, and its greatest flags.
-const MOST_COUNT: u64 = 262_143;
+/// The greatest count of an index word.
+pub const MOST_COUNT: u64 = 262_143;
 
-const MOST_FLAGS: u64 = 7;
+/// Its greatest flags.
+pub const MOST_FLAGS: u64 = 7;
 
 // The first bit that may be laid.
 const FIRST_BIT: u64 = 64 * FIRST_STORAGE_WORD as u64;

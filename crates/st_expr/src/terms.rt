@@ -10,10 +10,11 @@ use crate::names::{is_name, is_system_word, padded};
 use crate::system::system_value;
 use st_text::{Reading, cut, read_number};
 
-// The last word address, also past storage, and the last bit of a word.
-const LAST_ADDRESS: u64 = 262_143;
+/// The last word address, also past storage.
+pub const LAST_ADDRESS: u64 = 262_143;
 
-const LAST_BIT: u64 = 63;
+/// The last bit of a word.
+pub const LAST_BIT: u64 = 63;
 
 /// What a term adds or takes away.
 #[derive(Clone, Copy, Debug, PartialEq, Eq)]

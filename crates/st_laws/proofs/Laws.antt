@@ -1,8 +1,8 @@
--- The numbers that definitions take from the code, read off it.
+-- The laws that tie crates which do not know each other, and the numbers in figures.
 use Rattle.st_expr.specs.System.{system_symbols}
 use Rattle.st_strap.specs.Reading.{index_fields}
 use Rattle.std.proofs.Common.{refl, rules}
-use Rattle.st_laws.specs.Laws.{LimitsInFigures, ControlsInFigures, RegistersInFigures, IndicatorsInFigures, DigitsAgree, CountsAgree, SymbolsAgree, SizesOfStorageAgree, NumbersAgree, MadeDecksAreNotRefused, LaidNumbersAreRead}
+use Rattle.st_laws.specs.Laws.{LimitsInFigures, ControlsInFigures, RegistersInFigures, IndicatorsInFigures, DigitsAgree, CountsAgree, SymbolsAgree, SizesOfStorageAgree, NumbersAgree, MadeDecksAreNotRefused, LaidNumbersAreRead, BanksInFigures, FormatsInFigures, ExpressionsInFigures, StatementsInFigures}
 use Rattle.st_laws.proofs.AgreementLemmas.{value-bytes, digits-joined, zeros-counted, ones-counted, counts-kept, shown-in, laid-in, spelled-agree}
 use Rattle.st_laws.proofs.MadeDecks.{made-assembled}
 use Rattle.st_laws.proofs.LaidFields.{binary-read, decimal-read, digits-read}
@@ -130,3 +130,28 @@ made_decks_are_not_refused = made-assembled
 
 pub laid_numbers_are_read : LaidNumbersAreRead
 laid_numbers_are_read = record { binary = binary-read; decimal = decimal-read; digits = digits-read }
+
+pub banks_in_figures : BanksInFigures
+banks_in_figures = record { banks = refl }
+
+pub formats_in_figures : FormatsInFigures
+formats_in_figures = record {
+  floating_group = refl;
+  branch_group = refl;
+  unused = refl;
+}
+
+pub expressions_in_figures : ExpressionsInFigures
+expressions_in_figures = record {
+  last_address = refl;
+  last_bit = refl;
+}
+
+pub statements_in_figures : StatementsInFigures
+statements_in_figures = record {
+  most_offset = refl;
+  most_moved = refl;
+  most_waited = refl;
+  most_count = refl;
+  most_flags = refl;
+}

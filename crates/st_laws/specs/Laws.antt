@@ -1,4 +1,4 @@
--- The numbers that definitions take from the code, in figures.
+-- What ties crates that do not know each other, and the numbers that definitions take from the code, in figures.
 use Rattle.std.specs.Prelude.{◌≡◌, ◌≤◌, ◌<◌, ◌+◌, ◌*◌, ◌^◌, ◌==◌, ◌&&◌, ◌||◌, nat_le, nat_lt, ℕ, List, Some, map, codes, length, sum, decimal, Ok, true, Bool, false}
 use Rattle.st_bits.specs.declared.limits.TheConstants.{WORDS, LAST_WORD, MOST_INSTRUCTIONS, LONGEST_LIST}
 use Rattle.st_card.specs.declared.limits.TheConstants.{MOST_DELAY, MOST_DUMPS, MOST_SNAPS, MOST_BACK, MOST_NUMBER}
@@ -23,6 +23,10 @@ use Rattle.st_gen.specs.Deck.{made_deck}
 use Rattle.st_strap.specs.declared.statement.Form.{Form}
 use Rattle.st_dec.specs.DecimalOperand.{field_value, digit_bytes, digit_count}
 use Rattle.st_laws.specs.LaidNumbers.{IsHeld, IsRead, shape_of, laid}
+use Rattle.st_banks.specs.declared.answers.TheConstants.{BANKS}
+use Rattle.st_format.specs.declared.operations.TheConstants.{FLOATING_GROUP, BRANCH_GROUP, UNUSED}
+use Rattle.st_expr.specs.declared.terms.TheConstants.{LAST_ADDRESS, LAST_BIT}
+use Rattle.st_asm.specs.declared.checks.TheConstants.{MOST_OFFSET, MOST_MOVED, MOST_WAITED, MOST_COUNT, MOST_FLAGS}
 
 -- limits of the machine and of a job: words of storage, the last of them, instructions of a run, delays and signals
 pub record LimitsInFigures : Type 0 where
@@ -167,3 +171,27 @@ pub record LaidNumbersAreRead : Type 0 where
       → IsHeld form minus number → form.decimal ≡ true
       → let h = shape_of form negated offset in
       digit_bytes (laid form minus number h) h ≡ digit_list (digit_count h) number
+
+-- how many banks storage has
+pub record BanksInFigures : Type 0 where
+  pub banks : BANKS ≡ 6
+
+-- numbers of operations of the half-word format: the floating group, the branch group, and the one that is none
+pub record FormatsInFigures : Type 0 where
+  pub floating_group : FLOATING_GROUP ≡ 0
+  pub branch_group : BRANCH_GROUP ≡ 23
+  pub unused : UNUSED ≡ 12
+
+-- limits of expressions: the last word address and the last bit of a word
+pub record ExpressionsInFigures : Type 0 where
+  pub last_address : LAST_ADDRESS ≡ 262143
+  pub last_bit : LAST_BIT ≡ 63
+
+-- limits of statements: an offset, words that are moved, instructions that an order waits for, the count and the flags of
+-- an index word
+pub record StatementsInFigures : Type 0 where
+  pub most_offset : MOST_OFFSET ≡ 127
+  pub most_moved : MOST_MOVED ≡ 16
+  pub most_waited : MOST_WAITED ≡ 1000
+  pub most_count : MOST_COUNT ≡ 262143
+  pub most_flags : MOST_FLAGS ≡ 7

@@ -13,3 +13,4 @@ pub mod ProgramLines
 pub mod ReadBack
 pub mod BadLines
 pub mod Laws
+pub mod OtherDelays

@@ -5,3 +5,4 @@ pub mod Meaning
 pub mod Object
 pub mod Answers
 pub mod Laws
+pub mod DelayLines

@@ -1,5 +1,6 @@
 -- Delays show in marked lines alone.
-use Rattle.st_top.specs.Delays.{MarksAreTheReport, DelaysChangeNothingButTheTimetable, JobsThatDifferInDelaysAlone, DelaysShowInMarksAlone}
+use Rattle.st_object.proofs.OtherDelays.{has-lines, again-read, lines-differ}
+use Rattle.st_top.specs.Delays.{MarksAreTheReport, DelaysChangeNothingButTheTimetable, JobsThatDifferInDelaysAlone, ObjectTextsThatDifferInDelaysAlone, DelaysShowInMarksAlone}
 use Rattle.st_top.proofs.MarkLemmas.{lines-run, lines-output}
 use Rattle.st_top.proofs.DelayLemmas.{run-same}
 use Rattle.st_top.proofs.JobLemmas.{jobs-same, texts-same}
@@ -19,9 +20,17 @@ jobs_that_differ_in_delays_alone = record {
   load = texts-same;
 }
 
+pub object_texts_that_differ_in_delays_alone : ObjectTextsThatDifferInDelaysAlone
+object_texts_that_differ_in_delays_alone = record {
+  texts = λ text other p q is also h. texts-same text other p q is also (lines-differ text other p q is also h);
+  accepted = again-read;
+  good = has-lines;
+}
+
 pub delays_show_in_marks_alone : DelaysShowInMarksAlone
 delays_show_in_marks_alone = record {
   marks = marks_are_the_report;
   runs = delays_change_nothing_but_the_timetable;
   jobs = jobs_that_differ_in_delays_alone;
+  objects = object_texts_that_differ_in_delays_alone;
 }

@@ -1,4 +1,5 @@
--- Jobs whose texts differ in their delays cards alone. They write the same, but for the lines that are marked.
+-- Jobs whose texts differ in their delays cards alone, and object texts that differ in their lines of delays alone. They write
+-- the same, but for the lines that are marked.
 use Rattle.std.specs.Prelude.{◌≡◌, ℕ, ◌&&◌, Bool, true, false, not, List, [], ◌∷◌, map, filter, All, Option, Some, None, IsSome, Ok}
 use Rattle.st_text.specs.Pieces.{words}
 use Rattle.st_text.specs.Tables.{row_of}
@@ -13,6 +14,7 @@ use Rattle.st_asm.specs.Assembly.{Assembly, assembly}
 use Rattle.st_exch.specs.Reader.{behind_statements}
 use Rattle.st_run.specs.Run.{Scene}
 use Rattle.st_io.specs.Event.{lines_of}
+use Rattle.st_object.specs.DelayLines.{DifferInDelayLines, HasDelayLines}
 use Rattle.st_object.specs.Object.{Program, read_text}
 use Rattle.st_top.specs.Marks.{all_lines, unmarked, marked_run, marked_output, texts_up_to_end, DifferInDelays}
 use Rattle.st_top.specs.Output.{output_of}
@@ -106,8 +108,19 @@ pub record JobsThatDifferInDelaysAlone : Type 0 where
       → record p { controls = record p.controls { delays = q.controls.delays } } ≡ q
       → unmarked (marked_output Load text) ≡ unmarked (marked_output Load other)
 
+-- two texts that are object texts, and differ in their lines of delays alone, write the same lines that are not marked. Where one
+-- of the two is an object text, and the other has lines of these delays, that is the object text of the same program with
+-- these delays. The lines of each object text are those of its program's delays
+pub record ObjectTextsThatDifferInDelaysAlone : Type 0 where
+  pub texts : (text other : List ℕ) (p q : Program) → read_text text ≡ Ok p → read_text other ≡ Ok q
+      → DifferInDelayLines text other → unmarked (marked_output Load text) ≡ unmarked (marked_output Load other)
+  pub accepted : (text other delays : List ℕ) (p : Program) → read_text text ≡ Ok p → DifferInDelayLines text other
+      → HasDelayLines other delays → read_text other ≡ Ok (record p { controls = record p.controls { delays = delays } })
+  pub good : (text : List ℕ) (p : Program) → read_text text ≡ Ok p → HasDelayLines text p.controls.delays
+
 -- delays show in marked lines alone
 pub record DelaysShowInMarksAlone : Type 0 where
   pub marks : MarksAreTheReport
   pub runs : DelaysChangeNothingButTheTimetable
   pub jobs : JobsThatDifferInDelaysAlone
+  pub objects : ObjectTextsThatDifferInDelaysAlone

@@ -217,8 +217,8 @@ pub fn stretch<S: Source, K: Sink>(
     ensures some { length words.now ≡ 0 → result.status ≡ Status.Usage }
     ensures few { 3 < length words.now → result.status ≡ Status.Usage }
 
-    // Whatever was asked for: which of the lines that a command writes depend on the delays of storage, and that two jobs whose
-    // cards differ in `/DELAYS` alone have all others in common.
+    // Whatever was asked for: which of the lines that a command writes depend on the delays of storage, and that two jobs, or two
+    // object texts, that differ in their delays alone have all others in common.
     ensures delays { DelaysShowInMarksAlone }
 {
     match read_words(alloc, words) {

@@ -1,0 +1,251 @@
+-- Object texts that differ in their lines of delays alone are of programs that differ in their delays alone.
+use Rattle.std.proofs.Common.{◌≡◌, ◌≤◌, ◌+◌, ◌==◌, ℕ, Bool, true, false, not, if◌then◌else◌, List, [], ◌∷◌, ◌++◌, map, filter, Ok, refl, sym, ◌∙◌, ap, append_assoc, arith}
+use Rattle.std.proofs.lemmas.Bool.{cond_both}
+use Rattle.std.proofs.lemmas.Bool.Decides.{nat_tests}
+use Rattle.std.proofs.lemmas.List.{map-append}
+use Rattle.std.proofs.lemmas.List.Elements.{filter-append}
+use Rattle.st_text.specs.Bytes.{line_end}
+use Rattle.st_text.specs.Pieces.{parted}
+use Rattle.st_object.specs.Lines.{spelled, marked, word_lines, budget_lines, back_lines, show_lines}
+use Rattle.st_object.specs.Draft.{blank}
+use Rattle.st_object.specs.Object.{Program, IsProgram, AreWords, object_lines, object_text, read_from, read_text}
+use Rattle.st_object.specs.declared.items.Item.{Item}
+use Rattle.st_object.specs.declared.items.Item.TheVariants.{Object, Start, Word, Budget, Delay, Signal, Dump, Trace, Time, Chart, Snap, Back, Fin}
+use Rattle.st_object.proofs.AcceptedTexts.{accepted}
+use Rattle.st_object.proofs.ProgramLines.{made_again}
+use Rattle.st_object.proofs.ReadBack.{parted-text_of, read_back}
+use Rattle.st_object.specs.DelayLines.{is_delay_line, is_budget_line, with_delay_lines, DifferInDelayLines, HasDelayLines}
+
+-- the lines that items spell
+abbrev lines_of : List Item → List (List ℕ)
+lines_of items = map spelled items
+
+-- lines without those of delays
+abbrev others : List (List ℕ) → List (List ℕ)
+others lines = filter (λ line. not (is_delay_line line)) lines
+
+-- a program with these delays
+abbrev with_delays : Program → List ℕ → Program
+with_delays p delays = record p { controls = record p.controls { delays = delays } }
+
+-- ---- lines that are not of delays stay
+
+abbrev Stay : List Item → Type 0
+Stay items = others (lines_of items) ≡ lines_of items
+
+stay-both : (xs ys : List Item) → Stay xs → Stay ys → Stay (xs ++ ys)
+stay-both xs ys first second =
+    ap others (map-append spelled xs ys) ∙ filter-append (λ line. not (is_delay_line line)) (lines_of xs) (lines_of ys)
+    ∙ ap (λ l. l ++ others (lines_of ys)) first ∙ ap (λ l. lines_of xs ++ l) second ∙ sym (map-append spelled xs ys)
+
+stay-words : (w : ℕ) (xs : List ℕ) → Stay (word_lines w xs)
+unfolding spelled is_delay_line
+stay-words w [] = refl
+stay-words w (x ∷ xs) =
+    cond_both (x == 0) _ _ Stay (λ none. stay-words (w + 1) xs) (λ some. ap (λ l. spelled (Word w x) ∷ l) (stay-words (w + 1) xs))
+
+-- a line for each of a list
+stay-each : {X : Type 0} (line : X → Item) → ((x : X) → is_delay_line (spelled (line x)) ≡ false) → (xs : List X) → Stay (map line xs)
+stay-each line other [] = refl
+stay-each line other (x ∷ xs) = rw (other x) (ap (λ l. spelled (line x) ∷ l) (stay-each line other xs))
+
+-- one line or none
+stay-if : (b : Bool) (item : Item) → is_delay_line (spelled item) ≡ false → Stay (if b then item ∷ [] else [])
+stay-if true item other = rw other refl
+stay-if false item other = refl
+
+stay-unless : (b : Bool) (item : Item) → is_delay_line (spelled item) ≡ false → Stay (if b then [] else item ∷ [])
+stay-unless true item other = refl
+stay-unless false item other = rw other refl
+
+none-stays : (delays : List ℕ) → others (lines_of (map (λ n. Delay n) delays)) ≡ []
+unfolding spelled is_delay_line
+none-stays [] = refl
+none-stays (d ∷ delays) = none-stays delays
+
+-- ---- the lines of a program in four parts
+
+-- up to the words
+abbrev head : Program → List Item
+head p = Object ∷ Start p.start ∷ [] ++ word_lines 0 p.words
+
+-- behind the delays
+abbrev rest : Program → List Item
+rest p = map (λ s. Signal s.count s.indicator) p.controls.signals
+    ++ (map (λ q. Dump q.0 q.1) p.controls.dumps ++ (show_lines p.controls ++ Fin ∷ []))
+
+-- what stands between the line ends of its object text
+abbrev pieces : Program → List (List ℕ)
+pieces p = lines_of (object_lines p) ++ [] ∷ []
+
+regrouped : (w b d g m s f : List Item) → w ++ (b ++ d ++ g ++ m) ++ s ++ f ≡ w ++ (b ++ (d ++ (g ++ (m ++ (s ++ f)))))
+regrouped w b d g m s f = simp append_assoc refl
+
+in-parts : (p : Program) → object_lines p
+    ≡ head p ++ (budget_lines p.controls.budget ++ (map (λ n. Delay n) p.controls.delays ++ rest p))
+in-parts p = regrouped (head p) (budget_lines p.controls.budget) (map (λ n. Delay n) p.controls.delays)
+    (map (λ s. Signal s.count s.indicator) p.controls.signals) (map (λ q. Dump q.0 q.1) p.controls.dumps) (show_lines p.controls) (Fin ∷ [])
+
+-- lines of four parts, with an end
+four-parts : (w b d r : List Item) (end : List (List ℕ)) → lines_of (w ++ (b ++ (d ++ r))) ++ end
+    ≡ lines_of w ++ (lines_of b ++ (lines_of d ++ (lines_of r ++ end)))
+four-parts w b d r end =
+    rw (map-append spelled w (b ++ (d ++ r)), map-append spelled b (d ++ r), map-append spelled d r) (simp append_assoc refl)
+
+pieces-parts : (p : Program) → pieces p
+    ≡ lines_of (head p) ++ (lines_of (budget_lines p.controls.budget)
+    ++ (lines_of (map (λ n. Delay n) p.controls.delays) ++ (lines_of (rest p) ++ [] ∷ [])))
+pieces-parts p =
+    ap (λ items. lines_of items ++ [] ∷ []) (in-parts p)
+    ∙ four-parts (head p) (budget_lines p.controls.budget) (map (λ n. Delay n) p.controls.delays) (rest p) ([] ∷ [])
+
+-- ---- without delays
+
+stay-head : (p : Program) → Stay (head p)
+unfolding spelled is_delay_line
+stay-head p = ap (λ l. spelled Object ∷ spelled (Start p.start) ∷ l) (stay-words 0 p.words)
+
+stay-budget : (p : Program) → Stay (budget_lines p.controls.budget)
+unfolding spelled is_delay_line
+stay-budget p = stay-unless (p.controls.budget == 0) (Budget p.controls.budget) refl
+
+stay-show : (p : Program) → Stay (show_lines p.controls)
+unfolding spelled is_delay_line
+stay-show p =
+    let c = p.controls in
+    let trace = stay-if c.trace Trace refl in
+    let time = stay-both (marked c.trace Trace) (marked c.time Time) trace (stay-if c.time Time refl) in
+    let chart = stay-both (marked c.trace Trace ++ marked c.time Time) (marked c.chart Chart) time (stay-if c.chart Chart refl) in
+    let snaps = stay-both (marked c.trace Trace ++ marked c.time Time ++ marked c.chart Chart) (map (λ t. Snap t) c.snaps) chart
+    (stay-each (λ t. Snap t) (λ t. refl) c.snaps) in
+    stay-both (marked c.trace Trace ++ marked c.time Time ++ marked c.chart Chart ++ map (λ t. Snap t) c.snaps) (back_lines c.back) snaps
+    (stay-unless (c.back == 0) (Back c.back) refl)
+
+stay-rest : (p : Program) → Stay (rest p)
+unfolding spelled is_delay_line
+stay-rest p =
+    let signals = map (λ s. Signal s.count s.indicator) p.controls.signals in
+    let dumps = map (λ q. Dump q.0 q.1) p.controls.dumps in
+    let shown = show_lines p.controls ++ Fin ∷ [] in
+    stay-both signals (dumps ++ shown) (stay-each (λ s. Signal s.count s.indicator) (λ s. refl) p.controls.signals)
+    (stay-both dumps shown (stay-each (λ (q : ℕ × ℕ). Dump q.0 q.1) (λ q. refl) p.controls.dumps)
+    (stay-both (show_lines p.controls) (Fin ∷ []) (stay-show p) refl))
+
+-- four parts of which one goes
+three-left : (w b d r end : List (List ℕ)) → others w ≡ w → others b ≡ b → others d ≡ [] → others r ≡ r → others end ≡ end
+    → others (w ++ (b ++ (d ++ (r ++ end)))) ≡ w ++ (b ++ (r ++ end))
+three-left w b d r end one two three four five =
+    let keep = λ (line : List ℕ). not (is_delay_line line) in
+    filter-append keep w (b ++ (d ++ (r ++ end))) ∙ ap (λ l. l ++ others (b ++ (d ++ (r ++ end)))) one
+    ∙ ap (λ l. w ++ l) (filter-append keep b (d ++ (r ++ end)) ∙ ap (λ l. l ++ others (d ++ (r ++ end))) two
+    ∙ ap (λ l. b ++ l) (filter-append keep d (r ++ end) ∙ ap (λ l. l ++ others (r ++ end)) three
+    ∙ filter-append keep r end ∙ ap (λ l. l ++ others end) four ∙ ap (λ l. r ++ l) five))
+
+empty-stays : others ([] ∷ []) ≡ [] ∷ []
+unfolding is_delay_line
+empty-stays = refl
+
+others-parts : (p : Program) → others (pieces p)
+    ≡ lines_of (head p) ++ (lines_of (budget_lines p.controls.budget) ++ (lines_of (rest p) ++ [] ∷ []))
+others-parts p =
+    ap others (pieces-parts p)
+    ∙ three-left (lines_of (head p)) (lines_of (budget_lines p.controls.budget)) (lines_of (map (λ n. Delay n) p.controls.delays))
+    (lines_of (rest p)) ([] ∷ []) (stay-head p) (stay-budget p) (none-stays p.controls.delays) (stay-rest p) empty-stays
+
+-- ---- with other delays
+
+-- the words are passed
+passes-words : (delays : List ℕ) (w : ℕ) (xs : List ℕ) (more : List (List ℕ))
+    → with_delay_lines delays (lines_of (word_lines w xs) ++ more) ≡ lines_of (word_lines w xs) ++ with_delay_lines delays more
+unfolding spelled is_budget_line
+passes-words delays w [] more = refl
+passes-words delays w (x ∷ xs) more =
+    cond_both (x == 0) _ _ (λ items. with_delay_lines delays (lines_of items ++ more) ≡ lines_of items ++ with_delay_lines delays more)
+    (λ none. passes-words delays (w + 1) xs more) (λ some. ap (λ l. spelled (Word w x) ∷ l) (passes-words delays (w + 1) xs more))
+
+passes-head : (delays : List ℕ) (p : Program) (more : List (List ℕ))
+    → with_delay_lines delays (lines_of (head p) ++ more) ≡ lines_of (head p) ++ with_delay_lines delays more
+unfolding spelled is_budget_line
+passes-head delays p more = ap (λ l. spelled Object ∷ spelled (Start p.start) ∷ l) (passes-words delays 0 p.words more)
+
+spelled-each : (delays : List ℕ) → map (λ d. spelled (Delay d)) delays ≡ lines_of (map (λ n. Delay n) delays)
+spelled-each [] = refl
+spelled-each (d ∷ delays) = ap (λ l. spelled (Delay d) ∷ l) (spelled-each delays)
+
+one-budget : (n : ℕ) → 1 ≤ n → budget_lines n ≡ Budget n ∷ []
+one-budget n some = let is : (n == 0) ≡ false = grind (arith, nat_tests) in rw is refl
+
+-- behind the budget they come
+comes : (delays : List ℕ) (n : ℕ) (more : List (List ℕ)) → 1 ≤ n → with_delay_lines delays (lines_of (budget_lines n) ++ more)
+    ≡ lines_of (budget_lines n) ++ (lines_of (map (λ d. Delay d) delays) ++ more)
+unfolding spelled is_budget_line
+comes delays n more some =
+    ap (λ items. with_delay_lines delays (lines_of items ++ more)) (one-budget n some)
+    ∙ ap (λ l. spelled (Budget n) ∷ (l ++ more)) (spelled-each delays)
+    ∙ sym (ap (λ items. lines_of items ++ (lines_of (map (λ d. Delay d) delays) ++ more)) (one-budget n some))
+
+exchanged : (p : Program) (delays : List ℕ) → 1 ≤ p.controls.budget → with_delay_lines delays (others (pieces p)) ≡ pieces (with_delays p delays)
+exchanged p delays some =
+    let end = lines_of (rest p) ++ [] ∷ [] in
+    ap (with_delay_lines delays) (others-parts p)
+    ∙ passes-head delays p (lines_of (budget_lines p.controls.budget) ++ end)
+    ∙ ap (λ l. lines_of (head p) ++ l) (comes delays p.controls.budget end some)
+    ∙ sym (pieces-parts (with_delays p delays))
+
+-- ---- texts
+
+pieces-are : (p : Program) → IsProgram p → AreWords p.words → parted line_end (object_text p) ≡ pieces p
+pieces-are p is each =
+    let makes = made_again p is each in
+    parted-text_of (object_lines p) blank makes.last makes.steps
+
+text-pieces : (text : List ℕ) (p : Program) → read_text text ≡ Ok p → parted line_end text ≡ pieces p
+text-pieces text p read =
+    let is = accepted text p read in
+    ap (parted line_end) is.same ∙ pieces-are p is.program is.words
+
+-- the lines of an object text's own delays
+pub has-lines : (text : List ℕ) (p : Program) → read_text text ≡ Ok p → HasDelayLines text p.controls.delays
+has-lines text p read =
+    let is = accepted text p read in
+    let same = text-pieces text p read in
+    record {
+      some = is.program.delays;
+      limits = is.program.limits.delays;
+      lines = same ∙ sym (ap (λ l. with_delay_lines p.controls.delays (others l)) same
+          ∙ exchanged p p.controls.delays is.program.budget);
+    }
+
+-- a text with the same lines but for those of delays is read as the same program, with these delays
+pub again-read : (text other delays : List ℕ) (p : Program) → read_text text ≡ Ok p → DifferInDelayLines text other
+    → HasDelayLines other delays → read_text other ≡ Ok (with_delays p delays)
+unfolding read_text
+again-read text other delays p read same good =
+    let is = accepted text p read in
+    let program : IsProgram (with_delays p delays) = record {
+      whole = is.program.whole;
+      registers = is.program.registers;
+      start = is.program.start;
+      limits = record {
+        budget = is.program.limits.budget;
+        delays = good.limits;
+        signals = is.program.limits.signals;
+        dumps = is.program.limits.dumps;
+        snaps = is.program.limits.snaps;
+        back = is.program.limits.back;
+      };
+      budget = is.program.budget;
+      delays = good.some;
+      unlisted = is.program.unlisted;
+    } in
+    let lines : parted line_end other ≡ parted line_end (object_text (with_delays p delays)) =
+    good.lines ∙ ap (with_delay_lines delays) (sym same)
+    ∙ ap (λ l. with_delay_lines delays (others l)) (text-pieces text p read)
+    ∙ exchanged p delays is.program.budget ∙ sym (pieces-are (with_delays p delays) program is.words) in
+    ap (read_from blank 1) lines ∙ read_back (with_delays p delays) program is.words
+
+-- two object texts with the same lines but for those of delays are of programs that differ in their delays alone
+pub lines-differ : (text other : List ℕ) (p q : Program) → read_text text ≡ Ok p → read_text other ≡ Ok q → DifferInDelayLines text other
+    → with_delays p q.controls.delays ≡ q
+lines-differ text other p q is also same =
+    let again = again-read text other q.controls.delays p is same (has-lines other q also) in cc
