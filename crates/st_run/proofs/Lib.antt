@@ -30,3 +30,4 @@ pub mod LastLemmas
 pub mod QuietLemmas
 pub mod ServingLemmas
 pub mod RunLaws
+pub mod LedLemmas
