@@ -7,23 +7,24 @@ use Rattle.st_ahead.specs.RunTo.{after_ticks, ArePassed, RunsTo}
 use Rattle.st_ahead.specs.declared.events.Row.{Row}
 use Rattle.st_ahead.proofs.Passing.{ticked-owed, passed-keeps, passed-now}
 use Rattle.st_refine.specs.Reached.{IsReached, MayTick, Ticks, Settles}
-use Rattle.st_refine.specs.Laws.{IsLedTo, RunsAreReached}
+use Rattle.st_refine.specs.Laws.{IsLedTo, RunsAreReached, BanksHaveTheFirstReads}
 use Rattle.st_refine.proofs.Kept.{made-settled}
 use Rattle.st_refine.proofs.InTime.{made-ticks}
+use Rattle.st_refine.proofs.ReadLemmas.{have-first}
 
 -- where no settle is owed
-record IsLed (made k : ℕ) (m new : Overlap) : Type 0 where
+record IsLedOn (made k : ℕ) (m new : Overlap) : Type 0 where
   pub led : IsLedTo (made + k) new
   pub settled : new.owed ≡ false
   pub now : new.now ≡ m.now + k
   pub done : new.state.done < 2 ^ 63
 
 led-by : (k count made since : ℕ) (m new : Overlap) → IsReached m made since → m.owed ≡ false → m.state.done < 2 ^ 63 → m.now + k ≤ 2 ^ 63
-    → count ≤ 2 ^ 63 → ArePassed count k m new → IsLed made k m new
+    → count ≤ 2 ^ 63 → ArePassed count k m new → IsLedOn made k m new
 unfolding after_ticks
 led-by zero count made since m new from owes few soon most are =
     let same : made ≡ made + 0 = omega arith in
-    subst {A = Overlap} (λ x. IsLed made 0 m x) (sym are.after) (record {
+    subst {A = Overlap} (λ x. IsLedOn made 0 m x) (sym are.after) (record {
       led = record { since = since; reached = subst {A = ℕ} (λ k. IsReached m k since) same from };
       settled = owes;
       now = omega arith;
@@ -71,3 +72,6 @@ runs_are_reached = record {
   done = done-reached;
   passed = passed-led;
 }
+
+pub banks_have_the_first_reads : BanksHaveTheFirstReads
+banks_have_the_first_reads m made since j o changes from is going = have-first m made since j o changes from is going

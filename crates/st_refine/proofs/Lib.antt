@@ -8,4 +8,5 @@ pub mod LentLemmas
 pub mod OpeningLemmas
 pub mod RowLemmas
 pub mod StillLemmas
+pub mod ReadLemmas
 pub mod Laws

@@ -13,6 +13,7 @@ use Rattle.st_rows.specs.declared.front.Front.{Front}
 use Rattle.st_segment.specs.Entries.{entry}
 use Rattle.st_segment.specs.Guesses.{table_behind}
 use Rattle.st_segment.specs.Ahead.{ahead, reads_before}
+use Rattle.st_ahead.specs.Look.{asked_ahead}
 use Rattle.st_ahead.specs.Overlap.{Overlap, last_tick}
 
 -- ---- changes from outside
@@ -68,6 +69,15 @@ reads_after ds n o changes zero = []
 reads_after ds n o changes (suc j) =
     reads_after ds n o changes j
     ++ asked ds n (front_after ds n o changes j) (entry (table_behind j o.table) (state_after o changes j))
+
+-- the reads of a segment, in the order of the timetable: those of its first j entries, of entry j, and of the n + 1 entries behind the guess of that,
+-- no more than n of which are prepared before it is done
+unfoldable pub reads_of_segment : List ℕ → ℕ → Opening → List Outside → ℕ → List Read
+reads_of_segment ds n o changes j =
+    let s = state_after o changes j in
+    let t = table_behind j o.table in
+    reads_after ds n o changes (suc j)
+    ++ asked_ahead ds n (suc n) None (guess t s) (after ds n (front_after ds n o changes j) (entry t s))
 
 -- the last answers of the banks where the segment ends at the completion of entry j, after j others: of all its reads, with those of the entries behind
 -- that one by the guess, those are made that are accepted before that tick

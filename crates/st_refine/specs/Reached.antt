@@ -41,3 +41,9 @@ pub data IsReached : Overlap → ℕ → ℕ → Type 0 where
   Prints : (m : Overlap) (made since : ℕ) → IsReached m made since → IsSome m.state.printer → MayServe m
       → IsReached (printed_by m) made since
   Stops : (m : Overlap) (made since : ℕ) → IsReached m made since → MayServe m → IsReached (ended m) made since
+
+-- such calls lead to the machine
+pub record IsLed (m : Overlap) : Type 0 where
+  pub made : ℕ
+  pub since : ℕ
+  pub reached : IsReached m made since

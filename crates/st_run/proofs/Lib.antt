@@ -31,3 +31,4 @@ pub mod QuietLemmas
 pub mod ServingLemmas
 pub mod RunLaws
 pub mod Laws
+pub mod LedLemmas

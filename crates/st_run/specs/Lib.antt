@@ -8,6 +8,7 @@ pub mod Order
 pub mod Told
 pub mod Together
 pub mod Telling
+pub mod Protocol
 pub mod Ticking
 pub mod Leaving
 pub mod Between

@@ -5,6 +5,7 @@ ghost use Rattle.st_card.specs.Limits.{is_signal};
 ghost use Rattle.st_run.specs.Run.{with_due_signals};
 ghost use Rattle.st_ahead.specs.Calls.{MaySignal};
 ghost use Rattle.st_ahead.specs.Shown.{shown};
+ghost use Rattle.st_refine.specs.Reached.{IsLed};
 ghost use Rattle.st_run.specs.Together.{with_scene};
 
 use st_ahead::{Machine, View};
@@ -21,15 +22,14 @@ pub(crate) struct Driven<'a, const N: usize> {
 }
 
 impl<'a, const N: usize> Model for Driven<'a, N> {
-    ghost use Rattle.std.specs.List.{AllPass};
-    ghost use Rattle.st_card.specs.Limits.{is_signal};
+    ghost use Rattle.st_run.specs.Protocol.{IsDriven};
     ghost use Rattle.st_run.specs.Together.{Together};
 
     ghost Value = { Together };
 
     ghost view = { λ d. record { machine = d.machine; signals = d.signals.now; cards = d.cards } };
 
-    ghost invariant = { λ d. AllPass is_signal d.signals.now };
+    ghost invariant = { λ d. IsDriven d.machine d.signals.now d.cards };
 }
 
 // Turns on the signals at the front that are due, and gives those that are still to come.
@@ -61,9 +61,10 @@ pub(crate) fn take_due_signals<const N: usize>(driven: &mut Driven<N>)
     driven.signals = due_signals(&mut driven.machine, driven.signals);
 }
 
-// What is shown of the machine.
+// What is shown of the machine, to which calls within the protocol lead.
 pub(crate) fn view_of<const N: usize>(driven: &Driven<N>) -> View
-    ensures { result ≡ shown driven.now.machine }
+    ensures view { result ≡ shown driven.now.machine }
+    ensures led { IsLed driven.now.machine }
 {
     driven.machine.view()
 }

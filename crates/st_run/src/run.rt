@@ -54,6 +54,7 @@ impl<'a, const N: usize> Run<'a, N> {
     ghost use Rattle.st_run.specs.Told.{told as told_events};
     ghost use Rattle.st_run.specs.TimedRun.{timed_run};
     ghost use Rattle.st_run.specs.Telling.{what_told, AreLeftOut, AreLevels};
+    ghost use Rattle.st_run.specs.Protocol.{ShowsLed, IsViewOfLed};
 
     /// A run from a state that nothing has happened in, with the signals and the reader's cards that come to it, the ticks
     /// of the snapshots, and how many instructions may be done, at most 10,000,000.
@@ -124,9 +125,10 @@ impl<'a, const N: usize> Run<'a, N> {
         pass_entries(&mut self.progress)
     }
 
-    /// The state that is shown.
+    /// The state that is shown. Calls within the protocol of the machine lead to what the run shows.
     pub fn seen(&self) -> Seen<'_>
-        ensures { result ≡ self.entry.now.seen }
+        ensures seen { result ≡ self.entry.now.seen }
+        ensures led { ShowsLed self.entry.now }
     {
         Seen::with_index(
             self.progress.driven.machine.state(),
@@ -134,9 +136,10 @@ impl<'a, const N: usize> Run<'a, N> {
         )
     }
 
-    /// What is shown of the machine: the levels.
+    /// What is shown of the machine: the levels. Calls within its protocol lead to a machine that shows this.
     pub fn view(&self) -> View
-        ensures { AreLevels result.levels self.entry.now.ahead }
+        ensures levels { AreLevels result.levels self.entry.now.ahead }
+        ensures led { IsViewOfLed result self.entry.now }
     {
         view_of(&self.progress.driven)
     }

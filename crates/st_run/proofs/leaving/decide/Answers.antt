@@ -1,5 +1,8 @@
-use Rattle.std.proofs.Common.{sym, ◌∙◌, ap}
+use Rattle.std.proofs.Common.{sym, subst, ◌∙◌, ap}
 use Rattle.st_exec.specs.Step.{rests}
+use Rattle.st_ahead.specs.Calls.{MayServe}
+use Rattle.st_run.specs.Together.{Together}
+use Rattle.st_run.proofs.LedLemmas.{settled-driven, stopped-driven}
 use Rattle.st_run.proofs.ChoiceLemmas.{chosen}
 use Rattle.st_run.proofs.leaving.decide.Goals as goal
 
@@ -9,3 +12,15 @@ returns-clause-choice g c =
     c.driven.view_is c.if-left-eq0.false
     (ap rests (sym c.state.ensures) ∙ (sym c.is_at_rest-resting.ensures ∙ c.if-resting.false))
     c.settle.ensures.answer c.settle.ensures.after c.choice-ends.ensures
+
+pub invariant_of-driven : goal.invariant_of-driven
+invariant_of-driven g c =
+    let i = c.driven.inside in
+    let may = subst (λ (t : Together). MayServe t.machine) (sym c.driven.view_is) c.requires in
+    stopped-driven i.machine i.signals.now i.cards c.driven.invariant c.stop.new.self may c.stop.ensures.after
+
+pub invariant_of-driven-2 : goal.invariant_of-driven-2
+invariant_of-driven-2 g c =
+    let i = c.driven.inside in
+    let may = subst (λ (t : Together). MayServe t.machine) (sym c.driven.view_is) c.requires in
+    settled-driven i.machine i.signals.now i.cards c.driven.invariant c.settle.new.self may.0 c.settle.ensures.after

@@ -1,6 +1,8 @@
-use Rattle.std.proofs.Common.{sym, ◌∙◌, ap}
+use Rattle.std.proofs.Common.{◌≡◌, true, sym, subst, ◌∙◌, ap}
 use Rattle.st_state.specs.Machine.{Machine}
 use Rattle.st_run.specs.Between.{signal_due}
+use Rattle.st_run.specs.Together.{Together}
+use Rattle.st_run.proofs.LedLemmas.{passed-driven}
 use Rattle.st_run.proofs.QuietLemmas.{passed-decided, passed-parts}
 use Rattle.st_run.proofs.leaving.pass_on.Goals as goal
 
@@ -21,3 +23,9 @@ returns-clause-levels g c =
     (passed-parts c.args.left c.args.driven.now c.driven.inside.machine c.go_on.new.self _ _ c.driven.view_is c.requires c.if-left-eq0.false
     (ap (λ (s : Machine). signal_due s.done c.driven.inside.signals.now) (sym c.state.ensures) ∙ sym c.signal_is_due.ensures ∙ c.if-signal_is_due.false)
     (c.is_quiet.ensures c.if-not-is_quiet.false) c.go_on.ensures).levels
+
+pub invariant_of-driven : goal.invariant_of-driven
+invariant_of-driven g c =
+    let i = c.driven.inside in
+    passed-driven i.machine i.signals.now i.cards c.driven.invariant c.go_on.new.self
+    (subst (λ (t : Together). t.machine.owed ≡ true) (sym c.driven.view_is) c.requires.owed) (c.is_quiet.ensures c.if-not-is_quiet.false) c.go_on.ensures

@@ -6,6 +6,8 @@ use Rattle.st_run.specs.Scenes.{IsScene}
 use Rattle.st_run.specs.Together.{Together, with_scene}
 use Rattle.st_run.specs.Telling.{Waiting, IsRun, rest_of}
 use Rattle.st_run.specs.declared.turn.Turn.TheVariants as turns
+use Rattle.st_refine.specs.Reached.{CanStart}
+use Rattle.st_run.proofs.LedLemmas.{start-driven}
 use Rattle.st_run.proofs.StartLemmas.{IsIdle, start-run, start-told, none}
 use Rattle.st_run.proofs.run.Run.new.Goals as goal
 
@@ -35,3 +37,16 @@ returns g c =
     ap {A = Waiting} (λ w. rest_of turns.Before (c.args.budget - 1) 0 c.args.snaps.now w c.take_due_signals.new.driven) c.new-2.ensures
     ∙ ap {A = Together} (λ t. rest_of turns.Before (c.args.budget - 1) 0 c.args.snaps.now none t) same
     ∙ start-told c.args.delays g.row.N scene idle is c.args.budget c.args.snaps.now r.some_done
+
+pub invariant_of-driven : goal.invariant_of-driven
+invariant_of-driven g c =
+    let r = c.requires in
+    let can : CanStart c.args.delays g.row.N c.args.state = record {
+      some = r.some;
+      few = r.few;
+      delays = AreDelays-list c.args.delays c.shape-2.ensures;
+      machine = c.shape.ensures;
+      enabled = r.enabled;
+      waiting = r.waiting;
+    } in
+    start-driven c.args.delays g.row.N c.args.state c.new.result c.args.signals.now c.args.cards can c.new.ensures r.signals r.cards

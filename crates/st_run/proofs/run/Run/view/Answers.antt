@@ -1,12 +1,23 @@
-use Rattle.std.proofs.Common.{sym, subst}
+use Rattle.std.proofs.Common.{sym, subst, ap}
 use Rattle.st_ahead.specs.declared.events.View.{View}
 use Rattle.st_run.specs.Telling.{Telling, AreLevels, ahead_of}
 use Rattle.st_run.proofs.ViewLemmas.{view-run}
 use Rattle.st_run.proofs.run.Run.view.Goals as goal
 
-pub returns : goal.returns
-returns g c =
+pub returns-clause-levels : goal.returns-clause-levels
+returns-clause-levels g c =
     let run = c.self.inside.progress in
     subst {A = Telling} (λ s. AreLevels c.view_of.result.levels s.ahead) c.self.view_is
-    (subst {A = View} (λ v. AreLevels v.levels (ahead_of run.driven.machine)) (sym c.view_of.ensures)
+    (subst {A = View} (λ v. AreLevels v.levels (ahead_of run.driven.machine)) (sym c.view_of.ensures.view)
     (view-run run.turn run.left run.tick run.snaps.now run.waiting run.driven c.self.invariant))
+
+pub returns-clause-led : goal.returns-clause-led
+returns-clause-led g c = record {
+  shows = record {
+    machine = c.self.inside.progress.driven.machine;
+    led = c.view_of.ensures.led;
+    seen = ap (λ (s : Telling). s.seen) (sym c.self.view_is);
+    ahead = ap (λ (s : Telling). s.ahead) (sym c.self.view_is);
+  };
+  same = c.view_of.ensures.view;
+}

@@ -1,0 +1,193 @@
+-- The reads of a segment, and those that are accepted before a tick.
+use Rattle.std.specs.Prelude.{All, IfSome, nat_lt, max, if◌then◌else◌}
+use Rattle.std.proofs.Common.{◌≡◌, ℕ, zero, suc, ◌+◌, ◌<◌, ◌≤◌, Bool, true, false, List, [], ◌∷◌, ◌++◌, append_assoc, append-nil, inl, inr, Option, None, Some, refl, sym, subst, ◌∙◌, ap, arith}
+use Rattle.std.proofs.lemmas.List.Elements.{All-nil, All-cons, All-append}
+use Rattle.std.proofs.lemmas.Bool.{ltb-false}
+use Rattle.st_state.specs.Machine.{Machine}
+use Rattle.st_exec.specs.Completion.{guess}
+use Rattle.st_banks.specs.declared.answers.LastAnswers.{LastAnswers}
+use Rattle.st_rows.specs.Asked.{Read, asked, fetches_asked, data_of, served, after_one, made_before}
+use Rattle.st_rows.specs.BusTimes.{accept_at}
+use Rattle.st_rows.specs.Notes.{logged, note}
+use Rattle.st_rows.specs.Rows.{row, after, wanted_from, addressed, prepared, operands, tick_a, tick_p}
+use Rattle.st_rows.specs.declared.bus.Bus.{Bus}
+use Rattle.st_rows.specs.declared.entry.Entry.{Entry}
+use Rattle.st_rows.specs.declared.front.Front.{Front}
+use Rattle.st_rows.specs.declared.log.Made.{Made}
+use Rattle.st_rows.proofs.Each.{each-fetch, each-side, each-operand, each-following, each-of-data}
+use Rattle.st_rows.proofs.MadeLemmas.{before-cases, free-one, made-more}
+use Rattle.st_rows.proofs.Parts.{a-p, asked-parts}
+use Rattle.st_segment.specs.Entries.{entry}
+use Rattle.st_segment.specs.Guesses.{table_behind}
+use Rattle.st_segment.specs.Ahead.{ahead, reads_before}
+use Rattle.st_ahead.specs.Look.{asked_ahead}
+use Rattle.st_ahead.specs.Overlap.{Overlap}
+use Rattle.st_refine.specs.Laws.{AreFirst}
+use Rattle.st_refine.specs.Openings.{Opening, Outside, StandsAt, state_after, front_after, reads_after, banks_behind, reads_of_segment}
+use Rattle.st_refine.specs.Reached.{IsReached}
+use Rattle.st_refine.proofs.Kept.{fresh-of, kept}
+
+-- ---- reads that are accepted before a tick are the first ones
+
+module _ (ds : List ℕ) (t : ℕ) where
+  -- on a bus that is free at a tick or later nothing is accepted before
+  late-logged : (reads : List Read) (b : Bus) → t ≤ b.free → All (λ (m : Made). t ≤ m.tick) (logged ds reads b)
+  unfolding logged
+  late-logged [] b free = All-nil (λ (m : Made). t ≤ m.tick)
+  late-logged (r ∷ reads) b free =
+      let here : t ≤ accept_at b r.w r.want = omega (arith, free) in
+      All-append (λ (m : Made). t ≤ m.tick) (logged ds reads (after_one ds b r)) (note b r ∷ [])
+      (late-logged reads (after_one ds b r) (omega (arith, here, free-one ds b r)))
+      (All-cons (λ (m : Made). t ≤ m.tick) (note b r) [] here (All-nil (λ (m : Made). t ≤ m.tick)))
+
+  -- the first reads, and the bus behind them
+  pub record Splits (reads : List Read) (b : Bus) : Type 0 where
+    pub first : List Read
+    pub are : AreFirst ds t reads b first
+    pub made : made_before ds t reads b ≡ served ds first b
+
+  pub split : (reads : List Read) (b : Bus) → Splits reads b
+  unfolding made_before served logged
+  split [] b = record {
+    first = [];
+    are = record { others = []; order = refl; early = All-nil (λ (m : Made). m.tick < t); late = All-nil (λ (m : Made). t ≤ m.tick) };
+    made = refl;
+  }
+  split (r ∷ reads) b =
+      let rest = split reads (after_one ds b r) in
+      elim (before-cases (accept_at b r.w r.want) t) [
+        | inl early ↦ record {
+          first = r ∷ rest.first;
+          are = record {
+            others = rest.are.others;
+            order = ap (λ xs. r ∷ xs) rest.are.order;
+            early =
+                All-append (λ (m : Made). m.tick < t) (logged ds rest.first (after_one ds b r)) (note b r ∷ []) rest.are.early
+                (All-cons (λ (m : Made). m.tick < t) (note b r) [] early.1 (All-nil (λ (m : Made). m.tick < t)));
+            late = rest.are.late;
+          };
+          made = rw early.0 rest.made;
+        }
+        | inr late ↦ record {
+          first = [];
+          are = record {
+            others = r ∷ reads;
+            order = refl;
+            early = All-nil (λ (m : Made). m.tick < t);
+            late =
+                All-append (λ (m : Made). t ≤ m.tick) (logged ds reads (after_one ds b r)) (note b r ∷ [])
+                (late-logged reads (after_one ds b r) (omega (arith, late.1, free-one ds b r)))
+                (All-cons (λ (m : Made). t ≤ m.tick) (note b r) [] late.1 (All-nil (λ (m : Made). t ≤ m.tick)));
+          };
+          made = rw late.0 refl;
+        }
+      ]
+
+-- ---- when the reads of entries ahead are wanted
+
+if-any : (P : ℕ → Type 0) (side : Option ℕ) → ((w : ℕ) → P w) → IfSome side P
+if-any P None all = tt
+if-any P (Some w) all = all w
+
+wanted-late : (t : ℕ) (f : Front) → t ≤ f.p → t ≤ wanted_from f
+wanted-late t f late = by f.serial
+  where
+    by : (b : Bool) → t ≤ (if b then max f.p f.c else f.p)
+    by true = omega (arith, late)
+    by false = late
+
+address-behind : (ds : List ℕ) (n : ℕ) (f : Front) (e : Entry) → f.p < tick_a ds f e
+unfolding tick_a addressed
+address-behind ds n f e = omega arith
+
+prepared-behind : (ds : List ℕ) (n : ℕ) (f : Front) (e : Entry) → f.p < (row ds n f e).p
+unfolding row
+prepared-behind ds n f e = omega (arith, address-behind ds n f e, a-p ds n f e)
+
+asked-late : (ds : List ℕ) (n t : ℕ) (f : Front) (e : Entry) → t ≤ f.p → All (λ (r : Read). t ≤ r.want) (asked ds n f e)
+asked-late ds n t f e late =
+    let P : Read → Type 0 = λ (r : Read). t ≤ r.want in
+    let want : t ≤ wanted_from f = wanted-late t f late in
+    let address : t ≤ tick_a ds f e = omega (arith, late, address-behind ds n f e) in
+    let prepared_at : t ≤ tick_p ds n f e = omega (arith, address, a-p ds n f e) in
+    let fetches = each-fetch P ds f e (λ v w least most low. omega (arith, low, want)) (λ v w least most low. omega (arith, low, want)) in
+    let others = each-of-data P ds n f e
+    (each-side P f.past e.side (tick_a ds f e) (if-any (λ w. t ≤ tick_a ds f e) e.side (λ w. address)))
+    (each-operand P f.past e.reads (tick_p ds n f e) (λ v least most. prepared_at) (λ v least most. prepared_at))
+    (each-following P ds (operands ds n f e).bus e (tick_p ds n f e) (λ follows v least most. prepared_at)) in
+    subst (λ (xs : List Read). All (λ (r : Read). t ≤ r.want) xs) (sym (asked-parts ds n f e))
+    (All-append P (fetches_asked ds f e) (data_of ds n f e) fetches others)
+
+ahead-late : (ds : List ℕ) (n t k : ℕ) (i : Option ℕ) (s : Machine) (f : Front) → t ≤ f.p → All (λ (r : Read). t ≤ r.want) (asked_ahead ds n k i s f)
+unfolding asked_ahead after row
+ahead-late ds n t zero i s f late = All-nil (λ (r : Read). t ≤ r.want)
+ahead-late ds n t (suc k) i s f late =
+    let e = entry i s in
+    All-append (λ (r : Read). t ≤ r.want) (asked ds n f e) (asked_ahead ds n k None (guess i s) (after ds n f e)) (asked-late ds n t f e late)
+    (ahead-late ds n t k None (guess i s) (after ds n f e) (omega (arith, late, prepared-behind ds n f e)))
+
+behind-late : (ds : List ℕ) (n t k : ℕ) (i : Option ℕ) (s : Machine) (f : Front) → t ≤ (row ds n f (entry i s)).p
+    → All (λ (r : Read). t ≤ r.want) (asked_ahead ds n k None (guess i s) (after ds n f (entry i s)))
+unfolding after row
+behind-late ds n t k i s f late = ahead-late ds n t k None (guess i s) (after ds n f (entry i s)) late
+
+-- those of entries behind the first one that is not prepared before the tick change nothing of what is made before it
+ahead-made : (ds : List ℕ) (n t k : ℕ) (i : Option ℕ) (s : Machine) (f : Front) (front : List Read) (b : Bus)
+    → made_before ds t (front ++ reads_before ds n t (ahead ds n k i s f)) b ≡ made_before ds t (front ++ asked_ahead ds n k i s f) b
+unfolding ahead reads_before asked_ahead
+ahead-made ds n t zero i s f front b = refl
+ahead-made ds n t (suc k) i s f front b = by (nat_lt (row ds n f (entry i s)).p t) refl (ahead-made ds n t k None (guess i s) (after ds n f (entry i s)) (front ++ asked ds n f (entry i s)) b)
+  where
+    by : (early : Bool) → nat_lt (row ds n f (entry i s)).p t ≡ early
+        → made_before ds t ((front ++ asked ds n f (entry i s)) ++ reads_before ds n t (ahead ds n k None (guess i s) (after ds n f (entry i s)))) b
+        ≡ made_before ds t ((front ++ asked ds n f (entry i s)) ++ asked_ahead ds n k None (guess i s) (after ds n f (entry i s))) b
+        → made_before ds t (front ++ (asked ds n f (entry i s)
+        ++ (if early then reads_before ds n t (ahead ds n k None (guess i s) (after ds n f (entry i s))) else []))) b
+        ≡ made_before ds t (front ++ (asked ds n f (entry i s) ++ asked_ahead ds n k None (guess i s) (after ds n f (entry i s)))) b
+    by true is rest =
+        ap (λ xs. made_before ds t xs b) (sym (append_assoc front (asked ds n f (entry i s)) (reads_before ds n t (ahead ds n k None (guess i s) (after ds n f (entry i s))))))
+        ∙ rest
+        ∙ ap (λ xs. made_before ds t xs b) (append_assoc front (asked ds n f (entry i s)) (asked_ahead ds n k None (guess i s) (after ds n f (entry i s))))
+    by false is rest =
+        let more = asked_ahead ds n k None (guess i s) (after ds n f (entry i s)) in
+        let late : t ≤ (row ds n f (entry i s)).p = ltb-false (row ds n f (entry i s)).p t is in
+        ap (λ xs. made_before ds t (front ++ xs) b) (append-nil (asked ds n f (entry i s)))
+        ∙ sym (made-more ds t (front ++ asked ds n f (entry i s)) more b (behind-late ds n t k i s f late))
+        ∙ ap (λ xs. made_before ds t xs b) (append_assoc front (asked ds n f (entry i s)) more)
+
+-- ---- the banks where an entry is done
+
+banks-first : (ds : List ℕ) (n : ℕ) (o : Opening) (xs : List Outside) (j : ℕ)
+    → banks_behind ds n o xs (suc j) ≡ (made_before ds (front_after ds n o xs (suc j)).c (reads_of_segment ds n o xs j) o.front.bus).banks
+unfolding banks_behind reads_of_segment reads_after front_after after row
+banks-first ds n o xs j =
+    let s = state_after o xs j in
+    let t = table_behind j o.table in
+    let f = front_after ds n o xs j in
+    let e = entry t s in
+    let c = (row ds n f e).c in
+    let first = reads_after ds n o xs j in
+    let more = asked_ahead ds n (suc n) None (guess t s) (after ds n f e) in
+    ap (λ (ys : List Read). (made_before ds c ys o.front.bus).banks)
+    (sym (append_assoc first (asked ds n f e) (reads_before ds n c (ahead ds n (suc n) None (guess t s) (after ds n f e)))))
+    ∙ ap (λ (b : Bus). b.banks) (ahead-made ds n c (suc n) None (guess t s) (after ds n f e) (first ++ asked ds n f e) o.front.bus)
+
+pub have-first : (m : Overlap) (made since j : ℕ) (o : Opening) (xs : List Outside) → IsReached m made since → StandsAt o xs (suc j) m → m.ended ≡ false
+    → IfSome m.closing (λ banks. (first : List Read) × AreFirst m.delays m.now (reads_of_segment m.delays m.levels o xs j) o.front.bus first
+    × (banks ≡ (served m.delays first o.front.bus).banks))
+have-first m made since j o xs from is going = by m.closing refl (is.banks going)
+  where
+    by : (c : Option LastAnswers) → m.closing ≡ c → IfSome c (λ b. b ≡ banks_behind m.delays m.levels o xs (suc j))
+        → IfSome c (λ banks. (first : List Read) × AreFirst m.delays m.now (reads_of_segment m.delays m.levels o xs j) o.front.bus first
+        × (banks ≡ (served m.delays first o.front.bus).banks))
+    by None none same = tt
+    by (Some banks) some same =
+        let fresh = fresh-of m (kept from) (rw some refl) in
+        let at : (front_after m.delays m.levels o xs (suc j)).c ≡ m.now = ap (λ (f : Front). f.c) (sym is.front) ∙ fresh.last going in
+        let parts = split m.delays m.now (reads_of_segment m.delays m.levels o xs j) o.front.bus in (
+          parts.first,
+          parts.are,
+          same ∙ banks-first m.delays m.levels o xs j
+              ∙ ap (λ (k : ℕ). (made_before m.delays k (reads_of_segment m.delays m.levels o xs j) o.front.bus).banks) at
+              ∙ ap (λ (b : Bus). b.banks) parts.made,
+        )
