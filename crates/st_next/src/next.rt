@@ -227,7 +227,7 @@ impl Next {
     /// word that an entry writes which is done at the tick `due` or later, and at one that waits for the entry before until then, and goes on behind that
     /// word when it is called again. The result says whether it is planned. Whatever the state before it is, what is known of it stays so; where it is not
     /// planned, nothing more of it can be known before that tick.
-    #[inline(never)]
+    #[inline(always)]
     pub fn plan_before(
         &mut self,
         due: u64,

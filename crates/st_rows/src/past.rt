@@ -85,8 +85,7 @@ impl LastEntries {
         self.entries[self.head] = newest;
         let writes = self.entries[self.head].writes.any();
         self.writers = self.writers % 128 * 2 + u64::from(writes);
-        let bounds = widened(self.bounds, newest.writes.one);
-        self.bounds = widened(bounds, newest.writes.two);
+        self.bounds = widened(self.bounds, newest.writes);
     }
 
     /// The tick at which the entry `n` before is done, 1 to 8; 0 where there was no such entry.
@@ -136,10 +135,24 @@ fn lies_outside(bounds: Bounds, w: u32) -> bool
     word < bounds.low || word >= bounds.high
 }
 
-// The bounds with the words of a run, but for its registers, for which no read is made.
+// The bounds with the words of two runs, but for registers, for which no read is made. Most entries write no word, so that this is tested first.
 #[tactic(auto, unfolding(crate::specs::Entries::is_in))]
 #[inline(always)]
-fn widened(bounds: Bounds, run: Run) -> Bounds
+fn widened(bounds: Bounds, runs: Runs) -> Bounds
+    ensures { (w : ℕ) → 32 ≤ w → is_outside result.low result.high w ≡ true →
+        (is_in w runs.one ≡ false) × (is_in w runs.two ≡ false) × (is_outside bounds.low bounds.high w ≡ true) }
+{
+    if runs.one.len == 0 && runs.two.len == 0 {
+        return bounds;
+    }
+    let one = widened_by(bounds, runs.one);
+    widened_by(one, runs.two)
+}
+
+// The bounds with the words of a run.
+#[tactic(auto, unfolding(crate::specs::Entries::is_in))]
+#[inline(always)]
+fn widened_by(bounds: Bounds, run: Run) -> Bounds
     ensures { (w : ℕ) → 32 ≤ w → is_outside result.low result.high w ≡ true →
         (is_in w run ≡ false) × (is_outside bounds.low bounds.high w ≡ true) }
 {

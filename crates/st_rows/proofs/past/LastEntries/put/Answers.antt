@@ -21,10 +21,9 @@ invariant_of-self c =
           rw (c.from.ensures, bit-is c.any-writes.result, kept, is.writers, window-put q.head q.entries c.args.newest is.inside is.whole)
           (bits-shifted c.args.newest (window q.head 8 q.entries) (length-window 8 q.head 8 q.entries is.inside (omega arith) is.whole));
       bounds = λ w above out.
-          let two = c.widened-self-inside.ensures w above out in
-          let one = c.widened-bounds.ensures w above two.1 in
+          let all = c.widened-self-inside.ensures w above out in
           rw (window-put q.head q.entries c.args.newest is.inside is.whole)
-          (unwritten-put w c.args.newest (window q.head 8 q.entries) one.0 two.0 (is.bounds w above one.1));
+          (unwritten-put w c.args.newest (window q.head 8 q.entries) all.0 all.1 (is.bounds w above all.2));
     }
 
 pub returns : goal.returns
