@@ -7,10 +7,19 @@ use Rattle.st_ahead.specs.RunTo.{after_ticks, ArePassed, RunsTo}
 use Rattle.st_ahead.specs.declared.events.Row.{Row}
 use Rattle.st_ahead.proofs.Passing.{ticked-owed, passed-keeps, passed-now}
 use Rattle.st_refine.specs.Reached.{IsReached, MayTick, Ticks, Settles}
-use Rattle.st_refine.specs.Laws.{IsLedTo, RunsAreReached, BanksHaveTheFirstReads}
-use Rattle.st_refine.proofs.Kept.{made-settled}
-use Rattle.st_refine.proofs.InTime.{made-ticks}
+use Rattle.st_refine.specs.Laws.{IsLedTo, RunsAreReached, BanksHaveTheFirstReads, CompletionsComeInTime, LevelsAreLent, OpeningsAreKept, OpeningsFollow, RowsTellTheLevels, CompletionsAreSteps, LevelsAreUnwound, TheStateIsSplit, SignalsLeaveLevels}
+use Rattle.st_refine.proofs.Kept.{made-settled, kept}
+use Rattle.st_refine.proofs.InTime.{made-ticks, in-time, all-in_time, settled-state, levels-few}
 use Rattle.st_refine.proofs.ReadLemmas.{have-first}
+use Rattle.st_refine.proofs.LentLemmas.{ring-count, ring-level, ring-word, ring-slot, ring-undone, index-shown}
+use Rattle.st_refine.specs.Openings.{Signalled, ReadIn, PrintedOut}
+use Rattle.st_refine.proofs.OpeningLemmas.{stands-started, stands-ticked, stands-goes, stands-changed, stands-ended, ended-again, stands-interrupt, stands-missed, waits-ended, stands-card}
+use Rattle.st_refine.proofs.RowLemmas.{rows-done, levels-ahead, levels-told, next-told}
+use Rattle.st_refine.proofs.RefinedLemmas.{table-is, tick-state, tick-oldest, tick-row, tick-times, tick-missed, tick-passed, goes-more, interrupt-unwinds, missed-unwinds, waits-unwinds, stop-unwinds, card-unwinds, start-unwound}
+use Rattle.st_refine.proofs.SplitLemmas.{shown-done, shown-tick, shown-index, shown-none, shown-eight, shown-level, shown-behind, seen-settled, seen-missed, seen-ended}
+use Rattle.st_exec.specs.Transfer.{read_in, printed_out}
+use Rattle.st_exec.proofs.BesideEntries.{beside-printed, beside-no_card}
+use Rattle.st_refine.proofs.StillLemmas.{still-done, still-signalled}
 
 -- where no settle is owed
 record IsLedOn (made k : ℕ) (m new : Overlap) : Type 0 where
@@ -75,3 +84,105 @@ runs_are_reached = record {
 
 pub banks_have_the_first_reads : BanksHaveTheFirstReads
 banks_have_the_first_reads m made since j o changes from is going = have-first m made since j o changes from is going
+
+pub completions_come_in_time : CompletionsComeInTime
+completions_come_in_time = record {
+  since = in-time;
+  all = all-in_time;
+}
+
+pub levels_are_lent : LevelsAreLent
+levels_are_lent = record {
+  count = ring-count;
+  prepared = λ m ring level k are there.
+      let is = ring-level m ring level k are there in
+      (is.prepared, is.p);
+  words = ring-word;
+  slots = λ m ring level k slot are there free few two. ring-slot m ring level k slot are there two free few;
+  index = index-shown;
+  undone = ring-undone;
+}
+
+pub openings_are_kept : OpeningsAreKept
+openings_are_kept = record {
+  start = stands-started;
+  tick = stands-ticked;
+  goes = stands-goes;
+  signal = λ m i j o xs is. stands-changed m (Signalled i) j o xs is;
+  unread = λ m w j o xs is. stands-changed m (ReadIn w None) j o xs is;
+  print = λ m j o xs is. stands-changed m PrintedOut j o xs is;
+}
+
+pub openings_follow : OpeningsFollow
+openings_follow = record {
+  end = stands-ended;
+  again = ended-again;
+  interrupt = λ m made since i d ic k o xs from owed is stands. stands-interrupt m i d ic k o xs is stands;
+  missed = λ m made since k o xs from owed is stands. stands-missed m k o xs owed is stands;
+  waits = waits-ended;
+  card = stands-card;
+}
+
+pub rows_tell_the_levels : RowsTellTheLevels
+rows_tell_the_levels = record {
+  done = rows-done;
+  ahead = levels-ahead;
+  levels = levels-told;
+  next = next-told;
+}
+
+pub completions_are_steps : CompletionsAreSteps
+completions_are_steps = record {
+  table = table-is;
+  state = λ m made since row from may is. tick-state m made since from may is.0;
+  oldest = λ m made since row from may is. tick-oldest m made since from may is.0;
+  row = λ m made since row from may is.
+      let told = tick-row m made since from may is.0 in (
+        ap (λ (r : Row). r.number) is.1 ∙ told.0,
+        ap (λ (r : Row). r.address) is.1 ∙ told.1,
+        ap (λ (r : Row). r.c) is.1 ∙ told.2,
+      );
+  times = λ m row is.
+      let told = tick-times m is.0 in (
+        ap (λ (r : Row). r.p) is.1 ∙ told.0,
+        ap (λ (r : Row). r.r) is.1 ∙ told.1,
+        ap (λ (r : Row). r.c) is.1 ∙ told.2,
+      );
+  missed = λ m row is. tick-missed m is.0;
+  passed = λ m is. tick-passed m is;
+}
+
+pub levels_are_unwound : LevelsAreUnwound
+levels_are_unwound = record {
+  settle = settled-state;
+  goes = goes-more;
+  interrupt = interrupt-unwinds;
+  missed = missed-unwinds;
+  waits = waits-unwinds;
+  stop = stop-unwinds;
+  card = card-unwinds;
+  start = start-unwound;
+}
+
+pub the_state_is_split : TheStateIsSplit
+the_state_is_split = record {
+  done = shown-done;
+  tick = shown-tick;
+  index = shown-index;
+  none = shown-none;
+  few = λ m made since from. (levels-few m, (kept from).few);
+  eight = shown-eight;
+  level = shown-level;
+  behind = shown-behind;
+  state = seen-settled;
+  missed = seen-missed;
+  ended = seen-ended;
+}
+
+pub signals_leave_levels : SignalsLeaveLevels
+signals_leave_levels = record {
+  signal = still-signalled;
+  unread = λ m made since w from may.
+      (refl, still-done m (read_in m.state w None) (kept from) may.1 (beside-no_card m.state w));
+  print = λ m made since from may. still-done m (printed_out m.state) (kept from) may.1 (beside-printed m.state);
+}
