@@ -9,3 +9,4 @@ mod undoing;
 pub use back::Back;
 pub use kept::Kept;
 pub use laws::{back_undoes_forth, backs_give_the_states_before, undoing_passes_registers_over};
+pub use undoing::{keep, undo};
