@@ -6,5 +6,6 @@ pub mod BorderLemmas
 pub mod EntryLemmas
 pub mod ProgramLemmas
 pub mod LoopLemmas
+pub mod TurnLemmas
 pub mod LedgerLemmas
 pub mod Stages

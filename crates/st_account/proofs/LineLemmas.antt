@@ -1,5 +1,5 @@
 -- Lines that are written one after another.
-use Rattle.std.specs.Prelude.{Bool, if◌then◌else◌, nat_eq, Result, Ok, Err, IsErr, codes, decimal}
+use Rattle.std.specs.Prelude.{Bool, if◌then◌else◌, nat_eq, Result, Ok, Err, IsErr, IfOk, codes, decimal}
 use Rattle.std.proofs.Common.{◌≡◌, ◌≢◌, ℕ, zero, suc, ◌+◌, ◌-◌, ◌≤◌, ◌<◌, inl, inr, min, true, false, List, [], ◌∷◌, ◌++◌, length, take, drop, refl, sym, ◌∙◌, ap, subst, append_assoc, arith}
 use Rattle.std.proofs.lemmas.Bool.Decides.{leb_tells, nat_tests}
 use Rattle.std.proofs.lemmas.List.{take_min, append-nil, length-drop}
@@ -158,3 +158,8 @@ cut_without s u xs e (Err x) f h = record { ok = tt; err = h.err }
 pub made_without : {X : Type 0} (s u : OutputState) (xs : List (List ℕ)) (o : Unit {0}) (x : X) → WritesLines s u xs (Ok o)
     → WritesLines s u xs (without {E = Failed} (Ok x))
 made_without s u xs o x h = record { ok = h.ok; err = tt }
+
+-- an answer that gives nothing
+pub no_number : (P : ℕ → Type 0) (r : Result ℕ Failed) → IsErr r → IfOk r P
+no_number P (Ok x) f = absurd (cc)
+no_number P (Err x) f = tt

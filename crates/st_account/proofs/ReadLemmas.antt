@@ -211,3 +211,22 @@ module _ (ds : List ℕ) (are : AreDelays 255 ds) (n t : ℕ) (s : Machine) (m :
         subst (All (λ x. x ≤ t + 255)) (sym made)
         (All-weaker (λ x. x ≤ (made_before ds t all_reads start).free + 255) (λ x. x ≤ t + 255) (λ x low. omega (arith, low, bounds.1))
         (made_before ds t all_reads start).banks.ticks bounds.0.banks)
+
+-- the same of a state and a front that are others' equals
+module _ (ds : List ℕ) (are : AreDelays 255 ds) (n t : ℕ) (s u : Machine) (f g : Front) (m : IsMachine u) (tight : IsTight 255 f) (state : u ≡ s) (front : g ≡ f)
+    (reads : List Read) (start : Bus) (log new : List Made) (bus : Bus) (banks : LastAnswers) (has : HasReads ds t reads start f.bus log)
+    (logs : new ≡ noted ds (looked ds n t (ahead ds n (suc n) None u g)) g.bus log)
+    (serves : bus ≡ served ds (looked ds n t (ahead ds n (suc n) None u g)) g.bus) (is : banks.ticks ≡ undone t new bus.banks.ticks) where
+  logs_at : new ≡ noted ds (looked ds n t (ahead ds n (suc n) None u f)) f.bus log
+  logs_at = logs ∙ ap (λ (h : Front). noted ds (looked ds n t (ahead ds n (suc n) None u h)) h.bus log) front
+
+  serves_at : bus ≡ served ds (looked ds n t (ahead ds n (suc n) None u f)) f.bus
+  serves_at = serves ∙ ap (λ (h : Front). served ds (looked ds n t (ahead ds n (suc n) None u h)) h.bus) front
+
+  pub banks-behind : banks ≡ (made_before ds t (reads ++ reads_before ds n t (ahead ds n (suc n) None s f)) start).banks
+  banks-behind =
+      banks-left ds are n t u m f tight reads start log has new bus banks logs_at serves_at is
+      ∙ ap (λ (v : Machine). (made_before ds t (reads ++ reads_before ds n t (ahead ds n (suc n) None v f)) start).banks) state
+
+  pub soon-behind : All (λ x. x ≤ t + 255) banks.ticks
+  soon-behind = banks-soon ds are n t u m f tight reads start log has new bus banks logs_at serves_at is

@@ -6,7 +6,6 @@ ghost use Rattle.st_rows.specs.Ranges.{IsTight};
 ghost use Rattle.st_rows.specs.Rows.{opening};
 ghost use Rattle.st_segment.specs.Ahead.{ahead, prepared_before, reads_before};
 ghost use Rattle.st_rows.specs.declared.bus.Bus.{Bus as BusOf};
-ghost use Rattle.st_state.specs.Machine.{IsMachine};
 ghost use Rattle.st_plain.specs.Looking.{seen_of};
 ghost use Rattle.st_account.specs.Standing.{guessing, HasReads};
 
@@ -94,11 +93,11 @@ pub(crate) fn look_behind(
     ensures found { found.new.items ≡ map seen_of (prepared_before last.now.tick
         (ahead delays.now levels levels None (guessing last.now.ic state.old) last.now.front)) }
     ensures banks { (reads : List Read) (bus : BusOf) → HasReads delays.now last.now.tick reads bus last.now.front.bus log.old →
-        IsMachine state.old → result ≡ (made_before delays.now last.now.tick
+        result ≡ (made_before delays.now last.now.tick
         (reads ++ reads_before delays.now levels last.now.tick
         (ahead delays.now levels (suc levels) None (guessing last.now.ic state.old) last.now.front)) bus).banks }
     ensures soon { (reads : List Read) (bus : BusOf) → HasReads delays.now last.now.tick reads bus last.now.front.bus log.old →
-        IsMachine state.old → All (λ t. t ≤ last.now.tick + 255) result.ticks }
+        All (λ t. t ≤ last.now.tick + 255) result.ticks }
     ensures few { length found.new.items ≤ 8 }
 {
     delays.shape();
@@ -106,6 +105,7 @@ pub(crate) fn look_behind(
     let tick = last.tick;
     let mut front = front_of(last);
     state.ic = last.ic;
+    state.shape();
     look(
         state,
         &mut front,
@@ -145,11 +145,11 @@ pub(crate) fn look_if(
         (ahead delays.now levels levels None (guessing last.now.ic state.old) last.now.front)) }
     ensures banks { (reads : List Read) (bus : BusOf) → looks ≡ true →
         HasReads delays.now last.now.tick reads bus last.now.front.bus log.old →
-        IsMachine state.old → result ≡ (made_before delays.now last.now.tick
+        result ≡ (made_before delays.now last.now.tick
         (reads ++ reads_before delays.now levels last.now.tick
         (ahead delays.now levels (suc levels) None (guessing last.now.ic state.old) last.now.front)) bus).banks }
     ensures soon { (reads : List Read) (bus : BusOf) → HasReads delays.now last.now.tick reads bus last.now.front.bus log.old →
-        IsMachine state.old → All (λ t. t ≤ last.now.tick + 255) result.ticks }
+        All (λ t. t ≤ last.now.tick + 255) result.ticks }
     ensures few { length found.new.items ≤ 8 }
 {
     if !looks {

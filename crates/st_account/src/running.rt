@@ -164,6 +164,15 @@ fn execute(state: &mut State, taken: Option<u8>, p: &Prepared, last: &mut Last)
     last.ic = guessed_counter(p, state);
 }
 
+// The counter of a state.
+fn counter_of(state: &State) -> u32
+    ensures value { result ≡ state.now.ic }
+    ensures below { result < 2 ^ 19 }
+{
+    state.shape();
+    state.ic
+}
+
 // The number of the next row.
 fn row_number(state: &State) -> u32
     requires { state.now.done ≤ MOST_INSTRUCTIONS }
@@ -251,20 +260,24 @@ fn write_crossing<K: Sink>(
     ensures bound { last.new.front.c ≤ last.new.tick + 9 }
 {
     let taken = interrupt(state);
-    let ends = is_end(last.missed, card, waited, taken);
+    let missed = last.missed;
+    let tick = last.tick;
+    let ends = is_end(missed, card, waited, taken);
     open_if(ends, last, banks, found.len() as u64);
+    let begins = either(k == 0, ends);
+    let why = why_of(k == 0, taken, missed);
     let border = Border {
         ends,
-        begins: either(k == 0, ends),
+        begins,
         k,
-        tick: last.tick,
+        tick,
         n: row_number(state),
         start: last.front.c,
         waited,
-        why: why_of(k == 0, taken, last.missed),
+        why,
     };
     write_border(out, border, found.as_slice())?;
-    Ok(next_number(border.begins, k))
+    Ok(next_number(begins, k))
 }
 
 // Writes the lines of the end of a run.
@@ -309,7 +322,7 @@ fn write_run<K: Sink>(
 {
     state.shape();
     delays.shape();
-    let mut last = at_start(state.ic);
+    let mut last = at_start(counter_of(state));
     let mut rest = signals;
     let mut log = Log::new();
     let mut k = 0;

@@ -147,21 +147,25 @@ get-take (suc n) j d [] few = refl
 get-take (suc n) zero d (x ∷ xs) few = refl
 get-take (suc n) (suc j) d (x ∷ xs) few = get-take n j d xs (omega (arith, few))
 
+done-at : (i : ℕ) (past : List Past) → done_before (suc i) past ≡ (get_or past i (record { c = 0; writes = no_words })).c
+done-at i past = let e : suc i - 1 ≡ i = omega arith in rw e refl
+
 pub first-next : (ds : List ℕ) (n levels more t : ℕ) (f g : Front) (e : Entry) → levels ≤ 8 → 1 ≤ more → more ≤ levels → t ≤ f.c → f.c < g.c
     → (more < levels → t ≤ done_before (levels - more) f.past) → g ≡ after ds n f e → more - 1 < levels → t ≤ done_before (levels - (more - 1)) g.past
 unfolding after
-first-next ds n levels more t f g e eight some few late later first behind less = by_place (levels - more) refl
+first-next ds n levels more t f g e eight some few early rises first behind less = by_place (levels - more) refl
   where
     by_place : (j : ℕ) → levels - more ≡ j → t ≤ done_before (levels - (more - 1)) g.past
     by_place zero is =
         let one : levels - (more - 1) ≡ 1 = omega (arith, some, few, is) in
         let c : g.c ≡ (after ds n f e).c = ap (λ (h : Front). h.c) behind in
-        rw (one, behind) (omega (arith, late, later, c))
+        rw (one, behind) (omega (arith, early, rises, c))
     by_place (suc j) is =
         let two : levels - (more - 1) ≡ suc (suc j) = omega (arith, some, few, is) in
         let known : t ≤ done_before (suc j) f.past = subst (λ i. t ≤ done_before i f.past) is (first (omega (arith, is))) in
-        rw (two, behind)
-        (subst (λ (x : Past). t ≤ x.c) (sym (get-take 7 j (record { c = 0; writes = no_words }) f.past (omega (arith, eight, is, some)))) known)
+        let there : t ≤ (get_or f.past j (record { c = 0; writes = no_words })).c = subst (λ v. t ≤ v) (done-at j f.past) known in
+        rw (two, behind, done-at (suc j) (after ds n f e).past)
+        (subst (λ (x : Past). t ≤ x.c) (sym (get-take 7 j (record { c = 0; writes = no_words }) f.past (omega (arith, eight, is, some)))) there)
 
 -- the one behind the last level is too late
 pub last-late : (ds : List ℕ) (n more t : ℕ) (f : Front) (e : Entry) → more ≡ 0 → 1 ≤ n → (more < n → t ≤ done_before (n - more) f.past) → t ≤ tick_p ds n f e
