@@ -148,7 +148,7 @@ get-take (suc n) zero d (x ∷ xs) few = refl
 get-take (suc n) (suc j) d (x ∷ xs) few = get-take n j d xs (omega (arith, few))
 
 done-at : (i : ℕ) (past : List Past) → done_before (suc i) past ≡ (get_or past i (record { c = 0; writes = no_words })).c
-done-at i past = let e : suc i - 1 ≡ i = omega arith in rw e refl
+done-at i past = let e : suc i - 1 ≡ i = omega arith in ap (λ j. (get_or past j (record { c = 0; writes = no_words })).c) e
 
 pub first-next : (ds : List ℕ) (n levels more t : ℕ) (f g : Front) (e : Entry) → levels ≤ 8 → 1 ≤ more → more ≤ levels → t ≤ f.c → f.c < g.c
     → (more < levels → t ≤ done_before (levels - more) f.past) → g ≡ after ds n f e → more - 1 < levels → t ≤ done_before (levels - (more - 1)) g.past
@@ -164,8 +164,10 @@ first-next ds n levels more t f g e eight some few early rises first behind less
         let two : levels - (more - 1) ≡ suc (suc j) = omega (arith, some, few, is) in
         let known : t ≤ done_before (suc j) f.past = subst (λ i. t ≤ done_before i f.past) is (first (omega (arith, is))) in
         let there : t ≤ (get_or f.past j (record { c = 0; writes = no_words })).c = subst (λ v. t ≤ v) (done-at j f.past) known in
-        rw (two, behind, done-at (suc j) (after ds n f e).past)
-        (subst (λ (x : Past). t ≤ x.c) (sym (get-take 7 j (record { c = 0; writes = no_words }) f.past (omega (arith, eight, is, some)))) there)
+        let kept : t ≤ (get_or (after ds n f e).past (suc j) (record { c = 0; writes = no_words })).c =
+        subst (λ (x : Past). t ≤ x.c) (sym (get-take 7 j (record { c = 0; writes = no_words }) f.past (omega (arith, eight, is, some)))) there in
+        let at : t ≤ done_before (suc (suc j)) (after ds n f e).past = subst (λ v. t ≤ v) (sym (done-at (suc j) (after ds n f e).past)) kept in
+        subst (λ i. t ≤ done_before i g.past) (sym two) (subst (λ (h : Front). t ≤ done_before (suc (suc j)) h.past) (sym behind) at)
 
 -- the one behind the last level is too late
 pub last-late : (ds : List ℕ) (n more t : ℕ) (f : Front) (e : Entry) → more ≡ 0 → 1 ≤ n → (more < n → t ≤ done_before (n - more) f.past) → t ≤ tick_p ds n f e

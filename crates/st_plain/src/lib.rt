@@ -7,5 +7,5 @@ mod looking;
 mod rows;
 
 pub use entries::entry;
-pub use looking::{Ahead, Aheads, guess, look};
-pub use rows::{Begun, begin, finish, next_row};
+pub use looking::{Ahead, Aheads, look};
+pub use rows::next_row;

@@ -6,6 +6,7 @@ use Rattle.st_prep.specs.Plan.{plan}
 use Rattle.st_prep.specs.declared.entries.Prepared.{Prepared}
 use Rattle.st_rows.specs.Asked.{formed_asked, asked}
 use Rattle.st_rows.specs.Notes.{noted}
+use Rattle.st_rows.specs.Ranges.{IsEntry}
 use Rattle.st_rows.specs.Rows.{row, after, bus_a, tick_p}
 use Rattle.st_rows.specs.declared.entry.Entry.{Entry}
 use Rattle.st_rows.specs.declared.front.Front.{Front}
@@ -82,7 +83,7 @@ look-requires t c =
     (omega (arith, c.begin-begun.ensures.tick, c.if-begun-tick.false)) in
     let done = ap (λ (s : Machine). s.done) c.guess.ensures ∙ guess-done c.plan-p.result c.args.state.now in
     let more = ap length c.push.ensures.items ∙ length_push c.args.found.now.items _ in
-    let range = rw c.entry-e.ensures (entry-ranges None c.args.state.now c.shape-2.ensures tt) in
+    let range : IsEntry e = rw c.entry-e.ensures (entry-ranges None c.args.state.now c.shape-2.ensures tt) in
     let rises : f.c < c.finish-row.new.front.c =
     omega (
       arith,
