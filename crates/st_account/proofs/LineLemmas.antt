@@ -1,5 +1,5 @@
 -- Lines that are written one after another.
-use Rattle.std.specs.Prelude.{Bool, if◌then◌else◌, nat_eq, Result, Ok, Err, IsErr, IfOk, codes, decimal}
+use Rattle.std.specs.Prelude.{Bool, if◌then◌else◌, nat_eq, Result, Ok, Err, IsErr, IsOk, IfOk, codes, decimal}
 use Rattle.std.proofs.Common.{◌≡◌, ◌≢◌, ℕ, zero, suc, ◌+◌, ◌-◌, ◌≤◌, ◌<◌, inl, inr, min, true, false, List, [], ◌∷◌, ◌++◌, length, take, drop, refl, sym, ◌∙◌, ap, subst, append_assoc, arith}
 use Rattle.std.proofs.lemmas.Bool.Decides.{leb_tells, nat_tests}
 use Rattle.std.proofs.lemmas.List.{take_min, append-nil, length-drop}
@@ -163,3 +163,11 @@ made_without s u xs o x h = record { ok = h.ok; err = tt }
 pub no_number : (P : ℕ → Type 0) (r : Result ℕ Failed) → IsErr r → IfOk r P
 no_number P (Ok x) f = absurd (cc)
 no_number P (Err x) f = tt
+
+not_both-by : {A : Type 0} (r : Result (Unit {0}) Failed) → IsErr r → IsOk r → A
+not_both-by (Ok x) f g = absurd (cc)
+not_both-by (Err x) f g = absurd g
+
+-- no answer is both
+pub not_both : {A : Type 0} (r : Result (Unit {0}) Failed) → IsErr r → IsOk r → A
+not_both r f g = not_both-by r f g

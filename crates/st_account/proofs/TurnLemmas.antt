@@ -102,7 +102,11 @@ module _ (s t : OutputState) (all : List (List ℕ)) (ds : List ℕ) (n : ℕ) (
 
   -- ---- what comes is over
 
-  module _ (state' : Machine) (rest' : List Signal) (cards' : List (List ℕ)) (came : (interlude (at_hand state rest cards)).scene ≡ at_hand state' rest' cards') where
+  module _ (state' : Machine) (rest' : List Signal) (cards' : List (List ℕ)) (mid : Machine) (same : mid ≡ state)
+      (after : (interlude (at_hand mid rest cards)).scene ≡ at_hand state' rest' cards') where
+    came : (interlude (at_hand state rest cards)).scene ≡ at_hand state' rest' cards'
+    came = ap (λ u. (interlude (at_hand u rest cards)).scene) (sym same) ∙ after
+
     pub done-is : state'.done ≡ state.done
     done-is = same-done h.m state state' rest rest' cards cards' h.scene came
 
@@ -143,11 +147,12 @@ module _ (s t : OutputState) (all : List (List ℕ)) (ds : List ℕ) (n : ℕ) (
           → (looks ≡ true → found ≡ map seen_of (prepared_before last.tick (ahead ds n n None (guessing last.ic state) last.front)))
           → (looks ≡ true → banks ≡ (made_before ds last.tick
           (h.hand.reads ++ reads_before ds n last.tick (ahead ds n (suc n) None (guessing last.ic state) last.front)) h.hand.bus).banks)
-          → card ≡ nat_lt (length cards') (length cards) → waited ≡ rests (with_due_orders (with_due_signals state rest cards)).scene.machine
+          → card ≡ nat_lt (length cards') (length cards) → waited ≡ rests (with_due_orders (with_due_signals mid rest cards)).scene.machine
           → IsBehind h.m state' last found banks card waited
       behind found banks card waited still looks is_still is_looks seen held is_card is_waited =
           behind-is h.m state state' rest rest' cards cards' h.scene came ds n last log found banks card waited looks h.hand seen held
-          (end-looks left state rest cards h.m last.missed still looks h.scene h.hand.missed is_still is_looks) is_card is_waited
+          (end-looks left state rest cards h.m last.missed still looks h.scene h.hand.missed is_still is_looks) is_card
+          (is_waited ∙ ap (λ u. rests (with_due_orders (with_due_signals u rest cards)).scene.machine) same)
 
       pub crossing-fails : (u : OutputState) (e : Failed) (r : Result (Unit {0}) Failed) → IsErr r → WritesLines t u (segment_lines k h.m) (Err e) → WritesLines s u all r
       crossing-fails u e r f w = border-fails ds n left k h.m s t all h.so_far some on u e r f w

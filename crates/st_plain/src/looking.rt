@@ -9,12 +9,12 @@ ghost use Rattle.st_rows.specs.Rows.{done_before};
 ghost use Rattle.st_segment.specs.Ahead.{ahead as ahead_of, prepared_before};
 ghost use Rattle.st_plain.specs.Looking.{seen_of, looked};
 
+use crate::entries::entry;
 use crate::rows::{begin, finish};
 use arrayvec::ArrayVec;
 use st_back::{keep, undo};
 use st_banks::Delays;
 use st_exec::complete_in;
-use crate::entries::entry;
 use st_prep::{Prepared, plan};
 use st_rows::{Front, Log, Row};
 use st_state::State;

@@ -71,13 +71,7 @@ pub struct Begun {
 }
 
 /// Forms the address of the next entry behind a front.
-pub fn begin(
-    front: &Front,
-    delays: &Delays,
-    levels: usize,
-    entry: &Entry,
-    log: &mut Log,
-) -> Begun
+pub fn begin(front: &Front, delays: &Delays, levels: usize, entry: &Entry, log: &mut Log) -> Begun
     requires entry { IsEntry entry.now }
     requires tight { IsTight 255 front.now }
     requires early { front.now.c ≤ 2 ^ 63 + 2 ^ 20 }
