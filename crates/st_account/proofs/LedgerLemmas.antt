@@ -31,7 +31,7 @@ module _ (ds : List ℕ) (n left : ℕ) (c : Scene) (s u : OutputState) (list : 
 
   pub machine-fails : (e : Failed) (r : Result (Unit {0}) Failed) → IsErr r → WritesLines s u (machine_lines list n) (Err e) → WritesLines s u (ledger ds n left c) r
   machine-fails e r f h =
-      whole r (lines_cut s u (machine_lines ds n ++ run_lines) sums e r f (lines_cut s u (machine_lines ds n) run_lines e (Err e) tt (machine u (Err e) h)))
+      whole r (lines_cut s u (machine_lines ds n ++ run_lines) sums e r f (lines_cut s u (machine_lines ds n) run_lines e (Err e) refl (machine u (Err e) h)))
 
   pub run-fails : (v : OutputState) (x : Unit {0}) (e : Failed) (r : Result (Unit {0}) Failed) → IsErr r → WritesLines s v (machine_lines list n) (Ok x)
       → WritesLines v u (lines_from ds n left 0 (start c)) (Err e) → WritesLines s u (ledger ds n left c) r

@@ -166,7 +166,7 @@ no_number P (Err x) f = tt
 
 not_both-by : {A : Type 0} (r : Result (Unit {0}) Failed) → IsErr r → IsOk r → A
 not_both-by (Ok x) f g = absurd (cc)
-not_both-by (Err x) f g = absurd g
+not_both-by (Err x) f g = absurd (cc)
 
 -- no answer is both
 pub not_both : {A : Type 0} (r : Result (Unit {0}) Failed) → IsErr r → IsOk r → A

@@ -24,7 +24,7 @@ module _ (ds : List ℕ) (n left k : ℕ) (m : Moment) (s t : OutputState) (all 
   run-ends u r end h = lines_last s t u all (last_lines k m) r (subst (LinesSoFar s t all) (lines-end ds n left k m end) so_far) h
 
   module _ (some : left ≢ 0) (going : rests (next_state m) ≡ false) where
-    rest : List (List ℕ)
+    abbrev rest : List (List ℕ)
     rest = lines_from ds n (left - 1) (segment_after k m) (next_moment ds n (standing m))
 
     both : LinesSoFar s t all (segment_lines k m ++ (entry_lines ds n (standing m) ++ rest))

@@ -21,7 +21,9 @@ use Rattle.st_segment.specs.Ahead.{ahead, prepared_before, reads_before}
 use Rattle.st_run.specs.Run.{Scene, interlude, with_due_signals, with_due_orders}
 use Rattle.st_run.specs.Scenes.{IsCard, IsScene}
 use Rattle.st_run.specs.Moments.{Moment, Standing, start, unread, next_scene, next_state, next_front, standing, next_moment, ends_segment}
-use Rattle.st_run.proofs.Bounds.{IsMoment, HasTime, start-is, next-is, next-done, next-time}
+use Rattle.st_exec.proofs.StepLemmas.{step-done}
+use Rattle.st_run.proofs.DoneLemmas.{settled-done}
+use Rattle.st_run.proofs.Bounds.{IsMoment, HasTime, start-is, next-is, next-time}
 use Rattle.st_ledger.specs.declared.charges.Stage.{Stage}
 use Rattle.st_ledger.specs.declared.totals.Totals.{Totals}
 use Rattle.st_ledger.specs.Charges.{ticks_for}
@@ -52,6 +54,10 @@ pub record IsRunning (s t : OutputState) (all : List (List ℕ)) (ds : List ℕ)
   pub within : AreWithin last.tick sums
   pub sum : (x : Stage) → sum_at x sums + ticks_for x (all_charges ds n (entries_from ds n left m)) ≡ total x
   pub passes : AllPass is_signal rest
+
+next-done : (ds : List ℕ) (n : ℕ) (m : Moment) → (next_moment ds n (standing m)).scene.machine.done ≡ m.scene.machine.done + 1
+unfolding next_moment
+next-done ds n m = step-done (next_state m) ∙ ap (λ d. d + 1) (settled-done m.scene)
 
 -- ---- the start
 
@@ -174,7 +180,7 @@ module _ (s t : OutputState) (all : List (List ℕ)) (ds : List ℕ) (n : ℕ) (
               → AreWithin last''.tick sums' → AllPass is_signal rest'
               → IsRunning s v all ds n total state'' rest' cards' last'' log' k' (left - 1) sums'
           goes v y k' state'' last'' log' sums' are few number made hand entry added within passes =
-              let more = next-done 255 n ds are few h.m in
+              let more = next-done ds n h.m in
               record {
                 m = next_moment ds n (standing h.m);
                 scene = next-stepped ds n h.m state' state'' rest' cards' (next-scene h.m state state' rest rest' cards cards' h.scene came) made;

@@ -1,4 +1,4 @@
-use Rattle.std.proofs.Common.{◌+◌, length, sym, ◌∙◌, ap, arith}
+use Rattle.std.proofs.Common.{ℕ, ◌+◌, if◌then◌else◌, ◌∙◌, ap}
 use Rattle.st_rows.specs.Rows.{opening}
 use Rattle.st_rows.specs.declared.front.Front.{Front}
 use Rattle.st_account.proofs.LineLemmas.{same_lines, cut_without, made_without, no_number}
@@ -10,7 +10,8 @@ use Rattle.st_account.proofs.running.write_crossing.Goals as goal
 pub returns-in_err-write_border-clause-lines : goal.returns-in_err-write_border-clause-lines
 returns-in_err-write_border-clause-lines g c m is =
     let front = front-is m c.args.state.now c.args.last.now c.args.found.now.items c.args.banks c.args.card c.args.waited is c.interrupt-taken.result c.is_end-ends.result
-    c.interrupt-taken.ensures.value c.is_end-ends.ensures c.open_if.new.last.front c.open_if.ensures.front in
+    c.interrupt-taken.ensures.value c.is_end-ends.ensures c.open_if.new.last.front (c.open_if.ensures.front
+    ∙ ap (λ (d : ℕ). if c.is_end-ends.result then opening c.args.banks (c.args.last.now.tick + 1 + d) else c.args.last.now.front) c.len.ensures) in
     cut_without _ _ _ _ c.from_residual.result c.from_residual.ensures.0
     (same_lines _ _ _ _ _
     (border-lines m c.args.state.now c.args.last.now c.args.found.now.items c.args.banks c.args.card c.args.waited is c.interrupt-taken.result c.is_end-ends.result
@@ -24,14 +25,16 @@ returns-in_err-write_border-clause-number g c m is = no_number _ c.from_residual
 pub returns-in_err-write_border-clause-front : goal.returns-in_err-write_border-clause-front
 returns-in_err-write_border-clause-front g c m is =
     front-is m c.args.state.now c.args.last.now c.args.found.now.items c.args.banks c.args.card c.args.waited is c.interrupt-taken.result c.is_end-ends.result
-    c.interrupt-taken.ensures.value c.is_end-ends.ensures c.open_if.new.last.front c.open_if.ensures.front
+    c.interrupt-taken.ensures.value c.is_end-ends.ensures c.open_if.new.last.front (c.open_if.ensures.front
+    ∙ ap (λ (d : ℕ). if c.is_end-ends.result then opening c.args.banks (c.args.last.now.tick + 1 + d) else c.args.last.now.front) c.len.ensures)
 
 -- none fails
 
 pub returns-clause-lines : goal.returns-clause-lines
 returns-clause-lines g c m is =
     let front = front-is m c.args.state.now c.args.last.now c.args.found.now.items c.args.banks c.args.card c.args.waited is c.interrupt-taken.result c.is_end-ends.result
-    c.interrupt-taken.ensures.value c.is_end-ends.ensures c.open_if.new.last.front c.open_if.ensures.front in
+    c.interrupt-taken.ensures.value c.is_end-ends.ensures c.open_if.new.last.front (c.open_if.ensures.front
+    ∙ ap (λ (d : ℕ). if c.is_end-ends.result then opening c.args.banks (c.args.last.now.tick + 1 + d) else c.args.last.now.front) c.len.ensures) in
     made_without _ _ _ _ _
     (same_lines _ _ _ _ _
     (border-lines m c.args.state.now c.args.last.now c.args.found.now.items c.args.banks c.args.card c.args.waited is c.interrupt-taken.result c.is_end-ends.result
@@ -48,4 +51,5 @@ returns-clause-number g c m is =
 pub returns-clause-front : goal.returns-clause-front
 returns-clause-front g c m is =
     front-is m c.args.state.now c.args.last.now c.args.found.now.items c.args.banks c.args.card c.args.waited is c.interrupt-taken.result c.is_end-ends.result
-    c.interrupt-taken.ensures.value c.is_end-ends.ensures c.open_if.new.last.front c.open_if.ensures.front
+    c.interrupt-taken.ensures.value c.is_end-ends.ensures c.open_if.new.last.front (c.open_if.ensures.front
+    ∙ ap (λ (d : ℕ). if c.is_end-ends.result then opening c.args.banks (c.args.last.now.tick + 1 + d) else c.args.last.now.front) c.len.ensures)

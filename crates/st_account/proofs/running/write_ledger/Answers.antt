@@ -1,3 +1,4 @@
+use Rattle.std.proofs.Common.{refl}
 use Rattle.st_account.specs.Settling.{at_hand}
 use Rattle.st_account.proofs.LedgerLemmas.{machine-fails, run-fails, all-written}
 use Rattle.st_account.proofs.running.write_ledger.Goals as goal
@@ -16,4 +17,4 @@ pub returns : goal.returns
 returns g c =
     all-written c.args.delays.now c.args.levels c.args.budget (at_hand c.args.state.now c.args.signals.now c.args.cards.now) _ _ c.args.list.now c.requires.list
     _ _ _ _ c.write_sums.result c.write_run.new.sums c.in_ok-write_machine.ensures c.in_ok-write_run.ensures.lines
-    (λ stage. c.in_ok-write_run.ensures.sums stage tt) c.write_sums.ensures
+    (λ stage. c.in_ok-write_run.ensures.sums stage refl) c.write_sums.ensures

@@ -2,8 +2,6 @@ use Rattle.std.proofs.Common.{◌≡◌, ◌+◌, ◌≤◌, inl, inr, sym, ◌�
 use Rattle.std.specs.Prelude.{Ok, Err, All}
 use Rattle.st_rows.proofs.Within.{AreDelays-list}
 use Rattle.st_rows.specs.declared.front.Front.{Front}
-use Rattle.st_ledger.specs.Totals.{AreWithin}
-use Rattle.st_account.proofs.LineLemmas.{not_both}
 use Rattle.st_account.proofs.TurnLemmas.{run-starts, tight-is, at-is, few-is, number-is, early-is, done-is, finishes, sums-are, behind, crossing-fails, stands, row-fails, goes}
 use Rattle.st_account.proofs.running.write_run.Goals as goal
 
@@ -48,6 +46,15 @@ write_last-requires-clause-few g c =
       few-is _ _ _ _ _ _ _ _ _ _ _ _ _ _ c.entries.invariant,
     )
 
+pub write_last-requires-then-is_at_rest-clause-few : goal.write_last-requires-then-is_at_rest-clause-few
+write_last-requires-then-is_at_rest-clause-few g c =
+    omega (
+      arith,
+      done-is _ _ _ _ _ _ _ _ _ _ _ _ _ _ c.entries.invariant c.settle-between.new.state _ c.settle-between.new.cards c.look_if-banks.new.state c.look_if-banks.ensures.state
+          c.settle-between.ensures.came,
+      few-is _ _ _ _ _ _ _ _ _ _ _ _ _ _ c.entries.invariant,
+    )
+
 -- ---- the end
 
 pub returns-then-left-eq0-clause-lines : goal.returns-then-left-eq0-clause-lines
@@ -78,48 +85,20 @@ returns-then-is_at_rest-clause-sums g c x good =
 pub write_crossing-requires-clause-few : goal.write_crossing-requires-clause-few
 write_crossing-requires-clause-few g c = omega (arith, done-is _ _ _ _ _ _ _ _ _ _ _ _ _ _ c.entries.invariant c.settle-between.new.state _ c.settle-between.new.cards c.look_if-banks.new.state c.look_if-banks.ensures.state c.settle-between.ensures.came, few-is _ _ _ _ _ _ _ _ _ _ _ _ _ _ c.entries.invariant)
 
-pub write_crossing-requires-clause-number : goal.write_crossing-requires-clause-number
-write_crossing-requires-clause-number g c = omega (arith, number-is _ _ _ _ _ _ _ _ _ _ _ _ _ _ c.entries.invariant, few-is _ _ _ _ _ _ _ _ _ _ _ _ _ _ c.entries.invariant)
-
-pub write_crossing-requires-clause-early : goal.write_crossing-requires-clause-early
-write_crossing-requires-clause-early g c = omega (arith, early-is _ _ _ _ _ _ _ _ _ _ _ _ _ _ c.entries.invariant)
-
-pub write_crossing-requires-clause-soon : goal.write_crossing-requires-clause-soon
-write_crossing-requires-clause-soon g c = c.look_if-banks.ensures.soon c.entries.invariant.hand.reads c.entries.invariant.hand.bus c.entries.invariant.hand.has
-
-pub write_crossing-requires-clause-past : goal.write_crossing-requires-clause-past
-write_crossing-requires-clause-past g c = c.entries.invariant.hand.past
-
-pub write_crossing-requires-clause-tight : goal.write_crossing-requires-clause-tight
-write_crossing-requires-clause-tight g c = tight-is _ _ _ _ _ _ _ _ _ _ _ _ _ _ c.entries.invariant
-
-pub write_crossing-requires-clause-done : goal.write_crossing-requires-clause-done
-write_crossing-requires-clause-done g c = at-is _ _ _ _ _ _ _ _ _ _ _ _ _ _ c.entries.invariant
-
-pub returns-in_err-write_crossing-clause-lines : goal.returns-in_err-write_crossing-clause-lines
-returns-in_err-write_crossing-clause-lines g c =
+pub returns-in_err-k-clause-lines : goal.returns-in_err-k-clause-lines
+returns-in_err-k-clause-lines g c =
     let h = c.entries.invariant in
     let b = behind _ _ _ _ _ _ _ _ _ _ _ _ _ _ c.entries.invariant c.settle-between.new.state _ c.settle-between.new.cards c.look_if-banks.new.state c.look_if-banks.ensures.state c.settle-between.ensures.came c.if-left-eq0.false (sym c.is_at_rest.ensures ∙ c.if-is_at_rest.false)
     c.look_if-banks.new.found.items c.look_if-banks.result c.settle-between.result.card c.settle-between.result.waited c.is_still-still.result
     c.is_end_near-looks.result c.is_still-still.ensures c.is_end_near-looks.ensures c.look_if-banks.ensures.found
     (λ yes. c.look_if-banks.ensures.banks c.entries.invariant.hand.reads c.entries.invariant.hand.bus yes c.entries.invariant.hand.has) c.settle-between.ensures.card c.settle-between.ensures.waited in
     crossing-fails _ _ _ _ _ _ _ _ _ _ _ _ _ _ c.entries.invariant c.settle-between.new.state _ c.settle-between.new.cards c.look_if-banks.new.state c.look_if-banks.ensures.state c.settle-between.ensures.came c.if-left-eq0.false (sym c.is_at_rest.ensures ∙ c.if-is_at_rest.false)
-    _ _ c.from_residual.result c.from_residual.ensures.0 (c.in_err-write_crossing.ensures.lines h.m b)
-
-pub returns-in_err-write_crossing-clause-sums : goal.returns-in_err-write_crossing-clause-sums
-returns-in_err-write_crossing-clause-sums g c x good = not_both c.from_residual.result c.from_residual.ensures.0 good
+    _ _ c.from_residual.result c.from_residual.ensures.0 (c.in_err-k.ensures.lines h.m b)
 
 -- ---- the entry
 
 pub write_entry-requires-clause-few : goal.write_entry-requires-clause-few
 write_entry-requires-clause-few g c = omega (arith, done-is _ _ _ _ _ _ _ _ _ _ _ _ _ _ c.entries.invariant c.settle-between.new.state _ c.settle-between.new.cards c.look_if-banks.new.state c.look_if-banks.ensures.state c.settle-between.ensures.came, few-is _ _ _ _ _ _ _ _ _ _ _ _ _ _ c.entries.invariant, c.if-left-eq0.false)
-
-pub write_entry-requires-clause-early : goal.write_entry-requires-clause-early
-write_entry-requires-clause-early g c =
-    omega (arith, early-is _ _ _ _ _ _ _ _ _ _ _ _ _ _ c.entries.invariant, c.in_ok-write_crossing.ensures.bound, c.in_ok-write_crossing.ensures.tick)
-
-pub write_entry-requires-clause-within : goal.write_entry-requires-clause-within
-write_entry-requires-clause-within g c = subst (λ t. AreWithin t c.entries.sums) (sym c.in_ok-write_crossing.ensures.tick) c.entries.invariant.within
 
 pub returns-in_err-write_entry-clause-lines : goal.returns-in_err-write_entry-clause-lines
 returns-in_err-write_entry-clause-lines g c =
@@ -129,12 +108,8 @@ returns-in_err-write_entry-clause-lines g c =
     c.is_end_near-looks.result c.is_still-still.ensures c.is_end_near-looks.ensures c.look_if-banks.ensures.found
     (λ yes. c.look_if-banks.ensures.banks c.entries.invariant.hand.reads c.entries.invariant.hand.bus yes c.entries.invariant.hand.has) c.settle-between.ensures.card c.settle-between.ensures.waited in
     row-fails _ _ _ _ _ _ _ _ _ _ _ _ _ _ c.entries.invariant c.settle-between.new.state _ c.settle-between.new.cards c.look_if-banks.new.state c.look_if-banks.ensures.state c.settle-between.ensures.came c.if-left-eq0.false (sym c.is_at_rest.ensures ∙ c.if-is_at_rest.false)
-    c.write_crossing.new.last (c.in_ok-write_crossing.ensures.front h.m b) c.in_ok-write_crossing.ensures.tick _ tt (c.in_ok-write_crossing.ensures.lines h.m b)
+    c.write_crossing.new.last (c.in_ok-k.ensures.front h.m b) c.in_ok-k.ensures.tick _ tt (c.in_ok-k.ensures.lines h.m b)
     _ _ c.from_residual-in_err-write_entry.result c.from_residual-in_err-write_entry.ensures.0 (λ p is. c.in_err-write_entry.ensures.lines p is)
-
-pub returns-in_err-write_entry-clause-sums : goal.returns-in_err-write_entry-clause-sums
-returns-in_err-write_entry-clause-sums g c x good =
-    not_both c.from_residual-in_err-write_entry.result c.from_residual-in_err-write_entry.ensures.0 good
 
 pub entries-preserved : goal.entries-preserved
 entries-preserved g c =
@@ -144,8 +119,8 @@ entries-preserved g c =
     c.is_end_near-looks.result c.is_still-still.ensures c.is_end_near-looks.ensures c.look_if-banks.ensures.found
     (λ yes. c.look_if-banks.ensures.banks c.entries.invariant.hand.reads c.entries.invariant.hand.bus yes c.entries.invariant.hand.has) c.settle-between.ensures.card c.settle-between.ensures.waited in
     goes _ _ _ _ _ _ _ _ _ _ _ _ _ _ c.entries.invariant c.settle-between.new.state _ c.settle-between.new.cards c.look_if-banks.new.state c.look_if-banks.ensures.state c.settle-between.ensures.came c.if-left-eq0.false (sym c.is_at_rest.ensures ∙ c.if-is_at_rest.false)
-    c.write_crossing.new.last (c.in_ok-write_crossing.ensures.front h.m b) c.in_ok-write_crossing.ensures.tick _ tt (c.in_ok-write_crossing.ensures.lines h.m b)
+    c.write_crossing.new.last (c.in_ok-k.ensures.front h.m b) c.in_ok-k.ensures.tick _ tt (c.in_ok-k.ensures.lines h.m b)
     _ _ _ c.write_entry.new.state c.write_entry.new.last c.write_entry.new.log c.write_entry.new.sums
-    (AreDelays-list c.args.delays.now c.shape-2.ensures) c.requires.levels.1 (c.in_ok-write_crossing.ensures.number h.m b)
+    (AreDelays-list c.args.delays.now c.shape-2.ensures) c.requires.levels.1 (c.in_ok-k.ensures.number h.m b)
     c.in_ok-write_entry.ensures.state c.in_ok-write_entry.ensures.last (λ p is. c.in_ok-write_entry.ensures.lines p is)
     (λ p z is. c.in_ok-write_entry.ensures.sums p z is) c.in_ok-write_entry.ensures.within c.settle-between.ensures.rest
