@@ -188,7 +188,8 @@ module _ (s t : OutputState) (all : List (List ℕ)) (ds : List ℕ) (n : ℕ) (
                 bounds = next-is 255 n ds are few h.m h.bounds;
                 at = next-at ds n (standing h.m);
                 time = next-time 255 n ds are few h.m h.bounds h.time;
-                so_far = turn-made ds n left k h.m s t all h.so_far some on u v x y segment (entry (standing h.m) stands);
+                so_far = subst (λ j. LinesSoFar s v all (lines_from ds n (left - 1) j (next_moment ds n (standing h.m)))) (sym number)
+                    (turn-made ds n left k h.m s t all h.so_far some on u v x y segment (entry (standing h.m) stands));
                 number = number-next k k' h.m h.m.scene.machine.done _ number h.number more;
                 few = omega (arith, more, h.few, some);
                 within = within;
