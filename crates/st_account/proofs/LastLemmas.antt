@@ -1,10 +1,9 @@
 -- What is at hand of an entry that was done, and what follows from it.
-use Rattle.std.specs.Prelude.{Bool, if◌then◌else◌, nat_lt, replicate, All, map}
-use Rattle.std.proofs.Common.{◌≡◌, ℕ, zero, suc, ◌+◌, ◌-◌, ◌*◌, ◌^◌, ◌≤◌, ◌<◌, true, false, List, [], ◌∷◌, ◌++◌, length, take, get_or, Option, None, refl, sym, ◌∙◌, ap, subst, arith}
-use Rattle.st_banks.specs.declared.answers.LastAnswers.{LastAnswers}
+use Rattle.std.specs.Prelude.{Bool, if◌then◌else◌, nat_lt, map}
+use Rattle.std.proofs.Common.{◌≡◌, ℕ, zero, suc, ◌^◌, ◌≤◌, ◌<◌, true, false, List, [], ◌∷◌, ◌++◌, length, take, get_or, Option, None, refl, sym, ◌∙◌, ap, subst, arith}
 use Rattle.st_state.specs.Machine.{Machine}
 use Rattle.st_prep.specs.Plan.{plan}
-use Rattle.st_exec.specs.Completion.{completed, executed, guessed, guess, is_missed}
+use Rattle.st_exec.specs.Completion.{executed, guessed, guess, is_missed}
 use Rattle.st_exec.specs.Step.{interrupt, step}
 use Rattle.std.proofs.lemmas.Bool.Decides.{nat_tests}
 use Rattle.st_rows.specs.BusTimes.{accept_at}
@@ -24,9 +23,9 @@ use Rattle.st_rows.specs.declared.front.Front.{Front}
 use Rattle.st_rows.specs.declared.front.Row.{Row}
 use Rattle.st_rows.specs.declared.past.Past.{Past}
 use Rattle.st_segment.specs.Entries.{entry}
-use Rattle.st_segment.specs.Ahead.{Ahead, ahead, prepared_before, reads_before}
+use Rattle.st_segment.specs.Ahead.{Ahead, ahead, prepared_before}
 use Rattle.st_run.specs.Run.{Scene}
-use Rattle.st_run.specs.Moments.{Moment, Standing, start, unread, taken, oldest, next_row, front_after, entries_behind, reads_until, next_moment}
+use Rattle.st_run.specs.Moments.{Standing, start, unread, next_row, next_moment}
 use Rattle.std.proofs.lemmas.List.{length-append, length-map}
 use Rattle.st_prep.proofs.Choices.{of_choice}
 use Rattle.st_plain.specs.Looking.{seen_of}

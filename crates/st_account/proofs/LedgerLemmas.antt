@@ -1,6 +1,6 @@
 -- A whole ledger, part by part.
 use Rattle.std.specs.Prelude.{Result, Ok, Err, IsErr}
-use Rattle.std.proofs.Common.{◌≡◌, ℕ, List, ◌++◌, refl, sym, ◌∙◌, ap, subst}
+use Rattle.std.proofs.Common.{◌≡◌, ℕ, List, ◌++◌, refl, subst}
 use Rattle.st_io.specs.Output.{OutputState}
 use Rattle.st_io.specs.declared.Failed.{Failed}
 use Rattle.st_io.specs.Lines.{WritesLines}

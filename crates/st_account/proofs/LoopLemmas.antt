@@ -1,9 +1,9 @@
 -- One turn of the run.
 use Rattle.std.specs.Prelude.{Bool, if◌then◌else◌, Result, Ok, Err, IsErr}
-use Rattle.std.proofs.Common.{◌≡◌, ◌≢◌, ℕ, ◌+◌, ◌-◌, ◌*◌, ◌≤◌, ◌⊎◌, inl, inr, true, false, List, [], ◌++◌, refl, sym, ◌∙◌, ap, subst, append_assoc, arith}
-use Rattle.st_io.specs.Output.{OutputState, Wrote}
+use Rattle.std.proofs.Common.{◌≡◌, ◌≢◌, ℕ, ◌+◌, ◌-◌, ◌≤◌, ◌⊎◌, true, false, List, ◌++◌, ◌∙◌, subst, append_assoc, arith}
+use Rattle.st_io.specs.Output.{OutputState}
 use Rattle.st_io.specs.declared.Failed.{Failed}
-use Rattle.st_io.specs.Lines.{text, WritesLines, StoppedIn}
+use Rattle.st_io.specs.Lines.{WritesLines}
 use Rattle.st_io.proofs.Progress.{LinesSoFar, lines_more, lines_failed, lines_last}
 use Rattle.st_exec.specs.Step.{rests}
 use Rattle.st_run.specs.Moments.{Moment, next_state, standing, next_moment}

@@ -1,15 +1,15 @@
 -- The reads of the entry that was done last and of those that run ahead, and which of them are made.
 use Rattle.std.specs.Prelude.{Bool, if◌then◌else◌, nat_lt, All}
-use Rattle.std.proofs.Common.{◌≡◌, ℕ, zero, suc, ◌+◌, ◌≤◌, ◌<◌, max, true, false, List, [], ◌∷◌, ◌++◌, drop, length, length-append, Option, None, Some, refl, sym, ◌∙◌, ap, subst, append_assoc, arith}
+use Rattle.std.proofs.Common.{◌≡◌, ℕ, zero, suc, ◌+◌, ◌≤◌, ◌<◌, max, true, false, List, [], ◌++◌, drop, length, length-append, Option, None, Some, refl, sym, ◌∙◌, ap, subst, append_assoc, arith}
 use Rattle.std.proofs.lemmas.Bool.Decides.{nat_tests}
 use Rattle.std.proofs.lemmas.List.{append-nil}
 use Rattle.std.proofs.lemmas.List.Elements.{All-weaker}
 use Rattle.st_banks.specs.declared.answers.LastAnswers.{LastAnswers}
 use Rattle.st_state.specs.Machine.{Machine, IsMachine}
 use Rattle.st_exec.specs.Completion.{guess}
-use Rattle.st_rows.specs.Asked.{Read, formed_asked, prepared_asked, fetches_asked, words_asked, side_asked, following_asked, asked, served, made_before, side_count}
+use Rattle.st_rows.specs.Asked.{Read, formed_asked, prepared_asked, fetches_asked, following_asked, asked, served, made_before, side_count}
 use Rattle.st_rows.specs.Notes.{noted, logged, undone, AreEarly, IsLogged}
-use Rattle.st_rows.specs.Ranges.{AreDelays, IsEntry, IsNear, IsTight}
+use Rattle.st_rows.specs.Ranges.{AreDelays, IsEntry, IsTight}
 use Rattle.st_rows.specs.Rows.{row, after, fetch_words, wanted_from, tick_a, tick_p, bus_a, operands}
 use Rattle.st_rows.specs.declared.bus.Bus.{Bus}
 use Rattle.st_rows.specs.declared.entry.Entry.{Entry}

@@ -1,22 +1,21 @@
 -- A run as far as it is written.
-use Rattle.std.specs.Prelude.{Bool, if◌then◌else◌, nat_lt, nat_eq, not, ◌&&◌, ◌||◌, map, All, is_some, is_none, Option, Some}
+use Rattle.std.specs.Prelude.{Bool, nat_lt, nat_eq, not, ◌||◌, map, is_some, is_none, Option, Some}
 use Rattle.std.proofs.lemmas.Bool.{and_parts, not-true}
 use Rattle.std.proofs.lemmas.Bool.Decides.{nat_tests}
 use Rattle.st_rows.specs.Asked.{made_before}
 use Rattle.st_rows.specs.declared.log.Made.{Made}
-use Rattle.std.proofs.Common.{◌≡◌, ◌≢◌, ℕ, zero, suc, ◌+◌, ◌-◌, ◌*◌, ◌^◌, ◌≤◌, ◌⊎◌, inl, inr, true, false, List, [], ◌∷◌, ◌++◌, length, None, refl, sym, ◌∙◌, ap, subst, arith}
+use Rattle.std.proofs.Common.{◌≡◌, ◌≢◌, ℕ, zero, suc, ◌+◌, ◌-◌, ◌*◌, ◌^◌, ◌≤◌, ◌⊎◌, inl, inr, true, false, List, [], ◌∷◌, ◌++◌, length, None, refl, sym, ◌∙◌, ap, arith}
 use Rattle.st_bits.specs.declared.limits.TheConstants.{MOST_INSTRUCTIONS}
 use Rattle.st_banks.specs.declared.answers.LastAnswers.{LastAnswers}
 use Rattle.st_state.specs.Machine.{Machine}
 use Rattle.st_exec.specs.Step.{rests, step, interrupt}
 use Rattle.st_card.specs.declared.control_cards.Signal.{Signal}
-use Rattle.st_run.specs.Run.{Scene, interlude, stepped, with_due_signals, with_due_orders, with_order_at_rest, with_signals_at_rest, with_wait, and_then, with_reader, with_printer, if_due}
-use Rattle.st_run.specs.Moments.{Moment, Standing, start, next_scene, next_state, standing, next_front, next_row, next_moment, has_card, has_waited, ends_segment}
-use Rattle.st_run.proofs.Bounds.{IsMoment, HasTime}
+use Rattle.st_run.specs.Run.{interlude, stepped, with_due_signals, with_due_orders, with_order_at_rest, with_signals_at_rest, with_wait, and_then, with_reader, with_printer, if_due}
+use Rattle.st_run.specs.Moments.{Moment, Standing, next_scene, next_state, standing, next_row, next_moment, has_card, has_waited, ends_segment}
+use Rattle.st_run.proofs.Bounds.{HasTime}
 use Rattle.st_run.proofs.DoneLemmas.{settled-done}
 use Rattle.st_rows.specs.Rows.{row, after}
 use Rattle.st_segment.specs.Ahead.{ahead, prepared_before, reads_before}
-use Rattle.st_ledger.specs.declared.charges.Charge.{Charge}
 use Rattle.st_ledger.specs.declared.charges.Stage.{Stage}
 use Rattle.st_ledger.specs.Charges.{ticks_for}
 use Rattle.st_ledger.specs.Ledger.{entries_from, charges_at, all_charges}
@@ -25,7 +24,7 @@ use Rattle.st_account.specs.Settling.{at_hand}
 use Rattle.st_plain.specs.Looking.{seen_of}
 use Rattle.st_plain.specs.declared.looking.Ahead.{Ahead as Seen}
 use Rattle.st_account.specs.declared.last.Last.{Last}
-use Rattle.st_account.specs.Standing.{guessing, has_due, still_by, IsLast, IsStanding, IsBehind}
+use Rattle.st_account.specs.Standing.{guessing, has_due, still_by, IsLast, IsBehind}
 use Rattle.st_account.specs.Text.{segment_lines, segment_after, entry_lines, last_lines, lines_from}
 
 none-is : {A : Type 0} (o : Option A) → is_none o ≡ true → o ≡ None

@@ -19,8 +19,8 @@ use Rattle.st_rows.specs.declared.front.Front.{Front}
 use Rattle.st_rows.specs.declared.log.Made.{Made}
 use Rattle.st_segment.specs.Ahead.{ahead, prepared_before, reads_before}
 use Rattle.st_run.specs.Run.{Scene, interlude, with_due_signals, with_due_orders}
-use Rattle.st_run.specs.Scenes.{IsCard, IsScene}
-use Rattle.st_run.specs.Moments.{Moment, Standing, start, unread, next_scene, next_state, next_front, standing, next_moment, ends_segment}
+use Rattle.st_run.specs.Scenes.{IsCard}
+use Rattle.st_run.specs.Moments.{Moment, Standing, start, unread, next_state, next_front, standing, next_moment}
 use Rattle.st_exec.proofs.StepLemmas.{step-done}
 use Rattle.st_run.proofs.DoneLemmas.{settled-done}
 use Rattle.st_run.proofs.Bounds.{IsMoment, HasTime, start-is, next-is, next-time}

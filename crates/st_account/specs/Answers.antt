@@ -4,7 +4,6 @@ use Rattle.st_io.specs.Count.{HasRisen}
 use Rattle.st_io.specs.Input.{InputState, CameWhole, CameWithin, CamePast}
 use Rattle.st_io.specs.Output.{OutputState, Wrote}
 use Rattle.st_io.specs.Lines.{text, StoppedIn}
-use Rattle.st_card.specs.Controls.{Asked}
 use Rattle.st_card.specs.Faults.{name_of}
 use Rattle.st_asm.specs.Pass.{Refusal}
 use Rattle.st_asm.specs.Assembly.{Assembly, assembly}

@@ -1,5 +1,5 @@
 -- Entries that are looked at one after another.
-use Rattle.std.specs.Prelude.{Bool, if◌then◌else◌, nat_lt, map}
+use Rattle.std.specs.Prelude.{Bool, if◌then◌else◌, map}
 use Rattle.std.proofs.Common.{◌≡◌, ℕ, zero, suc, ◌+◌, ◌-◌, ◌≤◌, ◌<◌, true, false, List, [], ◌∷◌, ◌++◌, None, get_or, take, refl, sym, subst, ap, ◌∙◌, append_assoc, arith}
 use Rattle.std.proofs.lemmas.List.{append-nil}
 use Rattle.std.proofs.lemmas.Bool.{lt-ltb, le-ltb}

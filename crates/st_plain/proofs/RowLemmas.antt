@@ -1,8 +1,7 @@
 -- The reads of an entry, part by part, in the log.
-use Rattle.std.specs.Prelude.{All}
-use Rattle.std.proofs.Common.{◌≡◌, ℕ, zero, suc, ◌+◌, ◌-◌, ◌≤◌, max, List, [], ◌∷◌, ◌++◌, refl, sym, ap, ◌∙◌, arith}
+use Rattle.std.proofs.Common.{◌≡◌, ℕ, zero, suc, ◌+◌, ◌-◌, ◌≤◌, max, List, refl, sym, ap, ◌∙◌, arith}
 use Rattle.st_fetch.specs.Planned.{tick_of}
-use Rattle.st_rows.specs.Asked.{Read, word_asked, words_asked, side_asked, fetches_asked, formed_asked, prepared_asked, asked, served}
+use Rattle.st_rows.specs.Asked.{word_asked, words_asked, side_asked, fetches_asked, formed_asked, prepared_asked, asked, served}
 use Rattle.st_rows.specs.BusTimes.{requested}
 use Rattle.st_rows.specs.Notes.{noted}
 use Rattle.st_rows.specs.Rows.{fetch_word, fetch_words, wanted_from, fetched, tick_a, bus_a}

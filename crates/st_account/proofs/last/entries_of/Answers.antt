@@ -1,6 +1,3 @@
-use Rattle.std.proofs.Common.{◌∷◌, take, ◌∙◌, ap, length, get_or}
-use Rattle.st_rows.specs.Entries.{no_words}
-use Rattle.st_rows.specs.declared.past.Past.{Past}
 use Rattle.st_account.proofs.LastLemmas.{eight-put}
 use Rattle.st_account.proofs.last.entries_of.Goals as goal
 

@@ -1,4 +1,4 @@
-use Rattle.std.proofs.Common.{List, [], ◌∷◌, take, sym, ◌∙◌, ap}
+use Rattle.std.proofs.Common.{List, [], ◌∙◌, ap}
 use Rattle.st_rows.specs.Asked.{asked}
 use Rattle.st_rows.specs.Notes.{noted}
 use Rattle.st_rows.specs.declared.entry.Entry.{Entry}

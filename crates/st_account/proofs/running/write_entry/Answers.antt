@@ -1,5 +1,4 @@
-use Rattle.std.proofs.Common.{◌≡◌, ◌+◌, ◌∙◌, sym, ap, subst, arith}
-use Rattle.st_state.specs.Machine.{Machine}
+use Rattle.std.proofs.Common.{◌∙◌, ap}
 use Rattle.st_account.specs.declared.last.Last.{Last}
 use Rattle.st_rows.proofs.Within.{AreDelays-list}
 use Rattle.st_segment.proofs.EntryRanges.{entry-ranges}

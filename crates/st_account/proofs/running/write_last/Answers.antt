@@ -1,8 +1,6 @@
-use Rattle.std.proofs.Common.{◌∷◌, [], ◌∙◌, sym, ap}
+use Rattle.std.proofs.Common.{◌∙◌, ap}
 use Rattle.st_state.specs.Machine.{Machine}
 use Rattle.st_io.proofs.Progress.{lines_then, lines_cut}
-use Rattle.st_report.specs.Line.{end_line, done_line, ticks_line}
-use Rattle.st_account.specs.Text.{end_lines}
 use Rattle.st_account.proofs.LineLemmas.{same_lines}
 use Rattle.st_account.proofs.BorderLemmas.{last-is, totals-is}
 use Rattle.st_account.proofs.running.write_last.Goals as goal

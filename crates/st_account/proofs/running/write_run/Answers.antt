@@ -1,8 +1,6 @@
-use Rattle.std.proofs.Common.{◌≡◌, ◌+◌, ◌≤◌, inl, inr, sym, ◌∙◌, ap, subst, arith}
-use Rattle.std.specs.Prelude.{Ok, Err, All}
+use Rattle.std.proofs.Common.{inl, inr, sym, ◌∙◌, arith}
 use Rattle.st_rows.proofs.Within.{AreDelays-list}
-use Rattle.st_rows.specs.declared.front.Front.{Front}
-use Rattle.st_account.proofs.TurnLemmas.{run-starts, tight-is, at-is, few-is, number-is, early-is, done-is, finishes, sums-are, behind, crossing-fails, stands, row-fails, goes}
+use Rattle.st_account.proofs.TurnLemmas.{run-starts, tight-is, at-is, few-is, early-is, done-is, finishes, sums-are, behind, crossing-fails, row-fails, goes}
 use Rattle.st_account.proofs.running.write_run.Goals as goal
 
 pub entries-init : goal.entries-init

@@ -1,4 +1,4 @@
-use Rattle.std.proofs.Common.{length, sym, arith}
+use Rattle.std.proofs.Common.{sym, arith}
 use Rattle.st_account.proofs.LineLemmas.{no_lines, delays_all, delays_cut, delays_then}
 use Rattle.st_account.proofs.writing.+write_delays.Goals as goal
 

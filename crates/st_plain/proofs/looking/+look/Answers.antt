@@ -1,4 +1,4 @@
-use Rattle.std.proofs.Common.{◌-◌, ◌≤◌, ◌<◌, ◌≡◌, ℕ, List, length, None, sym, ◌∙◌, ap, arith}
+use Rattle.std.proofs.Common.{◌<◌, length, None, ◌∙◌, ap, arith}
 use Rattle.std.proofs.lemmas.List.{length_push}
 use Rattle.st_exec.specs.Completion.{guessed}
 use Rattle.st_state.specs.Machine.{Machine}

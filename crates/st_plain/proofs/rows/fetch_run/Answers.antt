@@ -1,4 +1,4 @@
-use Rattle.std.proofs.Common.{◌≡◌, ◌+◌, ◌-◌, ◌*◌, ◌^◌, ◌∙◌, arith}
+use Rattle.std.proofs.Common.{◌+◌, ◌-◌, ◌*◌, ◌^◌, ◌∙◌, arith}
 use Rattle.st_bits.specs.Storage.{words_of_storage_is}
 use Rattle.st_rows.proofs.Within.{AreDelays-list, past-weaker, fetching-weaker, fetch_word-within}
 use Rattle.st_plain.proofs.RowLemmas.{fetch-turn, noted-turn, noted-end, fetch-end}
