@@ -8,7 +8,7 @@ from .lines import Off, place
 # What the program `ledger` of crates/ writes: None as long as there is none, the kinds of its lines, or ALL of them.
 # All other lines are those of model/ledger.
 ALL = "all"
-WRITES = None
+WRITES = set("LEVELS DELAYS SEGMENT ROW CHARGE DROP END DONE TICKS SUM".split())
 HOME = os.path.join(os.path.dirname(os.path.realpath(__file__)), "..", "..")
 MOST_LEVELS = 8
 OWN = 4             # the levels of the machine of `run`

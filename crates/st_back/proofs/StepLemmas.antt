@@ -20,7 +20,8 @@ use Rattle.st_exec.specs.declared.kept.Trail.{Trail}
 use Rattle.st_exec.proofs.MachineKept.{kept-completed}
 use Rattle.st_exec.proofs.UnwrittenLemmas.{IsBeside, completed-unwritten}
 use Rattle.st_back.specs.declared.kept.Kept.{Kept}
-use Rattle.st_back.specs.Undone.{restored, restored_words, unput, with_rest, undone, noted}
+use Rattle.st_prep.specs.declared.entries.Prepared.{Prepared}
+use Rattle.st_back.specs.Undone.{restored, restored_words, unput, with_rest, undone, noted, Keeps}
 use Rattle.st_back.specs.Steps.{IsSound}
 use Rattle.st_back.proofs.UndoneLemmas.{unput-none, restored-size, restored-back}
 
@@ -63,7 +64,7 @@ past_registers i (inl before) = absurd (omega arith)
 past_registers i (inr after) = omega arith
 
 -- a state that has of another one each word that the trail does not have
-pub trail-undone : (s u : Machine) (k : Kept) → IsMachine s → IsTrail s k.trail → CanBePutBack k.trail → k.puts ≡ 0
+pub trail-undone : (s u : Machine) (k : Kept) → IsMachine s → Keeps s k.trail → CanBePutBack k.trail → k.puts ≡ 0
     → length u.words ≡ length s.words
     → ((w : ℕ) → 32 ≤ w → IsNotAmong w k.trail.writes → word u w ≡ word s w) → undone k u ≡ s
 unfolding undone
@@ -97,6 +98,27 @@ trail-undone s u k m t fits none size same =
     same-machine s d.words k.trail (ext_get_or 0 d.words s.words (size_d ∙ sym m.size) (λ i h. registers i)) t.ic t.enabled
     t.waiting t.done t.reader t.printer
 
+-- what a trail of a step keeps
+pub trail-keeps : (s : Machine) (t : Trail) → IsTrail s t → Keeps s t
+trail-keeps s t is = record {
+  before = is.before;
+  registers = is.registers;
+  done = is.done;
+  ic = is.ic;
+  enabled = is.enabled;
+  waiting = is.waiting;
+  reader = is.reader;
+  printer = is.printer;
+}
+
+-- an entry is undone that is completed, whatever the counter is set to then
+pub entry-undone : (p : Prepared) (s : Machine) (ic : ℕ) (k : Kept) → IsPrepared p → IsMachine s → Keeps s k.trail → CanBePutBack k.trail
+    → k.puts ≡ 0 → k.trail.writes ≡ p.writes → undone k (record (completed p s) { ic = ic }) ≡ s
+entry-undone p s ic k h m t fits none writes =
+    let n = kept-completed p s h m in
+    trail-undone s (record (completed p s) { ic = ic }) k m t fits none (n.size ∙ sym m.size)
+    (λ w above apart. completed-unwritten p s w h m above (subst (IsNotAmong w) writes apart))
+
 -- the interrupt that is taken is by one of 64 indicators
 some-below : (p : ℕ → Bool) (r : Option ℕ) → first_from p 0 64 ≡ r → IfSome r (λ i. i < 64)
 some-below p None e = tt
@@ -116,7 +138,7 @@ step-undone s k m t fits none =
     let p = plan s (interrupt s) in
     let h : IsPrepared p = plan-prepared s (interrupt s) m (interrupt-below s) in
     let n = kept-completed p s h m in
-    trail-undone s (completed p s) k m t fits none (n.size ∙ sym m.size)
+    trail-undone s (completed p s) k m (trail-keeps s k.trail t) fits none (n.size ∙ sym m.size)
     (λ w above apart. completed-unwritten p s w h m above (subst (IsNotAmong w) t.writes apart))
 
 -- ---- words that are put since

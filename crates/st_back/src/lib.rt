@@ -7,3 +7,4 @@ mod undoing;
 
 pub use back::Back;
 pub use kept::Kept;
+pub use undoing::{keep, undo};

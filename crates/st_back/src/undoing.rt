@@ -1,14 +1,16 @@
 //! How a step is undone.
-ghost use Rattle.std.specs.Prelude.{◌≡◌, ◌+◌, ◌≤◌, ◌<◌};
+ghost use Rattle.std.specs.Prelude.{◌≡◌, ◌+◌, ◌≤◌, ◌<◌, ℕ, slice_index};
 ghost use Rattle.st_bits.specs.Storage.{words_of_storage};
-ghost use Rattle.st_prep.specs.Ranges.{IsRuns, AreInside};
+ghost use Rattle.st_state.specs.Machine.{Machine, word as word_of};
+ghost use Rattle.st_prep.specs.Ranges.{IsRuns, AreInside, IsPrepared};
+ghost use Rattle.st_exec.specs.Completion.{completed};
 ghost use Rattle.st_exec.specs.Trails.{CanBePutBack};
-ghost use Rattle.st_back.specs.Undone.{restored, restored_words, unput, with_rest, undone};
+ghost use Rattle.st_back.specs.Undone.{restored, restored_words, unput, with_rest, undone, Keeps};
 ghost use Rattle.st_back.specs.Steps.{IsSound};
 
 use crate::kept::Kept;
-use st_exec::Trail;
-use st_prep::Words;
+use st_exec::{Trail, read_operands};
+use st_prep::{Prepared, Words};
 use st_state::State;
 
 // Stores `len` words from the word address `w` on, those of `words` from place `from` on.
@@ -57,9 +59,60 @@ fn restore_rest(trail: &Trail, state: &mut State)
     state.printer = trail.printer;
 }
 
-// Undoes a step.
+// Words 0 to 31.
+fn registers(state: &State) -> [u64; 32]
+    ensures { (w : ℕ) → w < 32 → slice_index result w ≡ word_of state.now w }
+{
+    let mut registers = [0; 32];
+    for w in 0..32 {
+        registers[w] = state.word(w as u32);
+    }
+    registers
+}
+
+// What is kept of a state before an entry is completed that is prepared.
+fn trail_of(p: &Prepared, state: &State) -> Trail
+    requires prepared { IsPrepared p.now }
+    ensures keeps { Keeps state.now result }
+    ensures fits { CanBePutBack result }
+    ensures writes { result.writes ≡ p.now.writes }
+{
+    state.shape();
+    Trail {
+        index_read: None,
+        reads: p.reads,
+        writes: p.writes,
+        before: read_operands(p.writes, state),
+        registers: registers(state),
+        done: state.done,
+        ic: state.ic,
+        enabled: state.enabled,
+        waiting: state.waiting,
+        reader: state.reader,
+        printer: state.printer,
+    }
+}
+
+/// Keeps of a state what is needed to undo an entry that is prepared of it: once it is completed, and the counter set or
+/// not, `undo` gives the state back.
+pub fn keep(p: &Prepared, state: &State) -> Kept
+    requires prepared { IsPrepared p.now }
+    ensures sound { IsSound result }
+    ensures undone { (s : Machine) (ic : ℕ) → s ≡ record (completed p.now state.now) { ic = ic } →
+        undone result s ≡ state.now }
+{
+    state.shape();
+    Kept {
+        trail: trail_of(p, state),
+        places: [0; 8],
+        contents: [0; 8],
+        puts: 0,
+    }
+}
+
+/// Undoes a step or an entry that was kept.
 #[tactic(auto, unfolding(crate::specs::Undone::undone), using(st_bits::specs::Storage::words_of_storage_is))]
-pub(crate) fn undo(kept: &Kept, state: &mut State)
+pub fn undo(kept: &Kept, state: &mut State)
     requires { IsSound kept.now }
     ensures { state.new ≡ undone kept.now state.old }
 {

@@ -3,5 +3,4 @@ pub mod Rows
 pub mod Runs
 pub mod Sums
 pub mod Told
-pub mod Words
 pub mod Added

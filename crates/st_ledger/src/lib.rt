@@ -2,13 +2,11 @@
 #![tactic(auto, using(st_bits::specs::Storage::words_of_storage_is))]
 
 mod charges;
-mod entries;
 mod lines;
 mod telling;
 mod totals;
 
 pub use charges::{Charge, Part, Stage};
-pub use entries::entry;
 pub use lines::{line_charge, line_row, line_sum};
 pub use telling::write_row;
 pub use totals::{Totals, write_sums};

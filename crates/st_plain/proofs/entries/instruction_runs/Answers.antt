@@ -5,8 +5,8 @@ use Rattle.st_state.specs.Machine.{word}
 use Rattle.st_prep.specs.Reading.{reading, words_read, own_words}
 use Rattle.st_prep.proofs.ReadingLemmas.{left_after-none, whole-left, next-left, more-left}
 use Rattle.st_segment.specs.Entries.{run_of as run_by}
-use Rattle.st_ledger.proofs.Words.{words-step, own-step, one_own-few, own-run, target-run}
-use Rattle.st_ledger.proofs.entries.instruction_runs.Goals as goal
+use Rattle.st_plain.proofs.Words.{words-step, own-step, one_own-few, own-run, target-run}
+use Rattle.st_plain.proofs.entries.instruction_runs.Goals as goal
 
 pub reads-init : goal.reads-init
 reads-init c =

@@ -1,0 +1,104 @@
+-- The lines where a segment ends and the next one begins, and the front behind.
+use Rattle.std.specs.Prelude.{Bool, if◌then◌else◌, nat_eq, ◌||◌, is_some, map}
+use Rattle.std.proofs.Common.{◌≡◌, ℕ, ◌+◌, true, false, List, [], ◌∷◌, ◌++◌, length, Option, refl, sym, ◌∙◌, ap}
+use Rattle.std.proofs.lemmas.List.{length-map}
+use Rattle.st_banks.specs.declared.answers.LastAnswers.{LastAnswers}
+use Rattle.st_state.specs.Machine.{Machine}
+use Rattle.st_exec.specs.Step.{rests, interrupt}
+use Rattle.st_rows.specs.Rows.{opening}
+use Rattle.st_rows.specs.declared.front.Front.{Front}
+use Rattle.st_report.specs.Line.{end_line as run_end_line, done_line, ticks_line}
+use Rattle.st_run.specs.Moments.{Moment, next_state, has_card, has_waited, ends_segment, next_front}
+use Rattle.st_run.proofs.DoneLemmas.{settled-done}
+use Rattle.st_plain.specs.declared.looking.Ahead.{Ahead}
+use Rattle.st_plain.specs.Looking.{seen_of}
+use Rattle.st_account.specs.declared.last.Last.{Last}
+use Rattle.st_account.specs.declared.lines.Why.{Why}
+use Rattle.st_account.specs.declared.lines.Why.TheVariants.{Run}
+use Rattle.st_account.specs.Lines.{start_line}
+use Rattle.st_account.specs.Standing.{IsBehind}
+use Rattle.st_account.specs.Text.{end_lines, why_by, why, segment_lines, segment_after, last_lines}
+
+choice-lines : (b : Bool) (xs ys : List (List ℕ)) → (b ≡ true → xs ≡ ys) → (if b then xs else []) ≡ (if b then ys else [])
+choice-lines true xs ys same = same refl
+choice-lines false xs ys same = refl
+
+same-done : (m : Moment) (s : Machine) → next_state m ≡ s → s.done ≡ m.scene.machine.done
+same-done m s is = ap (λ (t : Machine). t.done) (sym is) ∙ settled-done m.scene
+
+module _ (m : Moment) (s : Machine) (l : Last) (found : List Ahead) (banks : LastAnswers) (card waited : Bool)
+    (is : IsBehind m s l found banks card waited) where
+  ends-is : (taken : Option ℕ) (ends : Bool) → taken ≡ interrupt s → ends ≡ (l.missed || card || waited || is_some taken) → ends ≡ ends_segment m
+  unfolding ends_segment
+  ends-is taken ends is_taken is_ends =
+      is_ends
+      ∙ ap (λ b. b || card || waited || is_some taken) (sym is.missed)
+      ∙ ap (λ b. m.missed || b || waited || is_some taken) is.card
+      ∙ ap (λ b. m.missed || has_card m || b || is_some taken) is.waited
+      ∙ ap (λ o. m.missed || has_card m || has_waited m || is_some o) (is_taken ∙ ap interrupt (sym is.state))
+
+  module _ (taken : Option ℕ) (ends : Bool) (is_taken : taken ≡ interrupt s) (is_ends : ends ≡ (l.missed || card || waited || is_some taken)) where
+    e : ends ≡ ends_segment m
+    e = ends-is taken ends is_taken is_ends
+
+    pub front-is : (f : Front) → f ≡ (if ends then opening banks (l.tick + 1 + length found) else l.front) → f ≡ next_front m
+    unfolding next_front
+    front-is f is_front =
+        is_front
+        ∙ ap (λ b. if b then opening banks (l.tick + 1 + length found) else l.front) e
+        ∙ choice (ends_segment m) (λ yes.
+        ap (λ b. opening b (l.tick + 1 + length found)) (is.banks yes)
+        ∙ ap (λ xs. opening m.banks (l.tick + 1 + length xs)) (is.dropped yes)
+        ∙ ap (λ k. opening m.banks (l.tick + 1 + k)) (length-map m.dropped seen_of)
+        ∙ ap (λ t. opening m.banks (t + 1 + length m.dropped)) (sym is.tick)) (sym is.front)
+      where
+        choice : {x y u v : Front} (b : Bool) → (b ≡ true → x ≡ u) → y ≡ v → (if b then x else y) ≡ (if b then u else v)
+        choice true one two = one refl
+        choice false one two = two
+
+    pub after-is : (k : ℕ) (begins : Bool) → begins ≡ (nat_eq k 0 || ends) → (if begins then k + 1 else k) ≡ segment_after k m
+    after-is k begins is_begins = ap (λ b. if b then k + 1 else k) (is_begins ∙ ap (λ b. nat_eq k 0 || b) e)
+
+    pub border-lines : (k n start : ℕ) (begins : Bool) (y : Why) → begins ≡ (nat_eq k 0 || ends) → n ≡ s.done + 1 → start ≡ (next_front m).c
+        → y ≡ (if nat_eq k 0 then Run else why_by taken l.missed)
+        → ((if ends then end_lines k l.tick n found else []) ++ (if begins then start_line (k + 1) start waited y ∷ [] else [])) ≡ segment_lines k m
+    unfolding segment_lines why
+    border-lines k n start begins y is_begins is_n is_start is_why =
+        let all = is_begins ∙ ap (λ b. nat_eq k 0 || b) e in
+        let number : n ≡ m.scene.machine.done + 1 = is_n ∙ ap (λ d. d + 1) (same-done m s is.state) in
+        let name : y ≡ (if nat_eq k 0 then Run else why_by (interrupt (next_state m)) m.missed) =
+        is_why
+        ∙ ap (λ o. if nat_eq k 0 then Run else why_by o l.missed) (is_taken ∙ ap interrupt (sym is.state))
+        ∙ ap (λ b. if nat_eq k 0 then Run else why_by (interrupt (next_state m)) b) (sym is.missed) in
+        ap (λ b. (if b then end_lines k l.tick n found else []) ++ (if begins then start_line (k + 1) start waited y ∷ [] else [])) e
+        ∙ ap (λ xs. xs ++ (if begins then start_line (k + 1) start waited y ∷ [] else []))
+        (choice-lines (ends_segment m) (end_lines k l.tick n found) (end_lines k m.tick (m.scene.machine.done + 1) (map seen_of m.dropped)) (λ yes.
+        ap (λ xs. end_lines k l.tick n xs) (is.dropped yes)
+        ∙ ap (λ t. end_lines k t n (map seen_of m.dropped)) (sym is.tick)
+        ∙ ap (λ j. end_lines k m.tick j (map seen_of m.dropped)) number))
+        ∙ ap (λ b. (if ends_segment m then end_lines k m.tick (m.scene.machine.done + 1) (map seen_of m.dropped) else [])
+        ++ (if b then start_line (k + 1) start waited y ∷ [] else [])) all
+        ∙ ap (λ t. (if ends_segment m then end_lines k m.tick (m.scene.machine.done + 1) (map seen_of m.dropped) else [])
+        ++ (if nat_eq k 0 || ends_segment m then start_line (k + 1) t waited y ∷ [] else [])) is_start
+        ∙ ap (λ w. (if ends_segment m then end_lines k m.tick (m.scene.machine.done + 1) (map seen_of m.dropped) else [])
+        ++ (if nat_eq k 0 || ends_segment m then start_line (k + 1) (next_front m).c w y ∷ [] else [])) is.waited
+        ∙ ap (λ z. (if ends_segment m then end_lines k m.tick (m.scene.machine.done + 1) (map seen_of m.dropped) else [])
+        ++ (if nat_eq k 0 || ends_segment m then start_line (k + 1) (next_front m).c (has_waited m) z ∷ [] else [])) name
+
+pub last-is : (m : Moment) (s : Machine) (k tick n : ℕ) (found : List Ahead) → m.tick ≡ tick → next_state m ≡ s
+    → found ≡ map seen_of m.dropped → n ≡ s.done + 1
+    → (end_lines k tick n found ++ run_end_line (rests s) ∷ done_line s.done ∷ ticks_line tick ∷ []) ≡ last_lines k m
+unfolding last_lines
+last-is m s k tick n found is_tick state seen is_n =
+    let number : n ≡ m.scene.machine.done + 1 = is_n ∙ ap (λ d. d + 1) (same-done m s state) in
+    let rest : Machine → ℕ → List (List ℕ) = λ t i. run_end_line (rests t) ∷ done_line t.done ∷ ticks_line i ∷ [] in
+    ap (λ xs. end_lines k tick n xs ++ rest s tick) seen
+    ∙ ap (λ j. end_lines k tick j (map seen_of m.dropped) ++ rest s tick) number
+    ∙ ap (λ t. end_lines k tick (m.scene.machine.done + 1) (map seen_of m.dropped) ++ rest t tick) (sym state)
+    ∙ ap (λ i. end_lines k i (m.scene.machine.done + 1) (map seen_of m.dropped) ++ rest (next_state m) i) (sym is_tick)
+
+pub totals-is : (s : Machine) (resting : Bool) (done tick : ℕ) → resting ≡ rests s → done ≡ s.done
+    → (run_end_line resting ∷ done_line done ∷ ticks_line tick ∷ []) ≡ (run_end_line (rests s) ∷ done_line s.done ∷ ticks_line tick ∷ [])
+totals-is s resting done tick is_rest is_done =
+    ap (λ b. run_end_line b ∷ done_line done ∷ ticks_line tick ∷ []) is_rest
+    ∙ ap (λ d. run_end_line (rests s) ∷ done_line d ∷ ticks_line tick ∷ []) is_done

@@ -1,0 +1,78 @@
+-- One turn of the run.
+use Rattle.std.specs.Prelude.{Bool, if◌then◌else◌, Result, Ok, Err, IsErr}
+use Rattle.std.proofs.Common.{◌≡◌, ◌≢◌, ℕ, ◌+◌, ◌-◌, ◌≤◌, ◌⊎◌, true, false, List, ◌++◌, ◌∙◌, subst, append_assoc, arith}
+use Rattle.st_io.specs.Output.{OutputState}
+use Rattle.st_io.specs.declared.Failed.{Failed}
+use Rattle.st_io.specs.Lines.{WritesLines}
+use Rattle.st_io.proofs.Progress.{LinesSoFar, lines_more, lines_failed, lines_last}
+use Rattle.st_exec.specs.Step.{rests}
+use Rattle.st_run.specs.Moments.{Moment, next_state, standing, next_moment}
+use Rattle.st_account.specs.Text.{begins, segment_lines, segment_after, entry_lines, last_lines, lines_from}
+use Rattle.st_ledger.specs.declared.charges.Stage.{Stage}
+use Rattle.st_ledger.specs.declared.charges.Stage.TheVariants.{Restart, Instruction, Address, Index, Preparing, Operand, Executing}
+use Rattle.st_ledger.specs.declared.totals.Totals.{Totals}
+use Rattle.st_ledger.specs.Charges.{ticks_for}
+use Rattle.st_ledger.specs.Ledger.{entries_from, charges_at, all_charges}
+use Rattle.st_ledger.specs.Totals.{sum_at, AreWithin}
+use Rattle.st_account.proofs.RunLemmas.{lines-end, lines-on, charges-end, charges-on}
+
+module _ (ds : List ℕ) (n left k : ℕ) (m : Moment) (s t : OutputState) (all : List (List ℕ))
+    (so_far : LinesSoFar s t all (lines_from ds n left k m)) where
+  -- the run ends
+  pub run-ends : (u : OutputState) (r : Result (Unit {0}) Failed) → (left ≡ 0) ⊎ (rests (next_state m) ≡ true) → WritesLines t u (last_lines k m) r
+      → WritesLines s u all r
+  run-ends u r end h = lines_last s t u all (last_lines k m) r (subst (LinesSoFar s t all) (lines-end ds n left k m end) so_far) h
+
+  module _ (some : left ≢ 0) (going : rests (next_state m) ≡ false) where
+    abbrev rest : List (List ℕ)
+    rest = lines_from ds n (left - 1) (segment_after k m) (next_moment ds n (standing m))
+
+    both : LinesSoFar s t all (segment_lines k m ++ (entry_lines ds n (standing m) ++ rest))
+    both = subst (LinesSoFar s t all) (lines-on ds n left k m some going ∙ append_assoc (segment_lines k m) (entry_lines ds n (standing m)) rest) so_far
+
+    -- a write fails, of the lines of a border
+    pub border-fails : (u : OutputState) (e : Failed) (r : Result (Unit {0}) Failed) → IsErr r → WritesLines t u (segment_lines k m) (Err e) → WritesLines s u all r
+    border-fails u e r f h = lines_failed s t u all (segment_lines k m) (entry_lines ds n (standing m) ++ rest) r f both h.err
+
+    -- of the lines of an entry
+    pub entry-fails : (u v : OutputState) (x : Unit {0}) (e : Failed) (r : Result (Unit {0}) Failed) → IsErr r → WritesLines t u (segment_lines k m) (Ok x)
+        → WritesLines u v (entry_lines ds n (standing m)) (Err e) → WritesLines s v all r
+    entry-fails u v x e r f h later =
+        lines_failed s u v all (entry_lines ds n (standing m)) rest r f
+        (lines_more s t u all (segment_lines k m) (entry_lines ds n (standing m) ++ rest) both h.ok) later.err
+
+    -- none fails
+    pub turn-made : (u v : OutputState) (x y : Unit {0}) → WritesLines t u (segment_lines k m) (Ok x) → WritesLines u v (entry_lines ds n (standing m)) (Ok y)
+        → LinesSoFar s v all rest
+    turn-made u v x y h later =
+        lines_more s u v all (entry_lines ds n (standing m)) rest
+        (lines_more s t u all (segment_lines k m) (entry_lines ds n (standing m) ++ rest) both h.ok) later.ok
+
+-- ---- numbers of a turn
+
+pub sums-none : (sums : Totals) (s : Stage) (n : ℕ) → AreWithin 0 sums → sum_at s sums + n ≡ n
+sums-none sums Restart n is = omega (arith, is.restart)
+sums-none sums Instruction n is = omega (arith, is.instruction)
+sums-none sums Address n is = omega (arith, is.address)
+sums-none sums Index n is = omega (arith, is.index)
+sums-none sums Preparing n is = omega (arith, is.preparing)
+sums-none sums Operand n is = omega (arith, is.operand)
+sums-none sums Executing n is = omega (arith, is.executing)
+
+after-most : (b : Bool) (k : ℕ) → (if b then k + 1 else k) ≤ k + 1
+after-most true k = omega arith
+after-most false k = omega arith
+
+pub number-next : (k next : ℕ) (m : Moment) (d e : ℕ) → next ≡ segment_after k m → k ≤ d → e ≡ d + 1 → next ≤ e
+number-next k next m d e is few one = omega (arith, is, few, one, after-most (begins k m) k)
+
+pub sums-next : (ds : List ℕ) (n left : ℕ) (m : Moment) (s : Stage) (a b total : ℕ) → left ≢ 0 → rests (next_state m) ≡ false
+    → a + ticks_for s (all_charges ds n (entries_from ds n left m)) ≡ total → b ≡ a + ticks_for s (charges_at ds n (standing m))
+    → b + ticks_for s (all_charges ds n (entries_from ds n (left - 1) (next_moment ds n (standing m)))) ≡ total
+sums-next ds n left m s a b total some going so_far more =
+    let on = charges-on ds n s left m some going in
+    omega (arith, so_far, more, on)
+
+pub sums-end : (ds : List ℕ) (n left : ℕ) (m : Moment) (s : Stage) (a total : ℕ) → (left ≡ 0) ⊎ (rests (next_state m) ≡ true)
+    → a + ticks_for s (all_charges ds n (entries_from ds n left m)) ≡ total → a ≡ total
+sums-end ds n left m s a total end so_far = omega (arith, so_far, charges-end ds n s left m end)

@@ -1,0 +1,232 @@
+-- The reads of the entry that was done last and of those that run ahead, and which of them are made.
+use Rattle.std.specs.Prelude.{Bool, if◌then◌else◌, nat_lt, All}
+use Rattle.std.proofs.Common.{◌≡◌, ℕ, zero, suc, ◌+◌, ◌≤◌, ◌<◌, max, true, false, List, [], ◌++◌, drop, length, length-append, Option, None, Some, refl, sym, ◌∙◌, ap, subst, append_assoc, arith}
+use Rattle.std.proofs.lemmas.Bool.Decides.{nat_tests}
+use Rattle.std.proofs.lemmas.List.{append-nil}
+use Rattle.std.proofs.lemmas.List.Elements.{All-weaker}
+use Rattle.st_banks.specs.declared.answers.LastAnswers.{LastAnswers}
+use Rattle.st_state.specs.Machine.{Machine, IsMachine}
+use Rattle.st_exec.specs.Completion.{guess}
+use Rattle.st_rows.specs.Asked.{Read, formed_asked, prepared_asked, fetches_asked, following_asked, asked, served, made_before, side_count}
+use Rattle.st_rows.specs.Notes.{noted, logged, undone, AreEarly, IsLogged}
+use Rattle.st_rows.specs.Ranges.{AreDelays, IsEntry, IsTight}
+use Rattle.st_rows.specs.Rows.{row, after, fetch_words, wanted_from, tick_a, tick_p, bus_a, operands}
+use Rattle.st_rows.specs.declared.bus.Bus.{Bus}
+use Rattle.st_rows.specs.declared.entry.Entry.{Entry}
+use Rattle.st_rows.specs.declared.fetching.Fetching.{Fetching}
+use Rattle.st_rows.specs.declared.front.Front.{Front}
+use Rattle.st_rows.specs.declared.log.Made.{Made}
+use Rattle.st_rows.proofs.LogLaws.{undone_is_made_before, few_are_undone, logged-noted}
+use Rattle.st_rows.proofs.MadeLemmas.{made-more}
+use Rattle.st_rows.proofs.Parts.{two-parts, at-prepared, served-formed, free-formed}
+use Rattle.st_rows.proofs.Served.{made-bounds, served-append, served-asked, few-words, few-side, few-operands, few-following}
+use Rattle.st_rows.proofs.Tight.{tight-after}
+use Rattle.st_segment.specs.Entries.{entry}
+use Rattle.st_segment.specs.Ahead.{ahead, reads_before}
+use Rattle.st_segment.proofs.EntryRanges.{entry-ranges}
+use Rattle.st_segment.proofs.GuessLemmas.{guess-machine}
+use Rattle.st_plain.specs.Looking.{looked}
+use Rattle.st_plain.proofs.LookLemmas.{row-p}
+use Rattle.st_account.specs.Standing.{HasReads}
+
+-- ---- how many reads an entry has in each part
+
+pub few-prepared : (ds : List ℕ) (n : ℕ) (f : Front) (e : Entry) → IsEntry e → length (prepared_asked ds n f e) ≤ 34
+unfolding following_asked
+few-prepared ds n f e range =
+    let p = tick_p ds n f e in
+    simp length-append
+    (omega (
+      arith,
+      few-operands f.past p e.reads.one.first e.reads.one.len,
+      few-operands f.past p e.reads.two.first e.reads.two.len,
+      few-following e.follows ds (operands ds n f e).bus (e.own.first + e.own.len) p,
+      range.one_few,
+      range.two_few,
+    ))
+
+at-most-one : (side : Option ℕ) → side_count side ≤ 1
+at-most-one None = omega arith
+at-most-one (Some w) = omega arith
+
+few-formed : (ds : List ℕ) (f : Front) (e : Entry) → IsEntry e → length (formed_asked ds f e) ≤ 5
+unfolding fetches_asked
+few-formed ds f e range =
+    let start : Fetching = record { bus = f.bus; answered = 0; awaited = 0 } in
+    let behind = fetch_words ds f.past start (wanted_from f) e.own.first e.own.len in
+    simp length-append
+    (omega (
+      arith,
+      few-words ds f.past (wanted_from f) start e.own.first e.own.len,
+      few-words ds f.past (max (wanted_from f) f.c) behind e.target.first e.target.len,
+      few-side f.past e.side (tick_a ds f e),
+      at-most-one e.side,
+      range.own_few,
+      range.target_few,
+    ))
+
+-- ---- tests of ticks
+
+early-by : (a t : ℕ) → nat_lt a t ≡ true → a < t
+early-by a t is = grind (arith, nat_tests)
+
+late-by : (a t : ℕ) → nat_lt a t ≡ false → t ≤ a
+late-by a t is = grind (arith, nat_tests)
+
+-- ---- reads that are left out are wanted too late
+
+module _ (ds : List ℕ) (n t : ℕ) where
+  made-next : (f : Front) (e : Entry) (xs : List Read) (b : Bus) (rest few : List Read) (c : Bool) → nat_lt (row ds n f e).p t ≡ c
+      → made_before ds t ((xs ++ asked ds n f e) ++ rest) b ≡ made_before ds t ((xs ++ asked ds n f e) ++ few) b
+      → made_before ds t (xs ++ (asked ds n f e ++ (if c then rest else []))) b
+      ≡ made_before ds t (xs ++ (if c then asked ds n f e ++ few else formed_asked ds f e)) b
+  made-next f e xs b rest few true is same =
+      ap (λ reads. made_before ds t reads b) (sym (append_assoc xs (asked ds n f e) rest))
+      ∙ same
+      ∙ ap (λ reads. made_before ds t reads b) (append_assoc xs (asked ds n f e) few)
+  made-next f e xs b rest few false is same =
+      let formed = formed_asked ds f e in
+      let behind = prepared_asked ds n f e in
+      let late = late-by (row ds n f e).p t is in
+      ap (λ reads. made_before ds t (xs ++ reads) b) (append-nil (asked ds n f e) ∙ two-parts ds n f e)
+      ∙ ap (λ reads. made_before ds t reads b) (sym (append_assoc xs formed behind))
+      ∙ made-more ds t (xs ++ formed) behind b
+      (All-weaker (λ (r : Read). r.want ≡ tick_p ds n f e) (λ (r : Read). t ≤ r.want) (λ r h. omega (arith, h, late, row-p ds n f e)) behind
+      (at-prepared ds n f e))
+
+  made-looked : (k : ℕ) (s : Machine) (f : Front) (xs : List Read) (b : Bus)
+      → made_before ds t (xs ++ reads_before ds n t (ahead ds n k None s f)) b ≡ made_before ds t (xs ++ looked ds n t (ahead ds n k None s f)) b
+  unfolding ahead reads_before looked
+  made-looked zero s f xs b = refl
+  made-looked (suc k) s f xs b =
+      let e = entry None s in
+      let list = ahead ds n k None (guess None s) (after ds n f e) in
+      made-next f e xs b (reads_before ds n t list) (looked ds n t list) (nat_lt (row ds n f e).p t) refl
+      (made-looked k (guess None s) (after ds n f e) (xs ++ asked ds n f e) b)
+
+-- ---- few of the others are accepted at the tick or later
+
+-- the reads in two parts: behind the first ones the bus is free by then, and the others are few
+record AreFew (ds : List ℕ) (t : ℕ) (reads : List Read) (b : Bus) : Type 0 where
+  first : List Read
+  rest : List Read
+  parts : reads ≡ first ++ rest
+  few : length rest ≤ 64
+  free : (served ds first b).free ≤ t
+
+module _ (ds : List ℕ) (are : AreDelays 255 ds) (n t : ℕ) (b : Bus) where
+  few-next : (f : Front) (e : Entry) (xs first rest more : List Read) (c : Bool) → IsEntry e → nat_lt (row ds n f e).p t ≡ c
+      → xs ≡ first ++ rest → length rest ≤ 34 → (served ds first b).free ≤ t
+      → ((row ds n f e).p < t → AreFew ds t ((xs ++ asked ds n f e) ++ more) b)
+      → AreFew ds t (xs ++ (if c then asked ds n f e ++ more else formed_asked ds f e)) b
+  few-next f e xs first rest more true range is parts few free next =
+      subst (λ reads. AreFew ds t reads b) (append_assoc xs (asked ds n f e) more) (next (early-by (row ds n f e).p t is))
+  few-next f e xs first rest more false range is parts few free next =
+      let formed = formed_asked ds f e in
+      record {
+        first = first;
+        rest = rest ++ formed;
+        parts = ap (λ l. l ++ formed) parts ∙ append_assoc first rest formed;
+        few = omega (arith, length-append rest formed, few, few-formed ds f e range);
+        free = free;
+      }
+
+  few-looked : (k : ℕ) (s : Machine) (f : Front) (xs first rest : List Read) → IsMachine s → IsTight 255 f → served ds xs b ≡ f.bus
+      → xs ≡ first ++ rest → length rest ≤ 34 → (served ds first b).free ≤ t → AreFew ds t (xs ++ looked ds n t (ahead ds n k None s f)) b
+  unfolding ahead looked
+  few-looked zero s f xs first rest m tight is parts few free = record {
+    first = first;
+    rest = rest;
+    parts = append-nil xs ∙ parts;
+    few = omega (arith, few);
+    free = free;
+  }
+  few-looked (suc k) s f xs first rest m tight is parts few free =
+      let e = entry None s in
+      let f' = after ds n f e in
+      let range = entry-ranges None s m tt in
+      let formed = formed_asked ds f e in
+      let behind = prepared_asked ds n f e in
+      let bus : served ds (xs ++ formed) b ≡ bus_a ds f e =
+      served-append ds xs formed b ∙ ap (served ds formed) is ∙ served-formed ds f e in
+      let after_bus : served ds (xs ++ asked ds n f e) b ≡ f'.bus =
+      served-append ds xs (asked ds n f e) b ∙ ap (served ds (asked ds n f e)) is ∙ served-asked ds n f e in
+      few-next f e xs first rest (looked ds n t (ahead ds n k None (guess None s) f')) (nat_lt (row ds n f e).p t) range refl parts few free
+      (λ early.
+      few-looked k (guess None s) f' (xs ++ asked ds n f e) (xs ++ formed) behind (guess-machine None s m tt)
+      (tight-after 255 ds are n f e range tight) after_bus
+      (ap (λ reads. xs ++ reads) (two-parts ds n f e) ∙ sym (append_assoc xs formed behind)) (few-prepared ds n f e range)
+      (omega (arith, ap (λ (c : Bus). c.free) bus, free-formed 255 ds are n f e range tight, early, row-p ds n f e)))
+
+-- ---- the banks, where the segment ends
+
+module _ (ds : List ℕ) (are : AreDelays 255 ds) (n t : ℕ) (s : Machine) (m : IsMachine s) (f : Front) (tight : IsTight 255 f) (reads : List Read)
+    (start : Bus) (log : List Made) (has : HasReads ds t reads start f.bus log) where
+  ahead_reads : List Read
+  ahead_reads = looked ds n t (ahead ds n (suc n) None s f)
+
+  all : List Read
+  all = reads ++ looked ds n t (ahead ds n (suc n) None s f)
+
+  bus-is : served ds all start ≡ served ds ahead_reads f.bus
+  unfolding all ahead_reads
+  bus-is = served-append ds reads (looked ds n t (ahead ds n (suc n) None s f)) start ∙ ap (served ds (looked ds n t (ahead ds n (suc n) None s f))) has.leaves
+
+  log-is : IsLogged ds t all start (noted ds ahead_reads f.bus log)
+  unfolding all ahead_reads
+  log-is = subst (λ (b : Bus). IsLogged ds t (reads ++ looked ds n t (ahead ds n (suc n) None s f)) start (noted ds (looked ds n t (ahead ds n (suc n) None s f)) b log))
+      has.leaves (logged-noted ds t reads (looked ds n t (ahead ds n (suc n) None s f)) start log has.logged)
+
+  split : AreFew ds t all start
+  unfolding all
+  split = few-looked ds are n t start (suc n) s f reads has.first has.rest m tight has.leaves has.parts has.few has.early
+
+  ticks-are : undone t (noted ds ahead_reads f.bus log) (served ds ahead_reads f.bus).banks.ticks
+      ≡ (made_before ds t (reads ++ reads_before ds n t (ahead ds n (suc n) None s f)) start).banks.ticks
+  unfolding all
+  ticks-are =
+      ap (λ (b : Bus). undone t (noted ds ahead_reads f.bus log) b.banks.ticks) (sym bus-is)
+      ∙ undone_is_made_before ds t all start (noted ds ahead_reads f.bus log) log-is (λ older early.
+      subst (λ (l : List Read). AreEarly t (drop 64 (logged ds l start ++ older))) (sym split.parts)
+      (few_are_undone ds t split.first split.rest start older split.few split.free early))
+      ∙ ap (λ (b : Bus). b.banks.ticks) (sym (made-looked ds n t (suc n) s f reads start))
+
+  module _ (new : List Made) (bus : Bus) (banks : LastAnswers) (logs : new ≡ noted ds (looked ds n t (ahead ds n (suc n) None s f)) f.bus log)
+      (serves : bus ≡ served ds (looked ds n t (ahead ds n (suc n) None s f)) f.bus) (is : banks.ticks ≡ undone t new bus.banks.ticks) where
+    made : banks.ticks ≡ (made_before ds t (reads ++ reads_before ds n t (ahead ds n (suc n) None s f)) start).banks.ticks
+    unfolding ahead_reads
+    made =
+        is
+        ∙ ap (λ (l : List Made). undone t l bus.banks.ticks) logs
+        ∙ ap (λ (c : Bus). undone t (noted ds (looked ds n t (ahead ds n (suc n) None s f)) f.bus log) c.banks.ticks) serves
+        ∙ ticks-are
+
+    pub banks-left : banks ≡ (made_before ds t (reads ++ reads_before ds n t (ahead ds n (suc n) None s f)) start).banks
+    banks-left = let with_ticks : List ℕ → LastAnswers = λ xs. record { ticks = xs } in ap with_ticks made
+
+    pub banks-soon : All (λ x. x ≤ t + 255) banks.ticks
+    banks-soon =
+        let all_reads = reads ++ reads_before ds n t (ahead ds n (suc n) None s f) in
+        let bounds = made-bounds 255 ds are t all_reads start has.near has.free in
+        subst (All (λ x. x ≤ t + 255)) (sym made)
+        (All-weaker (λ x. x ≤ (made_before ds t all_reads start).free + 255) (λ x. x ≤ t + 255) (λ x low. omega (arith, low, bounds.1))
+        (made_before ds t all_reads start).banks.ticks bounds.0.banks)
+
+-- the same of a state and a front that are others' equals
+module _ (ds : List ℕ) (are : AreDelays 255 ds) (n t : ℕ) (s u : Machine) (f g : Front) (m : IsMachine u) (tight : IsTight 255 f) (state : u ≡ s) (front : g ≡ f)
+    (reads : List Read) (start : Bus) (log new : List Made) (bus : Bus) (banks : LastAnswers) (has : HasReads ds t reads start f.bus log)
+    (logs : new ≡ noted ds (looked ds n t (ahead ds n (suc n) None u g)) g.bus log)
+    (serves : bus ≡ served ds (looked ds n t (ahead ds n (suc n) None u g)) g.bus) (is : banks.ticks ≡ undone t new bus.banks.ticks) where
+  logs_at : new ≡ noted ds (looked ds n t (ahead ds n (suc n) None u f)) f.bus log
+  logs_at = logs ∙ ap (λ (h : Front). noted ds (looked ds n t (ahead ds n (suc n) None u h)) h.bus log) front
+
+  serves_at : bus ≡ served ds (looked ds n t (ahead ds n (suc n) None u f)) f.bus
+  serves_at = serves ∙ ap (λ (h : Front). served ds (looked ds n t (ahead ds n (suc n) None u h)) h.bus) front
+
+  pub banks-behind : banks ≡ (made_before ds t (reads ++ reads_before ds n t (ahead ds n (suc n) None s f)) start).banks
+  banks-behind =
+      banks-left ds are n t u m f tight reads start log has new bus banks logs_at serves_at is
+      ∙ ap (λ (v : Machine). (made_before ds t (reads ++ reads_before ds n t (ahead ds n (suc n) None v f)) start).banks) state
+
+  pub soon-behind : All (λ x. x ≤ t + 255) banks.ticks
+  soon-behind = banks-soon ds are n t u m f tight reads start log has new bus banks logs_at serves_at is

@@ -1,0 +1,252 @@
+-- A run as far as it is written.
+use Rattle.std.specs.Prelude.{Bool, nat_lt, nat_eq, not, ◌||◌, map, is_some, is_none, Option, Some}
+use Rattle.std.proofs.lemmas.Bool.{and_parts, not-true}
+use Rattle.std.proofs.lemmas.Bool.Decides.{nat_tests}
+use Rattle.st_rows.specs.Asked.{made_before}
+use Rattle.st_rows.specs.declared.log.Made.{Made}
+use Rattle.std.proofs.Common.{◌≡◌, ◌≢◌, ℕ, zero, suc, ◌+◌, ◌-◌, ◌*◌, ◌^◌, ◌≤◌, ◌⊎◌, inl, inr, true, false, List, [], ◌∷◌, ◌++◌, length, None, refl, sym, ◌∙◌, ap, arith}
+use Rattle.st_bits.specs.declared.limits.TheConstants.{MOST_INSTRUCTIONS}
+use Rattle.st_banks.specs.declared.answers.LastAnswers.{LastAnswers}
+use Rattle.st_state.specs.Machine.{Machine}
+use Rattle.st_exec.specs.Step.{rests, step, interrupt}
+use Rattle.st_card.specs.declared.control_cards.Signal.{Signal}
+use Rattle.st_run.specs.Run.{interlude, stepped, with_due_signals, with_due_orders, with_order_at_rest, with_signals_at_rest, with_wait, and_then, with_reader, with_printer, if_due}
+use Rattle.st_run.specs.Moments.{Moment, Standing, next_scene, next_state, standing, next_row, next_moment, has_card, has_waited, ends_segment}
+use Rattle.st_run.proofs.Bounds.{HasTime}
+use Rattle.st_run.proofs.DoneLemmas.{settled-done}
+use Rattle.st_rows.specs.Rows.{row, after}
+use Rattle.st_segment.specs.Ahead.{ahead, prepared_before, reads_before}
+use Rattle.st_ledger.specs.declared.charges.Stage.{Stage}
+use Rattle.st_ledger.specs.Charges.{ticks_for}
+use Rattle.st_ledger.specs.Ledger.{entries_from, charges_at, all_charges}
+use Rattle.st_ledger.proofs.Runs.{ticks_for-append}
+use Rattle.st_account.specs.Settling.{at_hand}
+use Rattle.st_plain.specs.Looking.{seen_of}
+use Rattle.st_plain.specs.declared.looking.Ahead.{Ahead as Seen}
+use Rattle.st_account.specs.declared.last.Last.{Last}
+use Rattle.st_account.specs.Standing.{guessing, has_due, still_by, IsLast, IsBehind}
+use Rattle.st_account.specs.Text.{segment_lines, segment_after, entry_lines, last_lines, lines_from}
+
+none-is : {A : Type 0} (o : Option A) → is_none o ≡ true → o ≡ None
+none-is None h = refl
+none-is (Some x) h = cc
+
+orders-none : (s : Machine) (xs : List Signal) (cards : List (List ℕ)) → s.reader ≡ None → s.printer ≡ None
+    → (with_due_orders (at_hand s xs cards)).scene ≡ at_hand s xs cards
+unfolding with_due_orders
+orders-none s xs cards reader printer =
+    ap (λ o. (and_then (with_reader (if_due s.done o) (at_hand s xs cards)) (λ d. with_printer (if_due d.machine.done d.machine.printer) d)).scene) reader
+    ∙ ap (λ o. (with_printer (if_due s.done o) (at_hand s xs cards)).scene) printer
+
+not-less : (n : ℕ) → nat_lt n n ≡ false
+not-less n = grind (arith, nat_tests)
+
+due-none : (s : Machine) (xs : List Signal) (cards : List (List ℕ)) → has_due xs s.done ≡ false → with_due_signals s xs cards ≡ at_hand s xs cards
+due-none s [] cards none = refl
+due-none s (x ∷ xs) cards none = rw none refl
+
+rest-none : (s : Machine) (xs : List Signal) (cards : List (List ℕ)) → rests s ≡ false → with_signals_at_rest s xs cards ≡ at_hand s xs cards
+rest-none s [] cards awake = refl
+rest-none s (x ∷ xs) cards awake = rw awake refl
+
+module _ (ds : List ℕ) (n : ℕ) where
+  -- ---- the lines
+
+  pub lines-end : (left k : ℕ) (m : Moment) → (left ≡ 0) ⊎ (rests (next_state m) ≡ true) → lines_from ds n left k m ≡ last_lines k m
+  unfolding lines_from
+  lines-end zero k m end = refl
+  lines-end (suc left) k m (inl none) = let no : ⊥ = omega arith in absurd no
+  lines-end (suc left) k m (inr resting) = rw resting refl
+
+  pub lines-on : (left k : ℕ) (m : Moment) → left ≢ 0 → rests (next_state m) ≡ false
+      → lines_from ds n left k m
+      ≡ (segment_lines k m ++ entry_lines ds n (standing m))
+      ++ lines_from ds n (left - 1) (segment_after k m) (next_moment ds n (standing m))
+  unfolding lines_from
+  lines-on zero k m some going = absurd (some refl)
+  lines-on (suc left) k m some going =
+      let one : left ≡ suc left - 1 = omega arith in
+      rw going
+      (ap (λ j. (segment_lines k m ++ entry_lines ds n (standing m)) ++ lines_from ds n j (segment_after k m) (next_moment ds n (standing m))) one)
+
+  -- ---- the charges
+
+  pub charges-end : (s : Stage) (left : ℕ) (m : Moment) → (left ≡ 0) ⊎ (rests (next_state m) ≡ true)
+      → ticks_for s (all_charges ds n (entries_from ds n left m)) ≡ 0
+  unfolding entries_from all_charges ticks_for
+  charges-end s zero m end = refl
+  charges-end s (suc left) m (inl none) = let no : ⊥ = omega arith in absurd no
+  charges-end s (suc left) m (inr resting) = rw resting refl
+
+  pub charges-on : (s : Stage) (left : ℕ) (m : Moment) → left ≢ 0 → rests (next_state m) ≡ false
+      → ticks_for s (all_charges ds n (entries_from ds n left m))
+      ≡ ticks_for s (charges_at ds n (standing m)) + ticks_for s (all_charges ds n (entries_from ds n (left - 1) (next_moment ds n (standing m))))
+  unfolding entries_from all_charges
+  charges-on s zero m some going = absurd (some refl)
+  charges-on s (suc left) m some going =
+      let one : left ≡ suc left - 1 = omega arith in
+      rw going
+      (ticks_for-append s (charges_at ds n (standing m)) (all_charges ds n (entries_from ds n left (next_moment ds n (standing m))))
+      ∙ ap (λ j. ticks_for s (charges_at ds n (standing m)) + ticks_for s (all_charges ds n (entries_from ds n j (next_moment ds n (standing m))))) one)
+
+-- ---- what came behind a moment
+
+module _ (m : Moment) (s t : Machine) (xs ys : List Signal) (ps qs : List (List ℕ)) (scene : m.scene ≡ at_hand s xs ps)
+    (came : (interlude (at_hand s xs ps)).scene ≡ at_hand t ys qs) where
+  pub next-scene : next_scene m ≡ at_hand t ys qs
+  next-scene = ap (λ c. (interlude c).scene) scene ∙ came
+
+  pub next-machine : next_state m ≡ t
+  next-machine = ap (λ c. c.machine) next-scene
+
+  pub same-done : t.done ≡ s.done
+  same-done = ap (λ c. c.machine.done) (sym came) ∙ settled-done (at_hand s xs ps)
+
+  pub seen-dropped : (ds : List ℕ) (n : ℕ) (l : Last) (log : List Made) (found : List Seen) → IsLast ds n m l log
+      → found ≡ map seen_of (prepared_before l.tick (ahead ds n n None (guessing l.ic s) l.front)) → found ≡ map seen_of m.dropped
+  seen-dropped ds n l log found is seen =
+      seen
+      ∙ ap (λ c. map seen_of (prepared_before l.tick (ahead ds n n None (guessing l.ic c.machine) l.front))) (sym scene)
+      ∙ ap (map seen_of) (sym is.dropped)
+
+  pub behind-is : (ds : List ℕ) (n : ℕ) (l : Last) (log : List Made) (found : List Seen) (banks : LastAnswers) (card waited looks : Bool) (is : IsLast ds n m l log)
+      → (looks ≡ true → found ≡ map seen_of (prepared_before l.tick (ahead ds n n None (guessing l.ic s) l.front)))
+      → (looks ≡ true → banks ≡ (made_before ds l.tick
+      (is.reads ++ reads_before ds n l.tick (ahead ds n (suc n) None (guessing l.ic s) l.front)) is.bus).banks)
+      → (ends_segment m ≡ true → looks ≡ true)
+      → card ≡ nat_lt (length qs) (length ps) → waited ≡ rests (with_due_orders (with_due_signals s xs ps)).scene.machine
+      → IsBehind m t l found banks card waited
+  behind-is ds n l log found banks card waited looks is seen held ends is_card is_waited = record {
+    tick = is.tick;
+    front = is.front;
+    missed = is.missed;
+    dropped = λ e. seen-dropped ds n l log found is (seen (ends e));
+    banks = λ e.
+        held (ends e)
+        ∙ ap (λ c. (made_before ds l.tick
+        (is.reads ++ reads_before ds n l.tick (ahead ds n (suc n) None (guessing l.ic c.machine) l.front)) is.bus).banks) (sym scene)
+        ∙ sym is.banks;
+    state = next-machine;
+    card =
+        is_card
+        ∙ ap (λ c. nat_lt (length c.cards) (length ps)) (sym next-scene)
+        ∙ ap (λ c. nat_lt (length (next_scene m).cards) (length c.cards)) (sym scene);
+    waited = is_waited ∙ ap (λ c. rests (with_due_orders (with_due_signals c.machine c.signals c.cards)).scene.machine) (sym scene);
+  }
+
+-- ---- where nothing comes
+
+module _ (s : Machine) (missed : Bool) (xs : List Signal) (still : still_by s missed xs ≡ true) where
+  record Parts : Type 0 where
+    right : missed ≡ false
+    no_signal : has_due xs s.done ≡ false
+    reader_free : s.reader ≡ None
+    printer_free : s.printer ≡ None
+    no_waiting : s.waiting ≡ false
+    none_taken : interrupt s ≡ None
+
+  parts : Parts
+  parts =
+      let a = and_parts _ _ still in
+      let b = and_parts _ _ a.0 in
+      let c = and_parts _ _ b.0 in
+      let d = and_parts _ _ c.0 in
+      let e = and_parts _ _ d.0 in
+      record {
+        right = not-true missed e.0;
+        no_signal = not-true (has_due xs s.done) e.1;
+        reader_free = none-is s.reader d.1;
+        printer_free = none-is s.printer c.1;
+        no_waiting = not-true s.waiting b.1;
+        none_taken = none-is (interrupt s) a.1;
+      }
+
+  signals-still : (cards : List (List ℕ)) → with_due_signals s xs cards ≡ at_hand s xs cards
+  signals-still cards = due-none s xs cards parts.no_signal
+
+  orders-still : (cards : List (List ℕ)) → (with_due_orders (at_hand s xs cards)).scene ≡ at_hand s xs cards
+  orders-still cards = orders-none s xs cards parts.reader_free parts.printer_free
+
+  awake : rests s ≡ false
+  awake = rw parts.no_waiting refl
+
+  wait-still : (cards : List (List ℕ)) → (with_wait (at_hand s xs cards)).scene ≡ at_hand s xs cards
+  unfolding with_wait with_order_at_rest
+  wait-still cards = rw (awake, awake) (rest-none s xs cards awake)
+
+  interlude-still : (cards : List (List ℕ)) → (interlude (at_hand s xs cards)).scene ≡ at_hand s xs cards
+  unfolding interlude
+  interlude-still cards =
+      ap (λ c. (with_wait (with_due_orders c).scene).scene) (signals-still cards)
+      ∙ ap (λ c. (with_wait c).scene) (orders-still cards)
+      ∙ wait-still cards
+
+  module _ (m : Moment) (cards : List (List ℕ)) (scene : m.scene ≡ at_hand s xs cards) (guessed : m.missed ≡ missed) where
+    same : next_scene m ≡ at_hand s xs cards
+    same = ap (λ c. (interlude c).scene) scene ∙ interlude-still cards
+
+    pub going-still : rests (next_state m) ≡ false
+    going-still = ap (λ c. rests c.machine) same ∙ awake
+
+    no_wait : has_waited m ≡ false
+    no_wait =
+        ap (λ c. rests (with_due_orders (with_due_signals c.machine c.signals c.cards)).scene.machine) scene
+        ∙ ap (λ c. rests (with_due_orders c).scene.machine) (signals-still cards)
+        ∙ ap (λ c. rests c.machine) (orders-still cards)
+        ∙ awake
+
+    no_card : has_card m ≡ false
+    no_card =
+        ap (λ c. nat_lt (length c.cards) (length m.scene.cards)) same
+        ∙ ap (λ c. nat_lt (length cards) (length c.cards)) scene
+        ∙ not-less (length cards)
+
+    no_interrupt : is_some (interrupt (next_state m)) ≡ false
+    no_interrupt = ap (λ c. is_some (interrupt c.machine)) same ∙ ap is_some parts.none_taken
+
+    pub no-end : ends_segment m ≡ false
+    unfolding ends_segment
+    no-end = rw (guessed, parts.right, no_card, no_wait, no_interrupt) refl
+
+-- where a segment ends, it is looked at what ran ahead
+pub end-looks : (left : ℕ) (s : Machine) (xs : List Signal) (cards : List (List ℕ)) (m : Moment) (missed still looks : Bool)
+    → m.scene ≡ at_hand s xs cards → m.missed ≡ missed
+    → still ≡ still_by s missed xs → looks ≡ (nat_eq left 0 || not still) → ends_segment m ≡ true → looks ≡ true
+end-looks left s xs cards m missed true looks scene guessed is_still is_looks ends =
+    let no : true ≡ false = sym ends ∙ no-end s missed xs (sym is_still) m cards scene guessed in absurd (cc)
+end-looks left s xs cards m missed false looks scene guessed is_still is_looks ends = is_looks ∙ or-true (nat_eq left 0)
+  where
+    or-true : (b : Bool) → (b || true) ≡ true
+    or-true true = refl
+    or-true false = refl
+
+-- and so where the run ends
+pub rest-looks : (left : ℕ) (s : Machine) (xs : List Signal) (cards : List (List ℕ)) (m : Moment) (missed still looks : Bool)
+    → m.scene ≡ at_hand s xs cards → m.missed ≡ missed
+    → still ≡ still_by s missed xs → looks ≡ (nat_eq left 0 || not still) → (left ≡ 0) ⊎ (rests (next_state m) ≡ true) → looks ≡ true
+rest-looks left s xs cards m missed still looks scene guessed is_still is_looks (inl none) = is_looks ∙ rw none refl
+rest-looks left s xs cards m missed true looks scene guessed is_still is_looks (inr resting) =
+    let no : true ≡ false = sym resting ∙ going-still s missed xs (sym is_still) m cards scene guessed in absurd (cc)
+rest-looks left s xs cards m missed false looks scene guessed is_still is_looks (inr resting) = is_looks ∙ or-true (nat_eq left 0)
+  where
+    or-true : (b : Bool) → (b || true) ≡ true
+    or-true true = refl
+    or-true false = refl
+
+-- the scene behind the next entry
+pub next-stepped : (ds : List ℕ) (n : ℕ) (m : Moment) (t u : Machine) (ys : List Signal) (qs : List (List ℕ)) → next_scene m ≡ at_hand t ys qs
+    → u ≡ step t → (next_moment ds n (standing m)).scene ≡ at_hand u ys qs
+unfolding next_moment
+next-stepped ds n m t u ys qs scene made = ap stepped scene ∙ ap (λ w. at_hand w ys qs) (sym made)
+
+-- the front of a moment is that of the entry that was done then
+pub next-at : (ds : List ℕ) (n : ℕ) (p : Standing) → (next_moment ds n p).front.c ≡ (next_moment ds n p).tick
+unfolding next_moment next_row row after
+next-at ds n p = refl
+
+-- no tick is too late
+pub early-tick : (m : Moment) (t d : ℕ) → m.tick ≡ t → HasTime (64 * (255 + 4)) m.tick m.scene.machine → m.scene.machine.done ≡ d → d ≤ MOST_INSTRUCTIONS
+    → t ≤ 2 ^ 40
+early-tick m t d is time same few =
+    let bound : m.tick ≤ 16576 * m.scene.machine.done = time in
+    omega (arith, bound, is, same, few)

@@ -1,0 +1,9 @@
+use Rattle.st_io.proofs.Progress.{lines_then, lines_cut}
+use Rattle.st_account.proofs.writing.write_border.Goals as goal
+
+pub returns-in_err-write_ended : goal.returns-in_err-write_ended
+returns-in_err-write_ended g c =
+    lines_cut _ _ _ _ _ c.from_residual.result c.from_residual.ensures.0 c.in_err-write_ended.ensures
+
+pub returns : goal.returns
+returns g c = lines_then _ _ _ _ _ _ _ c.in_ok-write_ended.ensures c.write_begun.ensures

@@ -1,0 +1,93 @@
+-- What the program writes of a job, and what each of its answers says.
+use Rattle.std.specs.Prelude.{◌≡◌, ℕ, ◌-◌, ◌&&◌, nat_le, if◌then◌else◌, List, [], ◌∷◌, Option, None, Some, Result, Ok, Err}
+use Rattle.st_io.specs.Count.{HasRisen}
+use Rattle.st_io.specs.Input.{InputState, CameWhole, CameWithin, CamePast}
+use Rattle.st_io.specs.Output.{OutputState, Wrote}
+use Rattle.st_io.specs.Lines.{text, StoppedIn}
+use Rattle.st_card.specs.Faults.{name_of}
+use Rattle.st_asm.specs.Pass.{Refusal}
+use Rattle.st_asm.specs.Assembly.{Assembly, assembly}
+use Rattle.st_state.specs.Machine.{opening}
+use Rattle.st_exch.specs.Reader.{reader_cards}
+use Rattle.st_run.specs.Run.{Scene}
+use Rattle.st_report.specs.Line.{fault_line}
+use Rattle.st_account.specs.Settling.{at_hand}
+use Rattle.st_account.specs.Text.{ledger}
+use Rattle.st_account.specs.declared.status.Status.{Status}
+use Rattle.st_account.specs.declared.status.Status.TheVariants.{Done, Refused, Usage, JobTooLong, ReadFault, WriteFault, NoMemory}
+
+-- ---- words
+
+-- the number of levels that a digit is, 1 to 8
+abbrev pub levels_by : ℕ → Option ℕ
+levels_by c = if nat_le 49 c && nat_le c 56 then Some (c - 48) else None
+
+-- the number of levels that the words of a command line mean: four where there is no word
+abbrev pub levels_of : List (List ℕ) → Option ℕ
+levels_of [] = Some 4
+levels_of ([] ∷ []) = None
+levels_of ((c ∷ []) ∷ []) = levels_by c
+levels_of ((c ∷ b ∷ bs) ∷ []) = None
+levels_of (word ∷ more ∷ words) = None
+
+-- ---- jobs
+
+-- the longest job, in bytes
+abbrev pub job_limit : ℕ
+job_limit = 2000000
+
+-- the start of the run of a job that is assembled: the machine, the signals that are asked for, and the cards of the job's reader
+abbrev pub start_of : List ℕ → Assembly → Scene
+start_of job a = at_hand (opening a.image a.start) a.asked.signals (reader_cards job)
+
+-- the lines of a job, by what it gives: its ledger, or the first card that is refused
+abbrev pub lines_by : ℕ → List ℕ → Result Assembly Refusal → List (List ℕ)
+lines_by n job (Ok a) = ledger a.asked.delays n a.asked.budget (start_of job a)
+lines_by n job (Err r) = fault_line r.card (name_of r.fault) ∷ []
+
+unfoldable pub lines_of : ℕ → List ℕ → List (List ℕ)
+lines_of n job = lines_by n job (assembly job)
+
+-- the status once they are written
+abbrev pub status_by : Result Assembly Refusal → Status
+status_by (Ok a) = Done
+status_by (Err r) = Refused
+
+unfoldable pub status_of : List ℕ → Status
+status_of job = status_by (assembly job)
+
+-- ---- answers
+
+-- how lines were written, by the status: wholly; or up to a write that failed; or not at all, for want of memory
+abbrev pub Writes : Status → OutputState → OutputState → List (List ℕ) → Status → Type 0
+Writes Done before after lines status = Wrote before after (text lines) × (status ≡ Done)
+Writes Refused before after lines status = Wrote before after (text lines) × (status ≡ Refused)
+Writes WriteFault before after lines status = StoppedIn before after lines
+Writes NoMemory before after lines status = after ≡ before
+Writes Usage before after lines status = ⊥
+Writes JobTooLong before after lines status = ⊥
+Writes ReadFault before after lines status = ⊥
+
+-- a job was read whole, and its lines written
+pub record WroteLines (n : ℕ) (status : Status) (input input' : InputState) (before after : OutputState) : Type 0 where
+  pub job : List ℕ
+  pub read : CameWhole input input' job_limit job
+  pub written : Writes status before after (lines_of n job) (status_of job)
+
+-- what a call did to its source and its sink on a machine of n levels, by the status
+abbrev pub Did : ℕ → Status → InputState → InputState → OutputState → OutputState → Type 0
+Did n Done input input' before after = WroteLines n Done input input' before after
+Did n Refused input input' before after = WroteLines n Refused input input' before after
+Did n WriteFault input input' before after = WroteLines n WriteFault input input' before after
+Did n JobTooLong input input' before after =
+    CamePast input input' job_limit × (input'.faults ≡ input.faults) × (after ≡ before)
+Did n ReadFault input input' before after =
+    CameWithin input input' job_limit × HasRisen input.faults input'.faults × (after ≡ before)
+Did n NoMemory input input' before after =
+    CameWithin input input' job_limit × (input'.faults ≡ input.faults) × (after ≡ before)
+Did n Usage input input' before after = ⊥
+
+-- what a call did, by the meaning of its words: words that mean nothing touch neither source nor sink
+abbrev pub IsAnswer : Option ℕ → Status → InputState → InputState → OutputState → OutputState → Type 0
+IsAnswer None status input input' before after = (status ≡ Usage) × (input' ≡ input) × (after ≡ before)
+IsAnswer (Some n) status input input' before after = Did n status input input' before after

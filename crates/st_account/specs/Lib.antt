@@ -1,0 +1,5 @@
+pub mod Lines
+pub mod Text
+pub mod Answers
+pub mod Standing
+pub mod Settling

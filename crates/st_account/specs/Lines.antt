@@ -1,0 +1,52 @@
+-- The bytes of the lines of a ledger that tell of the machine and of segments, each with its line end.
+use Rattle.std.specs.Prelude.{ℕ, Bool, List, [], ◌∷◌, ◌++◌, codes, decimal, take, drop, length, zero, suc}
+use Rattle.st_text.specs.Bytes.{lf}
+use Rattle.st_text.specs.Numerals.{half_address, flag}
+use Rattle.st_rows.specs.declared.front.Row.{Row}
+use Rattle.st_account.specs.declared.lines.Why.{Why}
+use Rattle.st_account.specs.declared.lines.Why.TheVariants.{Run, Interrupt, Missed, Card}
+
+-- the machine has n levels
+abbrev pub levels_line : ℕ → List ℕ
+levels_line n = codes "LEVELS " ++ decimal n ++ lf
+
+-- numbers, each behind a blank
+unfoldable pub numbers : List ℕ → List ℕ
+numbers [] = []
+numbers (n ∷ ns) = codes " " ++ decimal n ++ numbers ns
+
+-- some delays
+unfoldable pub delays_line : List ℕ → List ℕ
+delays_line ds = codes "DELAYS" ++ numbers ds ++ lf
+
+-- all of them, ten in a line; k bounds the number of lines
+unfoldable pub delays_by : ℕ → List ℕ → List (List ℕ)
+delays_by zero ds = []
+delays_by (suc k) [] = []
+delays_by (suc k) (d ∷ ds) = delays_line (take 10 (d ∷ ds)) ∷ delays_by k (drop 10 (d ∷ ds))
+
+abbrev pub delays_lines : List ℕ → List (List ℕ)
+delays_lines ds = delays_by (length ds) ds
+
+-- why a segment begins
+abbrev pub why_text : Why → List ℕ
+why_text Run = codes "RUN"
+why_text (Interrupt i) = codes "INTERRUPT " ++ decimal i
+why_text Missed = codes "MISSED"
+why_text Card = codes "CARD"
+
+-- the segment k starts at a tick, where the machine had waited before or not
+abbrev pub start_line : ℕ → ℕ → Bool → Why → List ℕ
+start_line k tick waited why =
+    codes "SEGMENT " ++ decimal k ++ codes " START " ++ decimal tick ++ codes " WAITED " ++ flag waited
+    ++ codes " BY " ++ why_text why ++ lf
+
+-- it ends at a tick
+abbrev pub end_line : ℕ → ℕ → List ℕ
+end_line k tick = codes "SEGMENT " ++ decimal k ++ codes " END " ++ decimal tick ++ lf
+
+-- the n-th entry, at an address, ran ahead and is dropped
+abbrev pub drop_line : ℕ → ℕ → Row → List ℕ
+drop_line n address row =
+    codes "DROP " ++ decimal n ++ codes " " ++ half_address address
+    ++ codes " A " ++ decimal row.a ++ codes " P " ++ decimal row.p ++ codes " R " ++ decimal row.r ++ lf

@@ -1,0 +1,253 @@
+//! The program: a job in, its ledger out.
+ghost use Rattle.std.specs.Prelude.{◌≡◌, ◌↔◌, ◌≤◌, ◌<◌, ◌^◌, ◌∷◌, ℕ, [], IfOk, IfSome, None, Ok, All, map, length, slice_index};
+ghost use Rattle.std.specs.String.{string_bytes};
+ghost use Rattle.st_bits.specs.Storage.{words_of_storage};
+ghost use Rattle.st_bits.specs.declared.register.TheConstants.{FIRST_STORAGE_WORD};
+ghost use Rattle.st_asm.specs.Assembly.{shown, assembly};
+ghost use Rattle.st_asm.specs.Sound.{IsSound};
+ghost use Rattle.st_card.specs.Cards.{cards_of};
+ghost use Rattle.st_card.specs.Faults.{name_of};
+ghost use Rattle.st_card.specs.Limits.{IsWithinLimits};
+ghost use Rattle.st_exch.specs.Reader.{reader_cards};
+ghost use Rattle.st_io.specs.Lines.{WritesLines};
+ghost use Rattle.st_report.specs.Line.{fault_line};
+ghost use Rattle.st_run.specs.Scenes.{IsCard};
+ghost use Rattle.st_state.specs.Machine.{opening};
+ghost use Rattle.st_account.specs.Answers.{levels_by, levels_of, lines_by, status_by, lines_of, status_of, Writes, Did, IsAnswer};
+
+use crate::running::write_ledger;
+use crate::status::Status;
+use crate::writing::put;
+use st_asm::{AsmError, Assembled, assemble_cards};
+use st_banks::Delays;
+use st_bits::NoMemory;
+use st_card::{Card, Controls, Fault, Signal, split};
+use st_exch::Hopper;
+use st_io::{Failed, ReadError, Sink, Source, read_all};
+use st_report::line_fault;
+use st_state::State;
+use std::alloc::Global;
+
+// The longest job, in bytes.
+const JOB_LIMIT: u32 = 2_000_000;
+
+// The number of levels where no word says it.
+const LEVELS: u8 = 4;
+
+// The number of levels that a digit is.
+fn levels_by(c: u8) -> Option<u8>
+    ensures value { result ≡ levels_by c }
+    ensures range { IfSome result (λ n. (1 ≤ n) × (n ≤ 8)) }
+{
+    if b'1' <= c && c <= b'8' {
+        Some(c - b'0')
+    } else {
+        None
+    }
+}
+
+// The number of levels that the words mean.
+fn read_words(words: &[String]) -> Option<u8>
+    ensures value { result ≡ levels_of (map string_bytes words.now) }
+    ensures range { IfSome result (λ n. (1 ≤ n) × (n ≤ 8)) }
+{
+    match words {
+        [] => Some(LEVELS),
+        [word] => match word.as_bytes() {
+            [c] => levels_by(*c),
+            _ => None,
+        },
+        _ => None,
+    }
+}
+
+// Writes the line of a card that is refused.
+fn write_refusal<K: Sink>(out: &mut K, card: u32, fault: Fault) -> Result<(), Failed>
+    ensures { WritesLines (K.output out.old) (K.output out.new)
+        (fault_line card (name_of fault) ∷ []) result }
+{
+    put(out, &line_fault(card, &fault.name()))
+}
+
+// Refuses a job at a card.
+fn refuse<K: Sink>(out: &mut K, card: u32, fault: Fault) -> Status
+    ensures { Writes result (K.output out.old) (K.output out.new)
+        (fault_line card (name_of fault) ∷ []) Status.Refused }
+{
+    match write_refusal(out, card, fault) {
+        Ok(()) => Status::Refused,
+        Err(_) => Status::WriteFault,
+    }
+}
+
+// The signals that are asked for.
+fn signals(controls: &Controls) -> &[Signal]
+    ensures { result.now ≡ controls.now.signals }
+{
+    controls.signals.as_slice()
+}
+
+// The delays of storage that are asked for.
+fn list(controls: &Controls) -> &[u8]
+    ensures { result.now ≡ controls.now.delays }
+{
+    controls.delays.as_slice()
+}
+
+// The most instructions of a run.
+fn budget(controls: &Controls) -> u64
+    ensures { result ≡ controls.now.budget }
+{
+    controls.budget
+}
+
+// The delays of storage that are asked for, ready for use.
+fn delays(alloc: Global, controls: &Controls) -> Result<Delays, NoMemory>
+    requires some { 1 ≤ length controls.now.delays }
+    requires limits { IsWithinLimits controls.now }
+    ensures { IfOk result (λ delays. delays ≡ controls.now.delays) }
+{
+    match Delays::new(alloc, controls.delays.as_slice()) {
+        Ok(delays) => Ok(delays),
+        Err(_) => Err(NoMemory),
+    }
+}
+
+// The reader of a job with these cards; its cards have eight words.
+fn reader(alloc: Global, job: &[u8], cards: &[Card]) -> Result<Hopper, NoMemory>
+    requires { cards.now ≡ cards_of job.now }
+    ensures value { IfOk result (λ hopper. hopper ≡ reader_cards job.now) }
+    ensures shape { IfOk result (All IsCard) }
+{
+    Hopper::of_cards(alloc, job, cards)
+}
+
+// A run that is ready to be written.
+#[derive(Drop)]
+struct Ready {
+    state: State,
+    hopper: Hopper,
+    delays: Delays,
+}
+
+// Takes all memory of a run.
+fn prepare(
+    alloc: Global,
+    job: &[u8],
+    cards: &[Card],
+    image: &[u64],
+    start: u32,
+    controls: &Controls,
+) -> Result<Ready, NoMemory>
+    requires cards { cards.now ≡ cards_of job.now }
+    requires whole { length image.now ≡ words_of_storage }
+    requires registers { (w : ℕ) → w < FIRST_STORAGE_WORD → slice_index image.now w ≡ 0 }
+    requires counter { start < 2 ^ 19 }
+    requires limits { IsWithinLimits controls.now }
+    requires delays { 1 ≤ length controls.now.delays }
+    ensures state { IfOk result (λ r. r.state ≡ opening image.now start) }
+    ensures reader { IfOk result (λ r. r.hopper ≡ reader_cards job.now) }
+    ensures cards { IfOk result (λ r. All IsCard r.hopper) }
+    ensures delays { IfOk result (λ r. r.delays ≡ controls.now.delays) }
+{
+    Ok(Ready {
+        state: State::new(alloc, image, start)?,
+        hopper: reader(alloc, job, cards)?,
+        delays: delays(alloc, controls)?,
+    })
+}
+
+// Writes the ledger of a job that is assembled, or says why it does not.
+fn run_program<K: Sink>(
+    alloc: Global,
+    n: u8,
+    job: &[u8],
+    cards: &[Card],
+    program: &Assembled,
+    out: &mut K,
+) -> Status
+    requires levels { (1 ≤ n) × (n ≤ 8) }
+    requires cards { cards.now ≡ cards_of job.now }
+    requires sound { IsSound (length (cards_of job.now)) (shown program.now) }
+    ensures { Writes result (K.output out.old) (K.output out.new)
+        (lines_by n job.now (Ok (shown program.now))) Status.Done }
+{
+    let controls = &program.controls;
+    let image = program.image.as_slice();
+    let Ok(ready) = prepare(alloc, job, cards, image, program.start, controls) else {
+        return Status::NoMemory;
+    };
+    let Ready {
+        mut state,
+        mut hopper,
+        delays,
+    } = ready;
+    let written = write_ledger(
+        out,
+        &mut state,
+        signals(controls),
+        &mut hopper,
+        list(controls),
+        &delays,
+        n,
+        budget(controls),
+    );
+    match written {
+        Ok(()) => Status::Done,
+        Err(_) => Status::WriteFault,
+    }
+}
+
+// Writes the ledger of a job that was read, or says why it does not.
+#[tactic(auto, unfolding(crate::specs::Answers::lines_of, crate::specs::Answers::status_of))]
+fn run_job<K: Sink>(alloc: Global, n: u8, job: &[u8], out: &mut K) -> Status
+    requires levels { (1 ≤ n) × (n ≤ 8) }
+    requires short { length job.now < 2 ^ 32 }
+    ensures { Writes result (K.output out.old) (K.output out.new) (lines_of n job.now) (status_of job.now) }
+{
+    let Ok(cards) = split(alloc, job) else {
+        return Status::NoMemory;
+    };
+    let deck = cards.as_slice();
+    match assemble_cards(alloc, job, deck) {
+        Ok(program) => run_program(alloc, n, job, deck, &program, out),
+        Err(AsmError::Refused { card, fault }) => refuse(out, card, fault),
+        Err(AsmError::NoMemory) => Status::NoMemory,
+    }
+}
+
+// Reads a job and writes its ledger, or says why it does not.
+fn run_levels<S: Source, K: Sink>(alloc: Global, n: u8, job: &mut S, out: &mut K) -> Status
+    requires levels { (1 ≤ n) × (n ≤ 8) }
+    ensures { Did n result
+        (S.input job.old) (S.input job.new) (K.output out.old) (K.output out.new) }
+{
+    match read_all(alloc, job, JOB_LIMIT) {
+        Ok(text) => run_job(alloc, n, text.as_slice(), out),
+        Err(ReadError::TooLong) => Status::JobTooLong,
+        Err(ReadError::Failed) => Status::ReadFault,
+        Err(ReadError::NoMemory) => Status::NoMemory,
+    }
+}
+
+/// Writes the ledger of a job of at most 2,000,000 bytes. The words of the command line, after the program's name, are none, for a
+/// machine of 4 levels, or one digit from 1 to 8, the number of levels. Each line is written by itself, and all memory is taken
+/// before the first one. `docs/ledger.md` has the rules.
+pub fn ledger<S: Source, K: Sink>(
+    alloc: Global,
+    words: &[String],
+    job: &mut S,
+    out: &mut K,
+) -> Status
+    // By the meaning of the words and the status: what was read, and exactly what was written.
+    ensures answer { IsAnswer (levels_of (map string_bytes words.now)) result
+        (S.input job.old) (S.input job.new) (K.output out.old) (K.output out.new) }
+
+    // The answer is a bad command line exactly where the words mean nothing.
+    ensures usage { result ≡ Status.Usage ↔ levels_of (map string_bytes words.now) ≡ None }
+{
+    match read_words(words) {
+        Some(n) => run_levels(alloc, n, job, out),
+        None => Status::Usage,
+    }
+}

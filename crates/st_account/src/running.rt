@@ -1,0 +1,386 @@
+//! The run, line by line.
+ghost use Rattle.std.specs.Prelude.{◌≡◌, ℕ, ◌+◌, ◌*◌, ◌<◌, ◌≤◌, ◌^◌, ◌∷◌, ◌++◌, ◌||◌, not, nat_eq, [], if◌then◌else◌, is_some, length, map, All, IfSome, IfOk, IsOk};
+ghost use Rattle.std.specs.List.{AllPass};
+ghost use Rattle.st_bits.specs.declared.limits.TheConstants.{MOST_INSTRUCTIONS};
+ghost use Rattle.st_card.specs.Limits.{is_signal};
+ghost use Rattle.st_prep.specs.Plan.{plan as plan_of};
+ghost use Rattle.st_prep.specs.Ranges.{IsPrepared};
+ghost use Rattle.st_exec.specs.Completion.{executed, guess as guess_of, is_missed as is_missed_of};
+ghost use Rattle.st_exec.specs.Step.{step as step_of};
+ghost use Rattle.st_io.specs.Lines.{WritesLines};
+ghost use Rattle.st_rows.specs.Asked.{asked as asked_of};
+ghost use Rattle.st_rows.specs.Notes.{noted};
+ghost use Rattle.st_rows.specs.Ranges.{IsTight};
+ghost use Rattle.st_rows.specs.Rows.{row as row_of, after as after_of};
+ghost use Rattle.st_segment.specs.Entries.{entry as entry_of};
+ghost use Rattle.st_run.specs.Scenes.{IsCard};
+ghost use Rattle.st_run.specs.Moments.{Moment, Standing, start as start_of, next_state, next_front, next_moment};
+ghost use Rattle.st_ledger.specs.Ledger.{charges_at, entries_from, all_charges};
+ghost use Rattle.st_ledger.specs.declared.charges.Stage.{Stage};
+ghost use Rattle.st_ledger.specs.Charges.{ticks_for};
+ghost use Rattle.st_ledger.specs.Totals.{sum_at, AreWithin};
+ghost use Rattle.st_plain.specs.Looking.{seen_of};
+ghost use Rattle.st_account.specs.Settling.{at_hand};
+ghost use Rattle.st_account.specs.Text.{why_by, segment_after, segment_lines, entry_lines, last_lines, lines_from, ledger};
+ghost use Rattle.st_account.specs.Standing.{guessing, has_due, still_by, without, IsLast, IsStanding, IsBehind};
+ghost use Rattle.st_account.specs.declared.lines.Why.TheVariants.{Run as RunBegins};
+
+use crate::last::{Last, at_start, look_if, open_if, put_past};
+use crate::lines::Why;
+use crate::settling::settle;
+use crate::writing::{Border, write_border, write_end, write_machine, write_totals};
+use st_banks::{Delays, LastAnswers};
+use st_card::Signal;
+use st_exch::Hopper;
+use st_exec::{complete_in, interrupt, is_at_rest, is_missed, next_address};
+use st_io::{Failed, Sink};
+use st_ledger::{Totals, write_row, write_sums};
+use st_plain::{Aheads, entry, next_row};
+use st_prep::{Prepared, plan};
+use st_rows::{Log, Past, Row};
+use st_run::plain::{printer_is_free, reader_is_free};
+use st_state::State;
+
+// Why a segment begins: the run does, or an interrupt is taken, a guess was wrong, or else a card came.
+fn why_of(first: bool, taken: Option<u8>, missed: bool) -> Why
+    ensures { result ≡ (if first then RunBegins else why_by taken missed) }
+{
+    if first {
+        return Why::Run;
+    }
+    match taken {
+        Some(i) => Why::Interrupt(i),
+        None => { if missed { Why::Missed } else { Why::Card } }
+    }
+}
+
+// Whether a segment ends.
+fn is_end(missed: bool, card: bool, waited: bool, taken: Option<u8>) -> bool
+    ensures { result ≡ (missed || card || waited || is_some taken) }
+{
+    missed || card || waited || taken.is_some()
+}
+
+// Whether one of both is so.
+fn either(one: bool, two: bool) -> bool
+    ensures { result ≡ (one || two) }
+{
+    one || two
+}
+
+// Whether a signal is due.
+fn is_signal_due(signals: &[Signal], done: u64) -> bool
+    ensures { result ≡ has_due signals.now done }
+{
+    match signals {
+        [first, ..] => first.count <= done,
+        [] => false,
+    }
+}
+
+// Whether nothing comes between the last entry and the next one, and the guess was right.
+fn is_still(state: &State, missed: bool, signals: &[Signal]) -> bool
+    ensures { result ≡ still_by state.now missed signals.now }
+{
+    let taken = interrupt(state);
+    let signal = is_signal_due(signals, state.done);
+    !missed
+        && !signal
+        && reader_is_free(state)
+        && printer_is_free(state)
+        && !state.waiting
+        && taken.is_none()
+}
+
+// Whether it is to be seen what ran ahead: where a segment or the run may end.
+fn is_end_near(left: u64, still: bool) -> bool
+    ensures { result ≡ (nat_eq left 0 || not still) }
+{
+    left == 0 || !still
+}
+
+// The numbers of the next entry, which is prepared as `p`: its row, and what is at hand behind it.
+fn count_on(
+    state: &State,
+    taken: Option<u8>,
+    p: &Prepared,
+    last: &mut Last,
+    delays: &Delays,
+    levels: u8,
+    log: &mut Log,
+) -> Row
+    requires indicator { IfSome taken (λ i. i < 64) }
+    requires plan { p.now ≡ plan_of state.now taken }
+    requires levels { (1 ≤ levels) × (levels ≤ 8) }
+    requires tight { IsTight 255 last.old.front }
+    requires early { last.old.front.c ≤ 2 ^ 63 }
+    requires past { last.old.past ≡ last.old.front.past }
+    ensures row { result ≡ row_of delays.now levels last.old.front (entry_of taken state.now) }
+    ensures front { last.new.front ≡ after_of delays.now levels last.old.front (entry_of taken state.now) }
+    ensures log { log.new ≡ noted delays.now (asked_of delays.now levels last.old.front (entry_of taken state.now)) last.old.front.bus [] }
+    ensures past { last.new.past ≡ last.new.front.past }
+    ensures tick { last.new.tick ≡ result.c }
+{
+    state.shape();
+    let e = entry(taken, p, state);
+    log.clear();
+    let row = next_row(&mut last.front, delays, levels as usize, &e, log);
+    put_past(
+        &mut last.past,
+        Past {
+            c: row.c,
+            writes: e.writes,
+        },
+    );
+    last.tick = row.c;
+    row
+}
+
+// The counter by the guess of an entry that was prepared as `p` and is now done.
+fn guessed_counter(p: &Prepared, state: &State) -> u32
+    requires counter { p.now.following < 2 ^ 19 }
+    ensures value { result ≡ (if p.now.serial then state.now.ic else p.now.following) }
+    ensures below { result < 2 ^ 19 }
+{
+    state.shape();
+    if p.serial { state.ic } else { p.following }
+}
+
+// The next entry is executed, which is prepared as `p`.
+fn execute(state: &mut State, taken: Option<u8>, p: &Prepared, last: &mut Last)
+    requires prepared { IsPrepared p.now }
+    requires plan { p.now ≡ plan_of state.old taken }
+    requires few { state.old.done < 2 ^ 63 }
+    ensures state { state.new ≡ executed taken state.old }
+    ensures guess { guessing last.new.ic state.new ≡ guess_of taken state.old }
+    ensures counter { last.new.ic < 2 ^ 19 }
+    ensures rest { last.new ≡ record last.old {
+      missed = is_missed_of (plan_of state.old taken) state.old;
+      ic = last.new.ic;
+    } }
+{
+    last.missed = is_missed(p, state);
+    complete_in(p, state);
+    last.ic = guessed_counter(p, state);
+}
+
+// The counter of a state.
+fn counter_of(state: &State) -> u32
+    ensures value { result ≡ state.now.ic }
+    ensures below { result < 2 ^ 19 }
+{
+    state.shape();
+    state.ic
+}
+
+// The number of the next row.
+fn row_number(state: &State) -> u32
+    requires { state.now.done ≤ MOST_INSTRUCTIONS }
+    ensures { result ≡ state.now.done + 1 }
+{
+    state.done as u32 + 1
+}
+
+// The next entry is executed, and its lines are written; its segment starts at the tick of the front, if it is the first one of that.
+fn write_entry<K: Sink>(
+    out: &mut K,
+    state: &mut State,
+    last: &mut Last,
+    delays: &Delays,
+    levels: u8,
+    log: &mut Log,
+    sums: &mut Totals,
+) -> Result<(), Failed>
+    requires few { state.old.done < MOST_INSTRUCTIONS }
+    requires levels { (1 ≤ levels) × (levels ≤ 8) }
+    requires tight { IsTight 255 last.old.front }
+    requires early { last.old.front.c ≤ 2 ^ 63 }
+    requires order { last.old.tick ≤ last.old.front.c }
+    requires past { last.old.past ≡ last.old.front.past }
+    requires within { AreWithin last.old.tick sums.old }
+    ensures lines { (p : Standing) → IsStanding p state.old last.old →
+        WritesLines (K.output out.old) (K.output out.new) (entry_lines delays.now levels p) result }
+    ensures state { state.new ≡ step_of state.old }
+    ensures last { (p : Standing) → IsStanding p state.old last.old → IsLast delays.now levels (next_moment delays.now levels p) last.new log.new }
+    ensures sums { (p : Standing) (s : Stage) → IsStanding p state.old last.old →
+        sum_at s sums.new ≡ sum_at s sums.old + ticks_for s (charges_at delays.now levels p) }
+    ensures within { AreWithin last.new.tick sums.new }
+{
+    delays.shape();
+    state.shape();
+    let taken = interrupt(state);
+    let address = next_address(state);
+    let n = row_number(state);
+    let p = plan(state, taken);
+    let before = last.tick;
+    let start = last.front.c;
+    let row = count_on(state, taken, &p, last, delays, levels, log);
+    execute(state, taken, &p, last);
+    sums.add_row(&row, before, start);
+    write_row(out, n, address, &row, before, start)
+}
+
+// The number of the segment of the next entry.
+fn next_number(begins: bool, k: u32) -> u32
+    requires { k + 1 < 2 ^ 32 }
+    ensures { result ≡ (if begins then k + 1 else k) }
+{
+    if begins { k + 1 } else { k }
+}
+
+// The border between the last entry and the next one: the front of the next one, and the lines where a segment ends or begins.
+fn write_crossing<K: Sink>(
+    out: &mut K,
+    state: &State,
+    last: &mut Last,
+    found: &Aheads,
+    banks: LastAnswers,
+    card: bool,
+    waited: bool,
+    k: u32,
+) -> Result<u32, Failed>
+    requires few { state.now.done ≤ MOST_INSTRUCTIONS }
+    requires number { k ≤ MOST_INSTRUCTIONS }
+    requires early { last.old.tick ≤ 2 ^ 62 }
+    requires dropped { length found.now.items ≤ 8 }
+    requires soon { All (λ t. t ≤ last.old.tick + 255) banks.ticks }
+    requires past { last.old.past ≡ last.old.front.past }
+    requires tight { IsTight 255 last.old.front }
+    requires done { last.old.front.c ≡ last.old.tick }
+    ensures lines { (m : Moment) → IsBehind m state.now last.old found.now.items banks card waited →
+        WritesLines (K.output out.old) (K.output out.new) (segment_lines k m) (without result) }
+    ensures number { (m : Moment) → IsBehind m state.now last.old found.now.items banks card waited →
+        IfOk result (λ next. next ≡ segment_after k m) }
+    ensures front { (m : Moment) → IsBehind m state.now last.old found.now.items banks card waited →
+        last.new.front ≡ next_front m }
+    ensures past { last.new.past ≡ last.new.front.past }
+    ensures tick { last.new.tick ≡ last.old.tick }
+    ensures tight { IsTight 255 last.new.front }
+    ensures order { last.new.tick ≤ last.new.front.c }
+    ensures bound { last.new.front.c ≤ last.new.tick + 9 }
+{
+    let taken = interrupt(state);
+    let missed = last.missed;
+    let tick = last.tick;
+    let ends = is_end(missed, card, waited, taken);
+    open_if(ends, last, banks, found.len() as u64);
+    let begins = either(k == 0, ends);
+    let why = why_of(k == 0, taken, missed);
+    let border = Border {
+        ends,
+        begins,
+        k,
+        tick,
+        n: row_number(state),
+        start: last.front.c,
+        waited,
+        why,
+    };
+    write_border(out, border, found.as_slice())?;
+    Ok(next_number(begins, k))
+}
+
+// Writes the lines of the end of a run.
+fn write_last<K: Sink>(
+    out: &mut K,
+    state: &State,
+    last: &Last,
+    found: &Aheads,
+    k: u32,
+) -> Result<(), Failed>
+    requires few { state.now.done ≤ MOST_INSTRUCTIONS }
+    requires dropped { length found.now.items ≤ 8 }
+    ensures { (m : Moment) → m.tick ≡ last.now.tick → next_state m ≡ state.now → found.now.items ≡ map seen_of m.dropped →
+        WritesLines (K.output out.old) (K.output out.new) (last_lines k m) result }
+{
+    write_end(out, k, last.tick, row_number(state), found.as_slice())?;
+    write_totals(out, is_at_rest(state), state.done, last.tick)
+}
+
+// Writes the run of a machine with these signals and cards to come, on so many levels, until it ends or so many instructions are done, and
+// adds up its charges.
+fn write_run<K: Sink>(
+    out: &mut K,
+    state: &mut State,
+    signals: &[Signal],
+    cards: &mut Hopper,
+    delays: &Delays,
+    levels: u8,
+    budget: u64,
+    sums: &mut Totals,
+) -> Result<(), Failed>
+    requires fresh { state.old.done ≡ 0 }
+    requires signals { AllPass is_signal signals.now }
+    requires cards { All IsCard cards.old }
+    requires levels { (1 ≤ levels) × (levels ≤ 8) }
+    requires limit { budget ≤ MOST_INSTRUCTIONS }
+    requires none { AreWithin 0 sums.old }
+    ensures lines { WritesLines (K.output out.old) (K.output out.new)
+        (lines_from delays.now levels budget 0 (start_of (at_hand state.old signals.now cards.old))) result }
+    ensures sums { (s : Stage) → IsOk result → sum_at s sums.new
+        ≡ ticks_for s (all_charges delays.now levels (entries_from delays.now levels budget (start_of (at_hand state.old signals.now cards.old)))) }
+{
+    state.shape();
+    delays.shape();
+    let mut last = at_start(counter_of(state));
+    let mut rest = signals;
+    let mut log = Log::new();
+    let mut k = 0;
+    let mut left = budget;
+    'entries: loop {
+        let mut found = Aheads::new();
+        let still = is_still(state, last.missed, rest);
+        let looks = is_end_near(left, still);
+        let banks = look_if(looks, state, &last, delays, levels, &mut log, &mut found);
+        let between = settle(state, rest, cards);
+        rest = between.signals;
+        if left == 0 {
+            return write_last(out, state, &last, &found, k);
+        }
+        if is_at_rest(state) {
+            return write_last(out, state, &last, &found, k);
+        }
+        k = write_crossing(
+            out,
+            state,
+            &mut last,
+            &found,
+            banks,
+            between.card,
+            between.waited,
+            k,
+        )?;
+        write_entry(out, state, &mut last, delays, levels, &mut log, sums)?;
+        left -= 1;
+    }
+}
+
+/// Writes the ledger of a run: of a machine with these signals and cards to come, these delays and so many levels, 1 to 8, until it
+/// ends or so many instructions are done, at most 10,000,000. Nothing has happened in the machine. Each line is written by itself.
+/// `docs/ledger.md` has the rules.
+pub fn write_ledger<K: Sink>(
+    out: &mut K,
+    state: &mut State,
+    signals: &[Signal],
+    cards: &mut Hopper,
+    list: &[u8],
+    delays: &Delays,
+    levels: u8,
+    budget: u64,
+) -> Result<(), Failed>
+    requires fresh { state.old.done ≡ 0 }
+    requires signals { AllPass is_signal signals.now }
+    requires cards { All IsCard cards.old }
+    requires list { list.now ≡ delays.now }
+    requires levels { (1 ≤ levels) × (levels ≤ 8) }
+    requires limit { budget ≤ MOST_INSTRUCTIONS }
+    ensures { WritesLines (K.output out.old) (K.output out.new)
+        (ledger delays.now levels budget (at_hand state.old signals.now cards.old)) result }
+{
+    let mut sums = Totals::default();
+    write_machine(out, levels, list)?;
+    write_run(
+        out, state, signals, cards, delays, levels, budget, &mut sums,
+    )?;
+    write_sums(out, &sums)
+}

@@ -1,0 +1,171 @@
+use Rattle.std.proofs.Common.{◌<◌, length, None, ◌∙◌, ap, arith}
+use Rattle.std.proofs.lemmas.List.{length_push}
+use Rattle.st_exec.specs.Completion.{guessed}
+use Rattle.st_state.specs.Machine.{Machine}
+use Rattle.st_prep.specs.Plan.{plan}
+use Rattle.st_prep.specs.declared.entries.Prepared.{Prepared}
+use Rattle.st_rows.specs.Asked.{formed_asked, asked}
+use Rattle.st_rows.specs.Notes.{noted}
+use Rattle.st_rows.specs.Ranges.{IsEntry}
+use Rattle.st_rows.specs.Rows.{row, after, bus_a, tick_p}
+use Rattle.st_rows.specs.declared.entry.Entry.{Entry}
+use Rattle.st_rows.specs.declared.front.Front.{Front}
+use Rattle.st_rows.specs.declared.front.Row.{Row}
+use Rattle.st_rows.proofs.Tight.{later-c}
+use Rattle.st_rows.proofs.Within.{AreDelays-list}
+use Rattle.st_segment.specs.Entries.{entry}
+use Rattle.st_segment.proofs.EntryRanges.{entry-ranges}
+use Rattle.st_plain.specs.declared.looking.Ahead.{Ahead as Seen}
+use Rattle.st_plain.proofs.LookLemmas.{guess-counted, guess-done, found-late, found-same, found-look, bus-late, log-late, bus-look, log-look, first-next, some-more, row-p, after-c}
+use Rattle.st_plain.proofs.looking.+look.Goals as goal
+
+pub begin-begun-requires-clause-entry : goal.begin-begun-requires-clause-entry
+begin-begun-requires-clause-entry t c = rw c.entry-e.ensures (entry-ranges None c.args.state.now c.shape-2.ensures tt)
+
+pub finish-row-requires-clause-entry : goal.finish-row-requires-clause-entry
+finish-row-requires-clause-entry t c = rw c.entry-e.ensures (entry-ranges None c.args.state.now c.shape-2.ensures tt)
+
+-- the next entry is not prepared in time
+
+pub returns-then-begun-tick-clause-found : goal.returns-then-begun-tick-clause-found
+returns-then-begun-tick-clause-found t c =
+    let ds = c.args.delays.now in
+    let n = c.args.levels in
+    let f = c.args.front.now in
+    let s = c.args.state.now in
+    let p = ap (tick_p ds n f) c.entry-e.ensures in
+    found-same c.args.found.now.items _
+    (found-late ds n c.args.tick s f c.args.more (omega (arith, row-p ds n f (entry None s), p, c.begin-begun.ensures.tick, c.if-begun-tick.true)))
+
+pub returns-then-begun-tick-clause-log : goal.returns-then-begun-tick-clause-log
+returns-then-begun-tick-clause-log t c =
+    let ds = c.args.delays.now in
+    let n = c.args.levels in
+    let f = c.args.front.now in
+    let s = c.args.state.now in
+    let p = ap (tick_p ds n f) c.entry-e.ensures in
+    log-late ds n c.args.tick s f c.args.more c.args.log.now c.begin-begun.new.log
+    (omega (arith, row-p ds n f (entry None s), p, c.begin-begun.ensures.tick, c.if-begun-tick.true))
+    (c.begin-begun.ensures.log ∙ ap (λ (e : Entry). noted ds (formed_asked ds f e) f.bus c.args.log.now) c.entry-e.ensures)
+
+pub returns-then-begun-tick-clause-bus : goal.returns-then-begun-tick-clause-bus
+returns-then-begun-tick-clause-bus t c =
+    let ds = c.args.delays.now in
+    let n = c.args.levels in
+    let f = c.args.front.now in
+    let s = c.args.state.now in
+    let p = ap (tick_p ds n f) c.entry-e.ensures in
+    bus-late ds n c.args.tick s f c.args.more c.begin-begun.result.words.bus
+    (omega (arith, row-p ds n f (entry None s), p, c.begin-begun.ensures.tick, c.if-begun-tick.true))
+    (c.begin-begun.ensures.bus ∙ ap (bus_a ds f) c.entry-e.ensures)
+
+-- it is
+
+pub push-requires : goal.push-requires
+push-requires t c =
+    let some = some-more c.args.delays.now c.args.levels c.args.more c.args.tick c.args.front.now c.entry-e.result c.requires.levels.0 c.requires.first
+    (omega (arith, c.begin-begun.ensures.tick, c.if-begun-tick.false)) in
+    let room : length c.args.found.now.items < 8 = omega (arith, c.requires.space, some) in
+    (omega arith, room)
+
+pub overflow_sub-more : goal.overflow_sub-more
+overflow_sub-more t c =
+    some-more c.args.delays.now c.args.levels c.args.more c.args.tick c.args.front.now c.entry-e.result c.requires.levels.0 c.requires.first
+    (omega (arith, c.begin-begun.ensures.tick, c.if-begun-tick.false))
+
+pub look-requires : goal.look-requires
+look-requires t c =
+    let ds = c.args.delays.now in
+    let n = c.args.levels in
+    let f = c.args.front.now in
+    let e = c.entry-e.result in
+    let some = some-more ds n c.args.more c.args.tick f e c.requires.levels.0 c.requires.first
+    (omega (arith, c.begin-begun.ensures.tick, c.if-begun-tick.false)) in
+    let done = ap (λ (s : Machine). s.done) c.guess.ensures ∙ guess-done c.plan-p.result c.args.state.now in
+    let more = ap length c.push.ensures.items ∙ length_push c.args.found.now.items _ in
+    let range : IsEntry e = rw c.entry-e.ensures (entry-ranges None c.args.state.now c.shape-2.ensures tt) in
+    let rises : f.c < c.finish-row.new.front.c =
+    omega (
+      arith,
+      ap (λ (g : Front). g.c) c.finish-row.ensures.after,
+      after-c ds n f e,
+      (later-c 255 ds (AreDelays-list ds c.shape.ensures) n f e range c.requires.tight).0,
+    ) in (
+      omega (arith, c.decreases, some),
+      (
+        omega (arith, done, c.requires.few, some),
+        (
+          c.finish-row.ensures.tight,
+          (
+            omega (arith, c.finish-row.ensures.bound, c.requires.early, some),
+            (
+              c.requires.levels,
+              (
+                omega (arith, c.requires.left),
+                (
+                  omega (arith, c.requires.late, rises),
+                  (
+                    first-next ds n n c.args.more c.args.tick f c.finish-row.new.front e c.requires.levels.1 some c.requires.left c.requires.late rises
+                        c.requires.first c.finish-row.ensures.after,
+                    omega (arith, more, c.requires.space, some),
+                  ),
+                ),
+              ),
+            ),
+          ),
+        ),
+      ),
+    )
+
+pub returns-clause-state : goal.returns-clause-state
+returns-clause-state t c =
+    let counted = guess-counted c.plan-p.result c.args.state.now in
+    c.undo.ensures ∙ c.keep-kept.ensures.undone _ counted.ic (c.look.ensures.state ∙ c.guess.ensures ∙ counted.is)
+
+pub returns-clause-found : goal.returns-clause-found
+returns-clause-found t c =
+    let ds = c.args.delays.now in
+    let n = c.args.levels in
+    let f = c.args.front.now in
+    let s = c.args.state.now in
+    let some = some-more ds n c.args.more c.args.tick f c.entry-e.result c.requires.levels.0 c.requires.first
+    (omega (arith, c.begin-begun.ensures.tick, c.if-begun-tick.false)) in
+    let p = ap (tick_p ds n f) c.entry-e.ensures in
+    let is = c.finish-row.ensures.value ∙ ap (row ds n f) c.entry-e.ensures in
+    let at : Prepared → Row → Seen = λ q r. record { address = q.place.address; row = r } in
+    found-look ds n c.args.tick s f _ _ c.args.more _ _ _ _ some
+    (omega (arith, row-p ds n f (entry None s), p, c.begin-begun.ensures.tick, c.if-begun-tick.false))
+    (ap (λ q. at q c.finish-row.result) c.plan-p.ensures.value ∙ ap (at (plan s None)) is)
+    (c.guess.ensures ∙ ap (λ q. guessed q s) c.plan-p.ensures.value)
+    (c.finish-row.ensures.after ∙ ap (after ds n f) c.entry-e.ensures)
+    c.push.ensures.items c.look.ensures.found
+
+pub returns-clause-log : goal.returns-clause-log
+returns-clause-log t c =
+    let ds = c.args.delays.now in
+    let n = c.args.levels in
+    let f = c.args.front.now in
+    let s = c.args.state.now in
+    let some = some-more ds n c.args.more c.args.tick f c.entry-e.result c.requires.levels.0 c.requires.first
+    (omega (arith, c.begin-begun.ensures.tick, c.if-begun-tick.false)) in
+    let p = ap (tick_p ds n f) c.entry-e.ensures in
+    log-look ds n c.args.tick s f c.guess.new.state c.finish-row.new.front c.args.more some
+    (omega (arith, row-p ds n f (entry None s), p, c.begin-begun.ensures.tick, c.if-begun-tick.false))
+    (c.guess.ensures ∙ ap (λ q. guessed q s) c.plan-p.ensures.value)
+    (c.finish-row.ensures.after ∙ ap (after ds n f) c.entry-e.ensures) c.args.log.now c.finish-row.new.log c.look.new.log
+    (c.finish-row.ensures.log c.args.log.now c.begin-begun.ensures.log ∙ ap (λ (e : Entry). noted ds (asked ds n f e) f.bus c.args.log.now) c.entry-e.ensures)
+    c.look.ensures.log
+
+pub returns-clause-bus : goal.returns-clause-bus
+returns-clause-bus t c =
+    let ds = c.args.delays.now in
+    let n = c.args.levels in
+    let f = c.args.front.now in
+    let s = c.args.state.now in
+    let some = some-more ds n c.args.more c.args.tick f c.entry-e.result c.requires.levels.0 c.requires.first
+    (omega (arith, c.begin-begun.ensures.tick, c.if-begun-tick.false)) in
+    let p = ap (tick_p ds n f) c.entry-e.ensures in
+    bus-look ds n c.args.tick s f c.guess.new.state c.finish-row.new.front c.args.more some
+    (omega (arith, row-p ds n f (entry None s), p, c.begin-begun.ensures.tick, c.if-begun-tick.false))
+    (c.guess.ensures ∙ ap (λ q. guessed q s) c.plan-p.ensures.value)
+    (c.finish-row.ensures.after ∙ ap (after ds n f) c.entry-e.ensures) c.look.new.front.bus c.look.ensures.bus

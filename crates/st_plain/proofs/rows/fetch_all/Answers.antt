@@ -1,0 +1,29 @@
+use Rattle.std.proofs.Common.{◌+◌, ◌-◌, ◌*◌, ◌^◌, arith}
+use Rattle.st_rows.specs.Ranges.{IsFetchingWithin}
+use Rattle.st_rows.proofs.Within.{AreDelays-list, past-weaker, fetching-weaker}
+use Rattle.st_rows.proofs.Stages.{tight-bus, wanted-early, fetch_two-within}
+use Rattle.st_plain.proofs.RowLemmas.{noted-fetches}
+use Rattle.st_plain.proofs.rows.fetch_all.Goals as goal
+
+-- behind the entry's own words
+pub fetch_run-requires-2-clause-room : goal.fetch_run-requires-2-clause-room
+fetch_run-requires-2-clause-room c =
+    let f = c.args.front.now in
+    let m = f.c + 3 * 255 + 2 in
+    let start : IsFetchingWithin m c.new-words.result = rw c.new-words.ensures (record {
+      bus = tight-bus 255 f c.requires.tight;
+      answered = omega arith;
+      awaited = omega arith;
+    }) in
+    let early = wanted-early 255 f c.requires.tight in
+    rw c.fetch_run.ensures.words
+    (fetching-weaker (m + 2 * 256) (2 ^ 64 - 2 ^ 16) _ (omega arith)
+    (fetch_two-within 255 c.args.delays.now (AreDelays-list c.args.delays.now c.shape.ensures) f.past c.wanted_from-from.result
+    c.args.entry.now.own.first c.args.entry.now.own.len m c.new-words.result c.requires.entry.own_few
+    (past-weaker f.c m f.past (omega arith) c.requires.tight.done) start (rw c.wanted_from-from.ensures (omega arith))))
+
+pub returns-clause-log : goal.returns-clause-log
+returns-clause-log c =
+    noted-fetches c.args.delays.now c.args.front.now c.args.entry.now c.new-words.result c.fetch_run.new.words c.wanted_from-from.result _ c.args.log.now
+    c.fetch_run.new.log c.fetch_run-2.new.log c.new-words.ensures c.wanted_from-from.ensures c.max.ensures c.fetch_run.ensures.words c.fetch_run.ensures.log
+    c.fetch_run-2.ensures.log

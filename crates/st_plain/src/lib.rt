@@ -1,0 +1,11 @@
+//! What the timetable sees of a state by itself: its next entry, the row of that with its reads, and the entries that run ahead
+//! by guessed steps. `docs/timetable.md` has the rules.
+#![tactic(auto, using(st_bits::specs::Storage::words_of_storage_is))]
+
+mod entries;
+mod looking;
+mod rows;
+
+pub use entries::entry;
+pub use looking::{Ahead, Aheads, look};
+pub use rows::next_row;

@@ -1,0 +1,95 @@
+//! The entries that run ahead of a state by guessed steps.
+ghost use Rattle.std.specs.Prelude.{◌≡◌, suc, ◌+◌, ◌-◌, ◌*◌, ◌≤◌, ◌<◌, ◌^◌, ◌++◌, map, length, None};
+ghost use Rattle.st_prep.specs.Ranges.{IsPrepared};
+ghost use Rattle.st_exec.specs.Completion.{guessed};
+ghost use Rattle.st_rows.specs.Asked.{served};
+ghost use Rattle.st_rows.specs.Notes.{noted};
+ghost use Rattle.st_rows.specs.Ranges.{IsTight};
+ghost use Rattle.st_rows.specs.Rows.{done_before};
+ghost use Rattle.st_segment.specs.Ahead.{ahead as ahead_of, prepared_before};
+ghost use Rattle.st_plain.specs.Looking.{seen_of, looked};
+
+use crate::entries::entry;
+use crate::rows::{begin, finish};
+use arrayvec::ArrayVec;
+use st_back::{keep, undo};
+use st_banks::Delays;
+use st_exec::complete_in;
+use st_prep::{Prepared, plan};
+use st_rows::{Front, Log, Row};
+use st_state::State;
+
+/// An entry that runs ahead.
+#[derive(Clone, Copy, Debug, Default, PartialEq, Eq)]
+pub struct Ahead {
+    /// Its half-word address.
+    pub address: u32,
+    /// Its ticks.
+    pub row: Row,
+}
+
+/// Entries that run ahead, the oldest first. There are as many as levels at most.
+pub type Aheads = ArrayVec<Ahead, 8>;
+
+/// Makes the guessed step of an entry that is prepared: a branch on an indicator is not taken.
+#[tactic(auto, unfolding(st_exec::specs::Completion::guessed))]
+pub fn guess(p: &Prepared, state: &mut State)
+    requires prepared { IsPrepared p.now }
+    requires few { state.old.done < 2 ^ 63 }
+    ensures { state.new ≡ guessed p.now state.old }
+{
+    complete_in(p, state);
+    if !p.serial {
+        state.ic = p.following;
+    }
+}
+
+/// Looks at the entries that run ahead of a state behind a front, by guessed steps: the first `more` of them that are prepared
+/// before the tick `tick` are added to `found`. Their reads are made on the front's bus and noted, and those of the one
+/// behind them up to its address. The last entry before them is done at that tick or later, and where some were found already, so is the first
+/// of those, which is the last one that may be as many before as there are levels. The state is then as it was; of the front the bus alone is of use.
+pub fn look(
+    state: &mut State,
+    front: &mut Front,
+    delays: &Delays,
+    levels: usize,
+    more: u8,
+    tick: u64,
+    log: &mut Log,
+    found: &mut Aheads,
+)
+    requires few { state.old.done + more < 2 ^ 63 }
+    requires tight { IsTight 255 front.old }
+    requires early { front.old.c + 16576 * more ≤ 2 ^ 63 + 2 ^ 20 }
+    requires levels { (1 ≤ levels) × (levels ≤ 8) }
+    requires left { more ≤ levels }
+    requires late { tick ≤ front.old.c }
+    requires first { more < levels → tick ≤ done_before (levels - more) front.old.past }
+    requires space { length found.old.items + more ≤ 8 }
+    ensures state { state.new ≡ state.old }
+    ensures found { found.new.items ≡ found.old.items
+        ++ map seen_of (prepared_before tick (ahead_of delays.now levels more None state.old front.old)) }
+    ensures log { log.new ≡ noted delays.now
+        (looked delays.now levels tick (ahead_of delays.now levels (suc more) None state.old front.old)) front.old.bus log.old }
+    ensures bus { front.new.bus ≡ served delays.now
+        (looked delays.now levels tick (ahead_of delays.now levels (suc more) None state.old front.old)) front.old.bus }
+{
+    delays.shape();
+    state.shape();
+    let p = plan(state, None);
+    let e = entry(None, &p, state);
+    let begun = begin(front, delays, levels, &e, log);
+    if begun.formed.p >= tick {
+        front.bus = begun.words.bus;
+        return;
+    }
+    let row = finish(front, delays, levels, &e, begun, log);
+    found.push(Ahead {
+        address: p.place.address,
+        row,
+    });
+    let kept = keep(&p, state);
+    guess(&p, state);
+    look(state, front, delays, levels, more - 1, tick, log, found);
+    undo(&kept, state);
+}

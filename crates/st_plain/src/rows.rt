@@ -1,0 +1,139 @@
+//! The row of an entry, with its reads noted in a log.
+ghost use Rattle.std.specs.Prelude.{◌≡◌, ◌+◌, ◌-◌, ◌<◌, ◌≤◌, ◌^◌, List};
+ghost use Rattle.st_rows.specs.Asked.{words_asked, fetches_asked, formed_asked, asked as asked_of};
+ghost use Rattle.st_rows.specs.Notes.{noted};
+ghost use Rattle.st_rows.specs.Rows.{fetch_words, fetched, bus_a, tick_a, tick_p, row as row_of, after as after_of};
+ghost use Rattle.st_rows.specs.Ranges.{IsEntry, IsTight, IsFetchingWithin, ArePastWithin, IsReadable};
+ghost use Rattle.st_rows.specs.declared.log.Made.{Made};
+
+use st_banks::Delays;
+use st_rows::{Entry, Fetching, Formed, Front, LastEntries, Log, Row, Run};
+
+// The instruction words of a run are fetched.
+fn fetch_run(
+    words: &mut Fetching,
+    delays: &Delays,
+    past: &LastEntries,
+    run: Run,
+    from: u64,
+    log: &mut Log,
+)
+    requires room { IsFetchingWithin (2 ^ 64 - 2 ^ 16) words.old }
+    requires before { ArePastWithin (2 ^ 64 - 2 ^ 16) past.now }
+    requires early { from ≤ 2 ^ 64 - 2 ^ 16 }
+    requires words { IsReadable run }
+    requires few { run.len ≤ 16 }
+    ensures words { words.new ≡ fetch_words delays.now past.now words.old from run.first run.len }
+    ensures log { log.new ≡ noted delays.now (words_asked delays.now past.now words.old from run.first run.len)
+        words.old.bus log.old }
+{
+    delays.shape();
+    let mut w = run.first;
+    let mut left = run.len;
+    'words: while left > 0 {
+        words.word(log, delays, past, w, from);
+        w += 1;
+        left -= 1;
+    }
+}
+
+// All instruction words of the next entry are fetched.
+#[tactic(auto, unfolding(st_rows::specs::Rows::fetched, st_rows::specs::Asked::fetches_asked))]
+fn fetch_all(front: &Front, delays: &Delays, entry: &Entry, log: &mut Log) -> Fetching
+    requires entry { IsEntry entry.now }
+    requires tight { IsTight 255 front.now }
+    requires early { front.now.c ≤ 2 ^ 63 + 2 ^ 20 }
+    ensures words { result ≡ fetched delays.now front.now entry.now }
+    ensures log { log.new ≡ noted delays.now (fetches_asked delays.now front.now entry.now) front.now.bus log.old }
+{
+    delays.shape();
+    let mut words = Fetching::new(front.bus);
+    let from = front.wanted_from();
+    fetch_run(&mut words, delays, &front.past, entry.own, from, log);
+    fetch_run(
+        &mut words,
+        delays,
+        &front.past,
+        entry.target,
+        from.max(front.c),
+        log,
+    );
+    words
+}
+
+/// The next entry as far as its address is formed, and the tick at which it is prepared.
+#[derive(Clone, Copy, Debug, Default, PartialEq, Eq)]
+pub struct Begun {
+    /// The bus behind its instruction words and its index-side word.
+    pub words: Fetching,
+    /// When its address is formed, and when it is prepared.
+    pub formed: Formed,
+}
+
+/// Forms the address of the next entry behind a front.
+pub fn begin(front: &Front, delays: &Delays, levels: usize, entry: &Entry, log: &mut Log) -> Begun
+    requires entry { IsEntry entry.now }
+    requires tight { IsTight 255 front.now }
+    requires early { front.now.c ≤ 2 ^ 63 + 2 ^ 20 }
+    requires levels { (1 ≤ levels) × (levels ≤ 8) }
+    ensures address { result.formed.a ≡ tick_a delays.now front.now entry.now }
+    ensures tick { result.formed.p ≡ tick_p delays.now levels front.now entry.now }
+    ensures bus { result.words.bus ≡ bus_a delays.now front.now entry.now }
+    ensures log { log.new ≡ noted delays.now (formed_asked delays.now front.now entry.now) front.now.bus log.old }
+{
+    let mut words = fetch_all(front, delays, entry, log);
+    let formed = front.form(delays, levels, entry, &mut words, log);
+    Begun { words, formed }
+}
+
+/// Goes on behind the next entry, whose address is formed as `begin` says, and gives its row.
+pub fn finish(
+    front: &mut Front,
+    delays: &Delays,
+    levels: usize,
+    entry: &Entry,
+    begun: Begun,
+    log: &mut Log,
+) -> Row
+    requires entry { IsEntry entry.now }
+    requires tight { IsTight 255 front.old }
+    requires early { front.old.c ≤ 2 ^ 63 + 2 ^ 20 }
+    requires levels { (1 ≤ levels) × (levels ≤ 8) }
+    requires address { begun.formed.a ≡ tick_a delays.now front.old entry.now }
+    requires tick { begun.formed.p ≡ tick_p delays.now levels front.old entry.now }
+    requires bus { begun.words.bus ≡ bus_a delays.now front.old entry.now }
+    ensures value { result ≡ row_of delays.now levels front.old entry.now }
+    ensures after { front.new ≡ after_of delays.now levels front.old entry.now }
+    ensures log { (before : List Made) → log.old ≡ noted delays.now (formed_asked delays.now front.old entry.now) front.old.bus before →
+        log.new ≡ noted delays.now (asked_of delays.now levels front.old entry.now) front.old.bus before }
+    ensures tight { IsTight 255 front.new }
+    ensures bound { front.new.c ≤ front.old.c + 16576 }
+{
+    delays.shape();
+    let mut words = begun.words;
+    let filled = front.fill(delays, levels, entry, begun.formed, &mut words, log);
+    front.pass(entry, &filled.row, &words.bus);
+    filled.row
+}
+
+/// Goes on behind the next entry, and gives its row. The log has its reads, which are made on the front's bus.
+pub fn next_row(
+    front: &mut Front,
+    delays: &Delays,
+    levels: usize,
+    entry: &Entry,
+    log: &mut Log,
+) -> Row
+    requires entry { IsEntry entry.now }
+    requires tight { IsTight 255 front.old }
+    requires early { front.old.c ≤ 2 ^ 63 + 2 ^ 20 }
+    requires levels { (1 ≤ levels) × (levels ≤ 8) }
+    ensures value { result ≡ row_of delays.now levels front.old entry.now }
+    ensures after { front.new ≡ after_of delays.now levels front.old entry.now }
+    ensures log { log.new ≡ noted delays.now (asked_of delays.now levels front.old entry.now) front.old.bus log.old }
+    ensures tight { IsTight 255 front.new }
+    ensures bound { front.new.c ≤ front.old.c + 16576 }
+{
+    let begun = begin(front, delays, levels, entry, log);
+    finish(front, delays, levels, entry, begun, log)
+}
