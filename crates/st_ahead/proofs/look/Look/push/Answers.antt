@@ -85,8 +85,8 @@ fill-filled-requires g c =
       tick = ap (λ (x : Formed). x.p) formed_is ∙ becomes.tick ∙ ap (tick_p ds n view.front) (sym entry_is);
     }
 
-pub push-requires-clause-room : goal.push-requires-clause-room
-push-requires-clause-room g c =
+pub push-requires : goal.push-requires
+push-requires g c =
     let ds = c.args.delays.now in
     let n = g.row.N in
     let now = c.args.now in
@@ -98,11 +98,7 @@ push-requires-clause-room g c =
     let planned : view.next.planned ≡ true = ap (λ (w : LookView). w.next.planned) c.self.view_is ∙ c.requires.planned in
     let due : view.next.formed.p ≡ now = ap (λ (w : LookView). w.next.formed.p) c.self.view_is ∙ c.requires.due in
     let becomes = planned_entries_become_levels ds n now t s f view c.requires.some c.requires.few
-    (AreDelays-list ds c.shape.ensures) (omega (arith, c.len-few.ensures.value, c.len-few.ensures.within)) c.requires.early is planned due in
-    becomes.room
-
-pub push-requires-clause-prepared : goal.push-requires-clause-prepared
-push-requires-clause-prepared g c = c.prepare.ensures.ranges
+    (AreDelays-list ds c.shape.ensures) (omega (arith, c.len-few.ensures.value, c.len-few.ensures.within)) c.requires.early is planned due in (omega arith, (becomes.room, c.prepare.ensures.ranges))
 
 pub returns-clause-going : goal.returns-clause-going
 returns-clause-going g c = λ t f given.
