@@ -84,6 +84,7 @@ install: proved
 	ln -sfn ../../share/doc/stretch $(home)/docs
 	cp docs/stretch.1 docs/stretch-tools.1 $(man)
 	echo '.so man1/stretch.1' >$(man)/stretch-chart.1
+	echo '.so man1/stretch.1' >$(man)/stretch-ledger.1
 	echo '.so man1/stretch-tools.1' >$(man)/stretch-explain.1
 	cp tools/completions/stretch.bash $(bash)/stretch
 	ln -sf stretch $(bash)/stretch-chart
@@ -92,12 +93,12 @@ install: proved
 	cp tools/completions/stretch.fish $(fish)/stretch.fish
 
 uninstall:
-	rm -f $(to)/bin/stretch $(to)/bin/stretch-chart $(to)/bin/stretch-explain
+	rm -f $(to)/bin/stretch $(to)/bin/stretch-chart $(to)/bin/stretch-ledger $(to)/bin/stretch-explain
 	@for script in tools/*; do \
 	    name=$${script#tools/}; \
 	    [ ! -f $$script ] || rm -f $(to)/bin/stretch-$$name $(man)/stretch-$$name.1 $(bash)/stretch-$$name; \
 	done
-	rm -f $(man)/stretch.1 $(man)/stretch-tools.1 $(man)/stretch-chart.1 $(man)/stretch-explain.1
+	rm -f $(man)/stretch.1 $(man)/stretch-tools.1 $(man)/stretch-chart.1 $(man)/stretch-ledger.1 $(man)/stretch-explain.1
 	rm -f $(bash)/stretch $(bash)/stretch-chart $(bash)/stretch-explain
 	rm -f $(zsh)/_stretch $(fish)/stretch.fish
 	rm -rf $(home) $(doc)
