@@ -119,6 +119,7 @@ openings_follow = record {
   end = stands-ended;
   again = ended-again;
   stop = λ m j o changes is. stands-stopped (ended m) j o changes is;
+  last = λ m made since from over may. cc (sym over ∙ stands-settled from may.settled);
   interrupt = λ m made since i d ic k o xs from owed is stands. stands-interrupt m i d ic k o xs is stands;
   missed = λ m made since k o xs from owed is stands. stands-missed m k o xs owed is stands;
   waits = waits-ended;

@@ -98,8 +98,9 @@ pub record LevelsAreLent : Type 0 where
 -- goes on leave it standing there, with one entry more done where the tick completes one (`tick`, `goes`). What changes the state from outside is added to
 -- the changes, with the number done at it (`signal`, `unread`, `print`).
 -- A call that ends the segment ends it as `end` does, and leaves the machine at the opening of the next one, one tick behind the completion and one more for
--- each level that is dropped (`end`). Where it has ended already at this tick that opening stays (`again`), and so it does at the end of a run (`stop`). Behind it an interrupt makes the first entry a
--- table instruction (`interrupt`), a missed branch and a wait leave it (`missed`, `waits`), and a card is a change of its first state (`card`).
+-- each level that is dropped (`end`). Where it has ended already at this tick that opening stays (`again`), and so it does at the end of a run (`stop`), behind
+-- which no tick may be made (`last`). Behind the end of a segment an interrupt makes the first entry a table instruction (`interrupt`), a missed branch and a
+-- wait leave it (`missed`, `waits`), and a card is a change of its first state (`card`).
 -- The levels of a machine that stands at an opening are entries behind those that are done, by guessed steps from the state, unless a branch was missed at this
 -- tick (`ahead`).
 -- Of a segment at whose opening a machine stands, the entries with C up to the tick are done (`done`), and the levels are those with P up to the tick and C
@@ -126,6 +127,7 @@ pub record OpeningsFollow : Type 0 where
   pub again : (m : Overlap) → m.ended ≡ true → ended m ≡ m
   pub stop : (m : Overlap) (j : ℕ) (o : Opening) (changes : List Outside) → StandsAt o changes j (ended m) →
       StandsAt o changes j (run_ended m)
+  pub last : (m : Overlap) (made since : ℕ) → IsReached m made since → m.stopped ≡ true → MayTick m → ⊥
   pub interrupt : (m : Overlap) (made since i d ic k : ℕ) (o : Opening) (changes : List Outside) → IsReached m made since →
       m.owed ≡ true → answer m ≡ Interrupt i d ic k → StandsAt o changes 0 (ended m) →
       StandsAt (record o { table = Some i }) changes 0 (settled m)
