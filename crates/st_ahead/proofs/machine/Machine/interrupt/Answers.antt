@@ -1,4 +1,4 @@
-use Rattle.std.proofs.Common.{◌≡◌, ◌<◌, ◌^◌, true, None, Some, ap, refl, sym, subst, ◌∙◌, arith}
+use Rattle.std.proofs.Common.{◌≡◌, ◌<◌, ◌^◌, true, false, None, Some, ap, refl, sym, subst, ◌∙◌, arith}
 use Rattle.st_exec.specs.Step.{interrupt}
 use Rattle.st_ahead.specs.Overlap.{Overlap}
 use Rattle.st_ahead.specs.Inside.{standing}
