@@ -26,7 +26,7 @@ use Rattle.st_run.specs.declared.turn.Turn.TheVariants.{Before, AtEnd, Over}
 use Rattle.st_run.specs.declared.leaving.Decided.{Decided}
 use Rattle.st_run.proofs.SceneLemmas.{interrupt-below, settled-scene}
 use Rattle.st_run.proofs.PrintLemmas.{settled-one}
-use Rattle.st_run.proofs.EndedLemmas.{opened, opened-none, by_now, ended-since, since-is}
+use Rattle.st_run.proofs.EndedLemmas.{opened, stopped-none, by_now, ended-since, since-is}
 
 -- ---- what the answer says
 
@@ -203,7 +203,7 @@ module _ (b t : Together) (text : Option (List ℕ)) (over : Bool) (is : IsBehin
       after ∙ ap (λ (x : Overlap). record x { stopped = true }) (ended-since b t over is since) in
       record {
         scene = scene-is n rest (ap (λ (x : Overlap). x.state) same);
-        none = ap levels_of same ∙ opened-none (record b.machine { stopped = true }) s;
+        none = ap levels_of same ∙ stopped-none b.machine s;
       }
 
   way-is : (turn : Turn) (left : ℕ) (d : Decided) (n : Together) → n ≡ record t { machine = n.machine }
