@@ -90,14 +90,14 @@ card-opened s u f v alike o = record {
     place-at : ℕ → Place
     place-at h = record { counter = h; address = h; table = None }
 
-card-calm : (n : ℕ) (ds : List ℕ) (s u : Machine) (t b : Option ℕ) (now : ℕ) (owed over fresh : Bool) (v : LookView)
-    → IsInside (standing n ds s t b now owed over fresh v) fresh v → over ≡ true → fresh ≡ true → AreAlikeBelow s u
-    → IsInside (standing n ds u t b now owed over fresh v) fresh v
-card-calm n ds s u t b now owed false fresh v is ends done alike = absurd (cc ends)
-card-calm n ds s u t b now owed true false v is ends done alike = absurd (cc done)
-card-calm n ds s u t b now false true true v is ends done alike = absurd (cc (is.fresh_owed refl))
-card-calm n ds s u (Some i) b now true true true v is ends done alike = absurd (cc (is.none_taken refl))
-card-calm n ds s u None b now true true true v is ends done alike =
+card-calm : (halt : Bool) (n : ℕ) (ds : List ℕ) (s u : Machine) (t b : Option ℕ) (now : ℕ) (owed over fresh : Bool) (v : LookView)
+    → IsInside (standing n ds s t b now owed over halt fresh v) fresh v → over ≡ true → fresh ≡ true → AreAlikeBelow s u
+    → IsInside (standing n ds u t b now owed over halt fresh v) fresh v
+card-calm halt n ds s u t b now owed false fresh v is ends done alike = absurd (cc ends)
+card-calm halt n ds s u t b now owed true false v is ends done alike = absurd (cc done)
+card-calm halt n ds s u t b now false true true v is ends done alike = absurd (cc (is.fresh_owed refl))
+card-calm halt n ds s u (Some i) b now true true true v is ends done alike = absurd (cc (is.none_taken refl))
+card-calm halt n ds s u None b now true true true v is ends done alike =
     let between : IsBetween now None s v = is.looking in
     record {
       some = is.some;
@@ -112,6 +112,7 @@ card-calm n ds s u None b now true true true v is ends done alike =
       in_time = is.in_time;
       fresh_owed = λ e. refl;
       ended_owed = λ e. refl;
+      stopped_owed = is.stopped_owed;
       behind_fresh = λ e. absurd (cc e);
       done_now = λ e g. absurd (cc g);
       none_taken = λ e. refl;
@@ -120,13 +121,13 @@ card-calm n ds s u None b now true true true v is ends done alike =
       near = λ e. is.near refl;
     }
 
-pub card-inside : (n : ℕ) (ds : List ℕ) (s u : Machine) (t b : Option ℕ) (now : ℕ) (owed over fresh : Bool) (v : LookView) (order : Option Order) (card : List ℕ)
-    → IsInside (standing n ds s t b now owed over fresh v) fresh v → over ≡ true → fresh ≡ true → HasArea order → IsSome order
+pub card-inside : (halt : Bool) (n : ℕ) (ds : List ℕ) (s u : Machine) (t b : Option ℕ) (now : ℕ) (owed over fresh : Bool) (v : LookView) (order : Option Order) (card : List ℕ)
+    → IsInside (standing n ds s t b now owed over halt fresh v) fresh v → over ≡ true → fresh ≡ true → HasArea order → IsSome order
     → IfSome order (λ o. u ≡ read_in s o.word (Some card))
-    → IsInside (standing n ds u t b now owed over fresh v) fresh v
-card-inside n ds s u t b now owed over fresh v None card is ends done area some h = absurd (cc some)
-card-inside n ds s u t b now owed over fresh v (Some o) card is ends done area some h =
-    card-calm n ds s u t b now owed over fresh v is ends done (subst (λ x. AreAlikeBelow s x) (sym h) (read-below s o.word card area.0))
+    → IsInside (standing n ds u t b now owed over halt fresh v) fresh v
+card-inside halt n ds s u t b now owed over fresh v None card is ends done area some h = absurd (cc some)
+card-inside halt n ds s u t b now owed over fresh v (Some o) card is ends done area some h =
+    card-calm halt n ds s u t b now owed over fresh v is ends done (subst (λ x. AreAlikeBelow s x) (sym h) (read-below s o.word card area.0))
 
 -- an order without a card
 pub no_card-alike : (s u : Machine) (order : Option Order) → ((w : ℕ) → AreAlikeBesideOrders s (read_in s w None)) → IsSome order

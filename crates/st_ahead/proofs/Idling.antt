@@ -24,7 +24,7 @@ passed-none count m = record { each = λ i before. absurd (omega (arith, before)
 
 module _ (ds : List ℕ) (n : ℕ) (s : Machine) (t : Option ℕ) (f : Front) (due : (if is_none t then interrupt s else None) ≡ None) (awake : rests s ≡ false) where
   abbrev calm : ℕ → Overlap
-  calm now = overlap ds n s t None f now false false None
+  calm now = overlap false ds n s t None f now false false None
 
   not-done : (now : ℕ) → now < (row ds n f (entry t s)).c → is_done (calm now) ≡ false
   unfolding seen oldest_row

@@ -19,7 +19,7 @@ use Rattle.st_ahead.specs.Overlap.{Overlap, seen, with_counter, levels_of, inter
 use Rattle.st_ahead.specs.Calls.{dropped, ended, passed, settled, answer, settled_by, answer_by}
 use Rattle.st_ahead.specs.Look.{LookView, IsLook, IsOpened, count, is_open}
 use Rattle.st_ahead.specs.Going.{IsGoing}
-use Rattle.st_ahead.specs.Inside.{standing, answers_before, IsBetween, IsInside, IsInTime}
+use Rattle.st_ahead.specs.Inside.{standing, answers_before, IsBetween, IsInside, IsInTime, IsLooking}
 use Rattle.st_ahead.proofs.Openings.{opening-looks}
 use Rattle.st_ahead.specs.declared.events.Settled.TheVariants.{Goes, Interrupt, Missed, Waits}
 use Rattle.st_ahead.proofs.Further.{next-sooner}
@@ -27,11 +27,11 @@ use Rattle.st_ahead.proofs.Standing.{opened-answers, opened-front, same-fields, 
 
 -- ---- what is due where no entry was done
 
-pub quiet-inside : (n : ℕ) (ds : List ℕ) (s : Machine) (t b : Option ℕ) (now : ℕ) (owed over fresh : Bool) (v : LookView)
-    → IsInside (standing n ds s t b now owed over fresh v) fresh v → (standing n ds s t b now owed over fresh v).closing ≡ None
-    → (interrupt_due (standing n ds s t b now owed over fresh v) ≡ None) × (rests s ≡ false) × (b ≡ None)
-quiet-inside n ds s t b now owed over false v is e = let quiet = is.quiet refl in (quiet.0, quiet.1, is.behind_fresh refl)
-quiet-inside n ds s t b now owed over true v is e = absurd (cc e)
+pub quiet-inside : (halt : Bool) (n : ℕ) (ds : List ℕ) (s : Machine) (t b : Option ℕ) (now : ℕ) (owed over fresh : Bool) (v : LookView)
+    → IsInside (standing n ds s t b now owed over halt fresh v) fresh v → (standing n ds s t b now owed over halt fresh v).closing ≡ None
+    → (interrupt_due (standing n ds s t b now owed over halt fresh v) ≡ None) × (rests s ≡ false) × (b ≡ None)
+quiet-inside halt n ds s t b now owed over false v is e = let quiet = is.quiet refl in (quiet.0, quiet.1, is.behind_fresh refl)
+quiet-inside halt n ds s t b now owed over true v is e = absurd (cc e)
 
 pub some-closing : (c : Option LastAnswers) → (c ≡ None → ⊥) → IsSome c
 some-closing (Some x) f = refl
@@ -50,6 +50,7 @@ pub record IsEnded (m e : Overlap) : Type 0 where
   pub taken : e.taken ≡ m.taken
   pub owed : e.owed ≡ m.owed
   pub ended : e.ended ≡ true
+  pub stopped : e.stopped ≡ m.stopped
   pub closing : e.closing ≡ m.closing
 
 pub ended-rest : (m e : Overlap) (b : Bool) → m.ended ≡ b → e ≡ ended m → IsEnded m e
@@ -61,6 +62,7 @@ ended-rest m e true over is =
       taken = ap (λ (x : Overlap). x.taken) same;
       owed = ap (λ (x : Overlap). x.owed) same;
       ended = ap (λ (x : Overlap). x.ended) same ∙ over;
+      stopped = ap (λ (x : Overlap). x.stopped) same;
       closing = ap (λ (x : Overlap). x.closing) same;
     }
 ended-rest m e false over is =
@@ -70,6 +72,7 @@ ended-rest m e false over is =
       taken = ap (λ (x : Overlap). x.taken) same;
       owed = ap (λ (x : Overlap). x.owed) same;
       ended = ap (λ (x : Overlap). x.ended) same;
+      stopped = ap (λ (x : Overlap). x.stopped) same;
       closing = ap (λ (x : Overlap). x.closing) same;
     }
 
@@ -129,23 +132,23 @@ settled-goes m x due goes right is = rw (due, goes, right) is
 
 -- ---- the levels that are dropped
 
-pub levels-counted : (n : ℕ) (ds : List ℕ) (s : Machine) (t b : Option ℕ) (now : ℕ) (fresh : Bool) (v : LookView)
+pub levels-counted : (halt : Bool) (n : ℕ) (ds : List ℕ) (s : Machine) (t b : Option ℕ) (now : ℕ) (fresh : Bool) (v : LookView)
     → prepared_before now (ahead ds n n t (with_counter b s) (oldest_front v.levels.plans v.front)) ≡ ahead ds n (count v) t (with_counter b s) (oldest_front v.levels.plans v.front)
-    → length (levels_of (standing n ds s t b now true false fresh v)) ≡ count v
+    → length (levels_of (standing n ds s t b now true false halt fresh v)) ≡ count v
 unfolding levels_of seen
-levels-counted n ds s t b now fresh v levels =
+levels-counted halt n ds s t b now fresh v levels =
     ap length levels ∙ length-ahead ds n (count v) t (with_counter b s) (oldest_front v.levels.plans v.front)
 
-pub end-calm : (n : ℕ) (ds : List ℕ) (s : Machine) (b : Option ℕ) (now : ℕ) (v w : LookView)
-    → IsInside (standing n ds s None b now true false true v) true v → count v ≤ n
-    → length (levels_of (standing n ds s None b now true false true v)) ≡ count v
+pub end-calm : (halt : Bool) (n : ℕ) (ds : List ℕ) (s : Machine) (b : Option ℕ) (now : ℕ) (v w : LookView)
+    → IsInside (standing n ds s None b now true false halt true v) true v → count v ≤ n
+    → length (levels_of (standing n ds s None b now true false halt true v)) ≡ count v
     → IsOpened None s (opening (answers_before now v) (now + 1 + count v)) w
     → All (λ x. x ≤ now + 1 + count v + 255) (answers_before now v).ticks
-    → IsInside (standing n ds s None b now true true true w) true w
-    × (count v ≡ dropped (standing n ds s None b now true false true v))
-    × (standing n ds s None b now true true true w ≡ ended (standing n ds s None b now true false true v))
+    → IsInside (standing n ds s None b now true true halt true w) true w
+    × (count v ≡ dropped (standing n ds s None b now true false halt true v))
+    × (standing n ds s None b now true true halt true w ≡ ended (standing n ds s None b now true false halt true v))
 unfolding dropped ended
-end-calm n ds s b now v w is most levels opened early =
+end-calm halt n ds s b now v w is most levels opened early =
     let banks : answers_before now w ≡ answers_before now v = opened-answers now None s (answers_before now v) (now + 1 + count v) w opened in
     let start : w.front.c ≡ now + 1 + count v = ap (λ (f : Front). f.c) opened.front in
     let few : n ≤ 8 = is.few in
@@ -167,6 +170,7 @@ end-calm n ds s b now v w is most levels opened early =
         in_time = is.in_time;
         fresh_owed = λ e. refl;
         ended_owed = λ e. refl;
+        stopped_owed = λ e. refl;
         behind_fresh = λ e. absurd (cc e);
         done_now = λ e f. absurd (cc f);
         none_taken = λ e. refl;
@@ -175,44 +179,44 @@ end-calm n ds s b now v w is most levels opened early =
         near = λ e. subst (λ (x : LastAnswers). All (λ y. y ≤ now + 255) x.ticks) (sym banks) (is.near refl);
       },
       sym levels,
-      same-fields ds n s s None b b _ _ now true true _ _ refl refl (front ∙ ap (λ k. opening (answers_before now v) (now + 1 + k)) (sym levels)) (ap Some banks),
+      same-fields halt ds n s s None b b _ _ now true true _ _ refl refl (front ∙ ap (λ k. opening (answers_before now v) (now + 1 + k)) (sym levels)) (ap Some banks),
     )
 
 -- where the segment has ended already
-pub end-again : (n : ℕ) (ds : List ℕ) (s : Machine) (t b : Option ℕ) (now : ℕ) (owed over fresh : Bool) (v : LookView) → over ≡ true
-    → (0 ≡ dropped (standing n ds s t b now owed over fresh v))
-    × (standing n ds s t b now owed over fresh v ≡ ended (standing n ds s t b now owed over fresh v))
+pub end-again : (halt : Bool) (n : ℕ) (ds : List ℕ) (s : Machine) (t b : Option ℕ) (now : ℕ) (owed over fresh : Bool) (v : LookView) → over ≡ true
+    → (0 ≡ dropped (standing n ds s t b now owed over halt fresh v))
+    × (standing n ds s t b now owed over halt fresh v ≡ ended (standing n ds s t b now owed over halt fresh v))
 unfolding dropped ended
-end-again n ds s t b now owed true fresh v e = (refl, refl)
-end-again n ds s t b now owed false fresh v e = absurd (cc e)
+end-again halt n ds s t b now owed true fresh v e = (refl, refl)
+end-again halt n ds s t b now owed false fresh v e = absurd (cc e)
 
-pub end-first : (n : ℕ) (ds : List ℕ) (s : Machine) (t b : Option ℕ) (now : ℕ) (owed over fresh : Bool) (v w : LookView)
-    → IsInside (standing n ds s t b now owed over fresh v) fresh v → owed ≡ true → over ≡ false → fresh ≡ true → count v ≤ n
+pub end-first : (halt : Bool) (n : ℕ) (ds : List ℕ) (s : Machine) (t b : Option ℕ) (now : ℕ) (owed over fresh : Bool) (v w : LookView)
+    → IsInside (standing n ds s t b now owed over halt fresh v) fresh v → owed ≡ true → over ≡ false → fresh ≡ true → count v ≤ n
     → (IsLook ds n now now t (with_counter b s) (oldest_front v.levels.plans v.front) v
     → prepared_before now (ahead ds n n t (with_counter b s) (oldest_front v.levels.plans v.front)) ≡ ahead ds n (count v) t (with_counter b s) (oldest_front v.levels.plans v.front))
     → (IsLook ds n now now t (with_counter b s) (oldest_front v.levels.plans v.front) v → IsOpened None s (opening (answers_before now v) (now + 1 + count v)) w)
     → All (λ x. x ≤ now + 1 + count v + 255) (answers_before now v).ticks
-    → IsInside (standing n ds s t b now owed true fresh w) fresh w
-    × (count v ≡ dropped (standing n ds s t b now owed over fresh v))
-    × (standing n ds s t b now owed true fresh w ≡ ended (standing n ds s t b now owed over fresh v))
+    → IsInside (standing n ds s t b now owed true halt fresh w) fresh w
+    × (count v ≡ dropped (standing n ds s t b now owed over halt fresh v))
+    × (standing n ds s t b now owed true halt fresh w ≡ ended (standing n ds s t b now owed over halt fresh v))
 unfolding seen
-end-first n ds s t b now false over fresh v w is owes ends done most levels opened early = absurd (cc owes)
-end-first n ds s t b now true true fresh v w is owes ends done most levels opened early = absurd (cc ends)
-end-first n ds s t b now true false false v w is owes ends done most levels opened early = absurd (cc done)
-end-first n ds s (Some i) b now true false true v w is owes ends done most levels opened early = absurd (cc (is.none_taken refl))
-end-first n ds s None b now true false true v w is owes ends done most levels opened early =
-    end-calm n ds s b now v w is most (levels-counted n ds s None b now true v (levels is.looking)) (opened is.looking) early
+end-first halt n ds s t b now false over fresh v w is owes ends done most levels opened early = absurd (cc owes)
+end-first halt n ds s t b now true true fresh v w is owes ends done most levels opened early = absurd (cc ends)
+end-first halt n ds s t b now true false false v w is owes ends done most levels opened early = absurd (cc done)
+end-first halt n ds s (Some i) b now true false true v w is owes ends done most levels opened early = absurd (cc (is.none_taken refl))
+end-first halt n ds s None b now true false true v w is owes ends done most levels opened early =
+    end-calm halt n ds s b now v w is most (levels-counted halt n ds s None b now true v (levels is.looking)) (opened is.looking) early
 
 -- where no entry was done at the tick
-given-calm : (n : ℕ) (ds : List ℕ) (s : Machine) (t b : Option ℕ) (now : ℕ) (v w : LookView)
-    → IsInside (standing n ds s t b now true false false v) false v → count v ≤ n
-    → length (levels_of (standing n ds s t b now true false false v)) ≡ count v
+given-calm : (halt : Bool) (n : ℕ) (ds : List ℕ) (s : Machine) (t b : Option ℕ) (now : ℕ) (v w : LookView)
+    → IsInside (standing n ds s t b now true false halt false v) false v → count v ≤ n
+    → length (levels_of (standing n ds s t b now true false halt false v)) ≡ count v
     → IsOpened t s (opening idle_banks (now + 1 + count v)) w
-    → IsInside (standing n ds s t b now true true false w) false w
-    × (count v ≡ dropped (standing n ds s t b now true false false v))
-    × (standing n ds s t b now true true false w ≡ ended (standing n ds s t b now true false false v))
+    → IsInside (standing n ds s t b now true true halt false w) false w
+    × (count v ≡ dropped (standing n ds s t b now true false halt false v))
+    × (standing n ds s t b now true true halt false w ≡ ended (standing n ds s t b now true false halt false v))
 unfolding dropped ended
-given-calm n ds s t b now v w is most levels opened =
+given-calm halt n ds s t b now v w is most levels opened =
     let banks : answers_before now w ≡ idle_banks = opened-answers now t s idle_banks (now + 1 + count v) w opened in
     let start : w.front.c ≡ now + 1 + count v = ap (λ (f : Front). f.c) opened.front in
     let few : n ≤ 8 = is.few in
@@ -234,6 +238,7 @@ given-calm n ds s t b now v w is most levels opened =
         in_time = is.in_time;
         fresh_owed = λ e. refl;
         ended_owed = λ e. refl;
+        stopped_owed = λ e. refl;
         behind_fresh = is.behind_fresh;
         done_now = λ e. absurd (cc e);
         none_taken = λ e. absurd (cc e);
@@ -242,30 +247,30 @@ given-calm n ds s t b now v w is most levels opened =
         near = λ e. absurd (cc e);
       },
       sym levels,
-      same-fields ds n s s t b b _ _ now true true None None refl refl (front ∙ ap (λ k. opening idle_banks (now + 1 + k)) (sym levels)) refl,
+      same-fields halt ds n s s t b b _ _ now true true None None refl refl (front ∙ ap (λ k. opening idle_banks (now + 1 + k)) (sym levels)) refl,
     )
 
-pub given-up : (n : ℕ) (ds : List ℕ) (s : Machine) (t b : Option ℕ) (now : ℕ) (owed over fresh : Bool) (v w : LookView)
-    → IsInside (standing n ds s t b now owed over fresh v) fresh v → owed ≡ true → over ≡ false
-    → (standing n ds s t b now owed over fresh v).closing ≡ None → count v ≤ n
+pub given-up : (halt : Bool) (n : ℕ) (ds : List ℕ) (s : Machine) (t b : Option ℕ) (now : ℕ) (owed over fresh : Bool) (v w : LookView)
+    → IsInside (standing n ds s t b now owed over halt fresh v) fresh v → owed ≡ true → over ≡ false
+    → (standing n ds s t b now owed over halt fresh v).closing ≡ None → count v ≤ n
     → (IsLook ds n now now t (with_counter b s) (oldest_front v.levels.plans v.front) v
     → prepared_before now (ahead ds n n t (with_counter b s) (oldest_front v.levels.plans v.front)) ≡ ahead ds n (count v) t (with_counter b s) (oldest_front v.levels.plans v.front))
     → (IsLook ds n now now t (with_counter b s) (oldest_front v.levels.plans v.front) v → IsOpened t s (opening idle_banks (now + 1 + count v)) w)
-    → IsInside (standing n ds s t b now owed true fresh w) fresh w
-    × (count v ≡ dropped (standing n ds s t b now owed over fresh v))
-    × (standing n ds s t b now owed true fresh w ≡ ended (standing n ds s t b now owed over fresh v))
+    → IsInside (standing n ds s t b now owed true halt fresh w) fresh w
+    × (count v ≡ dropped (standing n ds s t b now owed over halt fresh v))
+    × (standing n ds s t b now owed true halt fresh w ≡ ended (standing n ds s t b now owed over halt fresh v))
 unfolding seen
-given-up n ds s t b now false over fresh v w is owes ends none most levels opened = absurd (cc owes)
-given-up n ds s t b now true true fresh v w is owes ends none most levels opened = absurd (cc ends)
-given-up n ds s t b now true false true v w is owes ends none most levels opened = absurd (cc none)
-given-up n ds s t b now true false false v w is owes ends none most levels opened =
-    given-calm n ds s t b now v w is most (levels-counted n ds s t b now false v (levels is.looking)) (opened is.looking)
+given-up halt n ds s t b now false over fresh v w is owes ends none most levels opened = absurd (cc owes)
+given-up halt n ds s t b now true true fresh v w is owes ends none most levels opened = absurd (cc ends)
+given-up halt n ds s t b now true false true v w is owes ends none most levels opened = absurd (cc none)
+given-up halt n ds s t b now true false false v w is owes ends none most levels opened =
+    given-calm halt n ds s t b now v w is most (levels-counted halt n ds s t b now false v (levels is.looking)) (opened is.looking)
 
 -- what it asks for: the number of the tick, and the indicator that was taken, are within their ranges
-pub giving-up : (n : ℕ) (ds : List ℕ) (s : Machine) (t b : Option ℕ) (now : ℕ) (owed over fresh : Bool) (v : LookView)
-    → IsInside (standing n ds s t b now owed over fresh v) fresh v → owed ≡ true → (now < 2 ^ 63) × IfSome t (λ i. i < 64)
-giving-up n ds s t b now false over fresh v is owes = absurd (cc owes)
-giving-up n ds s t b now true over fresh v is owes = (is.in_time, is.indicator)
+pub giving-up : (halt : Bool) (n : ℕ) (ds : List ℕ) (s : Machine) (t b : Option ℕ) (now : ℕ) (owed over fresh : Bool) (v : LookView)
+    → IsInside (standing n ds s t b now owed over halt fresh v) fresh v → owed ≡ true → (now < 2 ^ 63) × IfSome t (λ i. i < 64)
+giving-up halt n ds s t b now false over fresh v is owes = absurd (cc owes)
+giving-up halt n ds s t b now true over fresh v is owes = (is.in_time, is.indicator)
 
 -- what the end of one asks for
 pub record IsEnding (n : ℕ) (ds : List ℕ) (s : Machine) (t b : Option ℕ) (now : ℕ) (v : LookView) : Type 0 where
@@ -273,19 +278,46 @@ pub record IsEnding (n : ℕ) (ds : List ℕ) (s : Machine) (t b : Option ℕ) (
   pub done : (oldest_front v.levels.plans v.front).c ≡ now
   pub early : now < 2 ^ 63
 
-pub ending : (n : ℕ) (ds : List ℕ) (s : Machine) (t b : Option ℕ) (now : ℕ) (owed over fresh : Bool) (v : LookView)
-    → IsInside (standing n ds s t b now owed over fresh v) fresh v → owed ≡ true → over ≡ false → fresh ≡ true
+pub ending : (halt : Bool) (n : ℕ) (ds : List ℕ) (s : Machine) (t b : Option ℕ) (now : ℕ) (owed over fresh : Bool) (v : LookView)
+    → IsInside (standing n ds s t b now owed over halt fresh v) fresh v → owed ≡ true → over ≡ false → fresh ≡ true
     → IsEnding n ds s t b now v
 unfolding seen
-ending n ds s t b now false over fresh v is owes ends done = absurd (cc owes)
-ending n ds s t b now true true fresh v is owes ends done = absurd (cc ends)
-ending n ds s t b now true false false v is owes ends done = absurd (cc done)
-ending n ds s t b now true false true v is owes ends done = record { look = is.looking; done = is.done_now refl refl; early = is.in_time }
+ending halt n ds s t b now false over fresh v is owes ends done = absurd (cc owes)
+ending halt n ds s t b now true true fresh v is owes ends done = absurd (cc ends)
+ending halt n ds s t b now true false false v is owes ends done = absurd (cc done)
+ending halt n ds s t b now true false true v is owes ends done = record { look = is.looking; done = is.done_now refl refl; early = is.in_time }
 
-pub fresh-closing : (n : ℕ) (ds : List ℕ) (s : Machine) (t b : Option ℕ) (now : ℕ) (owed over fresh : Bool) (v : LookView)
-    → IsSome (standing n ds s t b now owed over fresh v).closing → fresh ≡ true
-fresh-closing n ds s t b now owed over true v some = refl
-fresh-closing n ds s t b now owed over false v some = absurd (cc some)
+pub fresh-closing : (halt : Bool) (n : ℕ) (ds : List ℕ) (s : Machine) (t b : Option ℕ) (now : ℕ) (owed over fresh : Bool) (v : LookView)
+    → IsSome (standing n ds s t b now owed over halt fresh v).closing → fresh ≡ true
+fresh-closing halt n ds s t b now owed over true v some = refl
+fresh-closing halt n ds s t b now owed over false v some = absurd (cc some)
+
+-- ---- the end of a run
+
+same-looking : (over halt : Bool) (n : ℕ) (ds : List ℕ) (s : Machine) (t b : Option ℕ) (now : ℕ) (owed fresh : Bool) (v : LookView)
+    → IsLooking over (standing n ds s t b now owed over halt fresh v) v → IsLooking over (standing n ds s t b now owed over true fresh v) v
+unfolding seen
+same-looking true halt n ds s t b now owed fresh v is = is
+same-looking false halt n ds s t b now owed fresh v is = is
+
+pub stop-inside : (halt : Bool) (n : ℕ) (ds : List ℕ) (s : Machine) (t b : Option ℕ) (now : ℕ) (owed over fresh : Bool) (v : LookView)
+    → IsInside (standing n ds s t b now owed over halt fresh v) fresh v → owed ≡ true → IsInside (standing n ds s t b now owed over true fresh v) fresh v
+stop-inside halt n ds s t b now owed over fresh v is owes = record {
+  some = is.some;
+  few = is.few;
+  looking = same-looking over halt n ds s t b now owed fresh v is.looking;
+  indicator = is.indicator;
+  in_time = is.in_time;
+  fresh_owed = is.fresh_owed;
+  ended_owed = is.ended_owed;
+  stopped_owed = λ e. owes;
+  behind_fresh = is.behind_fresh;
+  done_now = is.done_now;
+  none_taken = is.none_taken;
+  quiet = is.quiet;
+  unstarted = λ e f. absurd (cc (sym e ∙ owes));
+  near = is.near;
+}
 
 -- ---- the next tick
 
@@ -294,15 +326,15 @@ owed-early true now e early = early
 owed-early false now e early = absurd (cc e)
 
 -- the next segment is open
-pub pass-inside : (n : ℕ) (ds : List ℕ) (s : Machine) (t b : Option ℕ) (now : ℕ) (owed over fresh : Bool) (v : LookView)
-    → IsInside (standing n ds s t b now owed over fresh v) fresh v → IsMachine s → owed ≡ true → over ≡ true
-    → interrupt_due (standing n ds s t b now owed over fresh v) ≡ None → rests s ≡ false
-    → IsInside (standing n ds s t None (now + 1) false false false v) false v
-    × (standing n ds s t None (now + 1) false false false v ≡ passed (standing n ds s t b now owed over fresh v))
+pub pass-inside : (halt : Bool) (n : ℕ) (ds : List ℕ) (s : Machine) (t b : Option ℕ) (now : ℕ) (owed over fresh : Bool) (v : LookView)
+    → IsInside (standing n ds s t b now owed over halt fresh v) fresh v → halt ≡ false → IsMachine s → owed ≡ true → over ≡ true
+    → interrupt_due (standing n ds s t b now owed over halt fresh v) ≡ None → rests s ≡ false
+    → IsInside (standing n ds s t None (now + 1) false false halt false v) false v
+    × (standing n ds s t None (now + 1) false false halt false v ≡ passed (standing n ds s t b now owed over halt fresh v))
 unfolding seen
-pass-inside n ds s t b now false over fresh v is m owes ends due goes = absurd (cc owes)
-pass-inside n ds s t b now true false fresh v is m owes ends due goes = absurd (cc ends)
-pass-inside n ds s t b now true true fresh v is m owes ends due goes =
+pass-inside halt n ds s t b now false over fresh v is off m owes ends due goes = absurd (cc owes)
+pass-inside halt n ds s t b now true false fresh v is off m owes ends due goes = absurd (cc ends)
+pass-inside halt n ds s t b now true true fresh v is off m owes ends due goes =
     let between : IsBetween now t s v = is.looking in
     let later : now + 1 ≤ v.front.c = between.later in
     let soon : v.front.c ≤ now + 1 + 9 = omega (arith, between.soon) in
@@ -316,6 +348,7 @@ pass-inside n ds s t b now true true fresh v is m owes ends due goes =
         in_time = let early : now < 2 ^ 63 = is.in_time in omega (arith, early);
         fresh_owed = λ e. absurd (cc e);
         ended_owed = λ e. absurd (cc e);
+        stopped_owed = λ e. absurd (cc (sym off ∙ e));
         behind_fresh = λ e. refl;
         done_now = λ e. absurd (cc e);
         none_taken = λ e. absurd (cc e);
@@ -336,16 +369,16 @@ pending-of true p i e = e
 pending-of false p i e = absurd (cc e)
 
 -- an interrupt is taken
-pub interrupt-inside : (n : ℕ) (ds : List ℕ) (s : Machine) (b : Option ℕ) (now : ℕ) (owed over fresh : Bool) (v : LookView) (i : ℕ)
-    → IsInside (standing n ds s None b now owed over fresh v) fresh v → IsMachine s → owed ≡ true → over ≡ true
+pub interrupt-inside : (halt : Bool) (n : ℕ) (ds : List ℕ) (s : Machine) (b : Option ℕ) (now : ℕ) (owed over fresh : Bool) (v : LookView) (i : ℕ)
+    → IsInside (standing n ds s None b now owed over halt fresh v) fresh v → halt ≡ false → IsMachine s → owed ≡ true → over ≡ true
     → i < 64 → interrupt s ≡ Some i
     → let w = record v { next = record v.next { place = place_of s (Some i) } } in
-    IsInside (standing n ds s (Some i) None (now + 1) false false false w) false w
-    × (standing n ds s (Some i) None (now + 1) false false false w ≡ passed (record (standing n ds s None b now owed over fresh v) { taken = Some i }))
+    IsInside (standing n ds s (Some i) None (now + 1) false false halt false w) false w
+    × (standing n ds s (Some i) None (now + 1) false false halt false w ≡ passed (record (standing n ds s None b now owed over halt fresh v) { taken = Some i }))
 unfolding seen
-interrupt-inside n ds s b now false over fresh v i is m owes ends few due = absurd (cc owes)
-interrupt-inside n ds s b now true false fresh v i is m owes ends few due = absurd (cc ends)
-interrupt-inside n ds s b now true true fresh v i is m owes ends few due =
+interrupt-inside halt n ds s b now false over fresh v i is off m owes ends few due = absurd (cc owes)
+interrupt-inside halt n ds s b now true false fresh v i is off m owes ends few due = absurd (cc ends)
+interrupt-inside halt n ds s b now true true fresh v i is off m owes ends few due =
     let w = record v { next = record v.next { place = place_of s (Some i) } } in
     let between : IsBetween now None s v = is.looking in
     let o = between.opened in
@@ -373,6 +406,7 @@ interrupt-inside n ds s b now true true fresh v i is m owes ends few due =
         in_time = let early : now < 2 ^ 63 = is.in_time in omega (arith, early);
         fresh_owed = λ e. absurd (cc e);
         ended_owed = λ e. absurd (cc e);
+        stopped_owed = λ e. absurd (cc (sym off ∙ e));
         behind_fresh = λ e. refl;
         done_now = λ e. absurd (cc e);
         none_taken = λ e. absurd (cc e);
@@ -383,18 +417,18 @@ interrupt-inside n ds s b now true true fresh v i is m owes ends few due =
       refl,
     )
 
-pub interrupt-taken : (n : ℕ) (ds : List ℕ) (s : Machine) (t b : Option ℕ) (now : ℕ) (owed over fresh : Bool) (v w : LookView) (i : ℕ) → t ≡ None
-    → IsInside (standing n ds s t b now owed over fresh v) fresh v → IsMachine s → owed ≡ true → over ≡ true
+pub interrupt-taken : (halt : Bool) (n : ℕ) (ds : List ℕ) (s : Machine) (t b : Option ℕ) (now : ℕ) (owed over fresh : Bool) (v w : LookView) (i : ℕ) → t ≡ None
+    → IsInside (standing n ds s t b now owed over halt fresh v) fresh v → halt ≡ false → IsMachine s → owed ≡ true → over ≡ true
     → i < 64 → interrupt s ≡ Some i
     → {place : Place} → place ≡ place_of s (Some i) → w ≡ record v { next = record v.next { place = place } }
-    → IsInside (standing n ds s (Some i) None (now + 1) false false false w) false w
-    × (standing n ds s (Some i) None (now + 1) false false false w ≡ passed (record (standing n ds s t b now owed over fresh v) { taken = Some i }))
-interrupt-taken n ds s (Some j) b now owed over fresh v w i none is m owes ends few due at there = absurd (cc none)
-interrupt-taken n ds s None b now owed over fresh v w i none is m owes ends few due at there =
-    let P : LookView → Type 0 = λ x. IsInside (standing n ds s (Some i) None (now + 1) false false false x) false x
-    × (standing n ds s (Some i) None (now + 1) false false false x ≡ passed (record (standing n ds s None b now owed over fresh v) { taken = Some i })) in
+    → IsInside (standing n ds s (Some i) None (now + 1) false false halt false w) false w
+    × (standing n ds s (Some i) None (now + 1) false false halt false w ≡ passed (record (standing n ds s t b now owed over halt fresh v) { taken = Some i }))
+interrupt-taken halt n ds s (Some j) b now owed over fresh v w i none is off m owes ends few due at there = absurd (cc none)
+interrupt-taken halt n ds s None b now owed over fresh v w i none is off m owes ends few due at there =
+    let P : LookView → Type 0 = λ x. IsInside (standing n ds s (Some i) None (now + 1) false false halt false x) false x
+    × (standing n ds s (Some i) None (now + 1) false false halt false x ≡ passed (record (standing n ds s None b now owed over halt fresh v) { taken = Some i })) in
     subst P (sym (there ∙ ap (λ p. record v { next = record v.next { place = p } }) at))
-    (interrupt-inside n ds s b now owed over fresh v i is m owes ends few due)
+    (interrupt-inside halt n ds s b now owed over fresh v i is off m owes ends few due)
 
 -- ---- what runs ahead goes on
 
@@ -433,27 +467,27 @@ look-runs ds n now t s f v is = record {
   logged = is.logged;
 }
 
-pub going-look : (n : ℕ) (ds : List ℕ) (s : Machine) (t b : Option ℕ) (now : ℕ) (owed over fresh : Bool) (v : LookView)
-    → IsInside (standing n ds s t b now owed over fresh v) fresh v → owed ≡ true → over ≡ false → b ≡ None
+pub going-look : (halt : Bool) (n : ℕ) (ds : List ℕ) (s : Machine) (t b : Option ℕ) (now : ℕ) (owed over fresh : Bool) (v : LookView)
+    → IsInside (standing n ds s t b now owed over halt fresh v) fresh v → owed ≡ true → over ≡ false → b ≡ None
     → IsLook ds n now now t s (oldest_front v.levels.plans v.front) v × (now < 2 ^ 63)
 unfolding seen
-going-look n ds s t b now false over fresh v is owes ends right = absurd (cc owes)
-going-look n ds s t b now true true fresh v is owes ends right = absurd (cc ends)
-going-look n ds s t (Some h) now true false fresh v is owes ends right = absurd (cc right)
-going-look n ds s t None now true false fresh v is owes ends right = (is.looking, is.in_time)
+going-look halt n ds s t b now false over fresh v is owes ends right = absurd (cc owes)
+going-look halt n ds s t b now true true fresh v is owes ends right = absurd (cc ends)
+going-look halt n ds s t (Some h) now true false fresh v is owes ends right = absurd (cc right)
+going-look halt n ds s t None now true false fresh v is owes ends right = (is.looking, is.in_time)
 
-pub go-inside : (n : ℕ) (ds : List ℕ) (s : Machine) (t b : Option ℕ) (now : ℕ) (owed over fresh : Bool) (v w : LookView)
-    → IsInside (standing n ds s t b now owed over fresh v) fresh v → owed ≡ true → over ≡ false → b ≡ None
-    → interrupt_due (standing n ds s t b now owed over fresh v) ≡ None → rests s ≡ false
+pub go-inside : (halt : Bool) (n : ℕ) (ds : List ℕ) (s : Machine) (t b : Option ℕ) (now : ℕ) (owed over fresh : Bool) (v w : LookView)
+    → IsInside (standing n ds s t b now owed over halt fresh v) fresh v → halt ≡ false → owed ≡ true → over ≡ false → b ≡ None
+    → interrupt_due (standing n ds s t b now owed over halt fresh v) ≡ None → rests s ≡ false
     → IsLook ds n now (now + 1) t s (oldest_front v.levels.plans v.front) w
     → oldest_front w.levels.plans w.front ≡ oldest_front v.levels.plans v.front
-    → IsInside (standing n ds s t b (now + 1) false over false w) false w
-    × (standing n ds s t b (now + 1) false over false w ≡ passed (standing n ds s t b now owed over fresh v))
+    → IsInside (standing n ds s t b (now + 1) false over halt false w) false w
+    × (standing n ds s t b (now + 1) false over halt false w ≡ passed (standing n ds s t b now owed over halt fresh v))
 unfolding seen
-go-inside n ds s t b now false over fresh v w is owes ends right due goes look front = absurd (cc owes)
-go-inside n ds s t b now true true fresh v w is owes ends right due goes look front = absurd (cc ends)
-go-inside n ds s t (Some h) now true false fresh v w is owes ends right due goes look front = absurd (cc right)
-go-inside n ds s t None now true false fresh v w is owes ends right due goes look front =
+go-inside halt n ds s t b now false over fresh v w is off owes ends right due goes look front = absurd (cc owes)
+go-inside halt n ds s t b now true true fresh v w is off owes ends right due goes look front = absurd (cc ends)
+go-inside halt n ds s t (Some h) now true false fresh v w is off owes ends right due goes look front = absurd (cc right)
+go-inside halt n ds s t None now true false fresh v w is off owes ends right due goes look front =
     let last : now ≡ now + 1 - 1 = omega arith in (
       record {
         some = is.some;
@@ -465,6 +499,7 @@ go-inside n ds s t None now true false fresh v w is owes ends right due goes loo
         in_time = let early : now < 2 ^ 63 = is.in_time in omega (arith, early);
         fresh_owed = λ e. absurd (cc e);
         ended_owed = λ e. absurd (cc e);
+        stopped_owed = λ e. absurd (cc (sym off ∙ e));
         behind_fresh = λ e. refl;
         done_now = λ e. absurd (cc e);
         none_taken = λ e. absurd (cc e);
@@ -472,7 +507,7 @@ go-inside n ds s t None now true false fresh v w is owes ends right due goes loo
         unstarted = λ e f. absurd (omega (arith, f));
         near = λ e. absurd (cc e);
       },
-      same-fields ds n s s t None None _ _ (now + 1) false false None None refl refl front refl,
+      same-fields halt ds n s s t None None _ _ (now + 1) false false None None refl refl front refl,
     )
 
 -- where no entry was done at a tick, nothing closes at it

@@ -23,15 +23,15 @@ use Rattle.st_ahead.proofs.Standing.{opened-front}
 -- ---- what runs ahead, at each moment
 
 -- it is there also where a segment has ended
-pub look-inside : (n : ℕ) (ds : List ℕ) (s : Machine) (t b : Option ℕ) (now : ℕ) (owed over fresh : Bool) (v : LookView)
-    → IsInside (standing n ds s t b now owed over fresh v) fresh v → IsMachine s
-    → IsLook ds n (last_tick (standing n ds s t b now owed over fresh v)) now t (seen (standing n ds s t b now owed over fresh v)) (oldest_front v.levels.plans v.front) v
+pub look-inside : (halt : Bool) (n : ℕ) (ds : List ℕ) (s : Machine) (t b : Option ℕ) (now : ℕ) (owed over fresh : Bool) (v : LookView)
+    → IsInside (standing n ds s t b now owed over halt fresh v) fresh v → IsMachine s
+    → IsLook ds n (last_tick (standing n ds s t b now owed over halt fresh v)) now t (seen (standing n ds s t b now owed over halt fresh v)) (oldest_front v.levels.plans v.front) v
 unfolding seen
-look-inside n ds s t b now owed false fresh v is m = is.looking
-look-inside n ds s t b now owed true fresh v is m =
+look-inside halt n ds s t b now owed false fresh v is m = is.looking
+look-inside halt n ds s t b now owed true fresh v is m =
     let between : IsBetween now t s v = is.looking in
     let later : now + 1 ≤ v.front.c = between.later in
-    let tick = last_tick (standing n ds s t b now owed true fresh v) in
+    let tick = last_tick (standing n ds s t b now owed true halt fresh v) in
     let look = opening-looks ds n tick now v.front.c t s (answers_before now v) v between.opened m is.indicator between.banks (omega (arith, later)) between.soon in
     subst (λ (f : Front). IsLook ds n tick now t s f v) (sym (opened-front t s (opening (answers_before now v) v.front.c) v between.opened)) look
 

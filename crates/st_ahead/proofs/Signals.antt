@@ -44,15 +44,15 @@ abbrev LooksOn : List ℕ → ℕ → ℕ → LookView → Type 0
 LooksOn ds n now v = (x y : Machine) (f : Front) → IsLook ds n now now None x f v → AreNotDone now v.levels → f.c ≡ now
     → IsMachine y → AreAlikeBesideOrders x y → IsLook ds n now now None y f v
 
-before-first : (n : ℕ) (ds : List ℕ) (s u : Machine) (t b : Option ℕ) (now : ℕ) (over fresh : Bool) (v : LookView)
-    → IsInside (standing n ds s t b now false over fresh v) fresh v → now ≡ 0 → IsMachine u → AreAlikeBesideOrders s u → LooksOn ds n now v
-    → IsInside (standing n ds u t b now false over fresh v) fresh v
+before-first : (halt : Bool) (n : ℕ) (ds : List ℕ) (s u : Machine) (t b : Option ℕ) (now : ℕ) (over fresh : Bool) (v : LookView)
+    → IsInside (standing n ds s t b now false over halt fresh v) fresh v → now ≡ 0 → IsMachine u → AreAlikeBesideOrders s u → LooksOn ds n now v
+    → IsInside (standing n ds u t b now false over halt fresh v) fresh v
 unfolding seen
-before-first n ds s u t b now true fresh v is start m alike on = absurd (cc (is.ended_owed refl))
-before-first n ds s u t b now false true v is start m alike on = absurd (cc (is.fresh_owed refl))
-before-first n ds s u t (Some h) now false false v is start m alike on = absurd (cc (is.behind_fresh refl))
-before-first n ds s u (Some i) None now false false v is start m alike on = absurd (cc ((is.unstarted refl start).table))
-before-first n ds s u None None now false false v is start m alike on =
+before-first halt n ds s u t b now true fresh v is start m alike on = absurd (cc (is.ended_owed refl))
+before-first halt n ds s u t b now false true v is start m alike on = absurd (cc (is.fresh_owed refl))
+before-first halt n ds s u t (Some h) now false false v is start m alike on = absurd (cc (is.behind_fresh refl))
+before-first halt n ds s u (Some i) None now false false v is start m alike on = absurd (cc ((is.unstarted refl start).table))
+before-first halt n ds s u None None now false false v is start m alike on =
     let f = oldest_front v.levels.plans v.front in
     let un = is.unstarted refl start in
     let last : now - 1 ≡ now = omega (arith, start) in
@@ -68,6 +68,7 @@ before-first n ds s u None None now false false v is start m alike on =
       in_time = is.in_time;
       fresh_owed = λ e. absurd (cc e);
       ended_owed = λ e. absurd (cc e);
+      stopped_owed = is.stopped_owed;
       behind_fresh = λ e. refl;
       done_now = λ e. absurd (cc e);
       none_taken = λ e. refl;
@@ -76,13 +77,13 @@ before-first n ds s u None None now false false v is start m alike on =
       near = λ e. absurd (cc e);
     }
 
-behind-done : (n : ℕ) (ds : List ℕ) (s u : Machine) (t b : Option ℕ) (now : ℕ) (over fresh : Bool) (v : LookView)
-    → IsInside (standing n ds s t b now true over fresh v) fresh v → fresh ≡ true → IsMachine u → AreAlikeBesideOrders s u → LooksOn ds n now v
-    → IsInside (standing n ds u t b now true over fresh v) fresh v
+behind-done : (halt : Bool) (n : ℕ) (ds : List ℕ) (s u : Machine) (t b : Option ℕ) (now : ℕ) (over fresh : Bool) (v : LookView)
+    → IsInside (standing n ds s t b now true over halt fresh v) fresh v → fresh ≡ true → IsMachine u → AreAlikeBesideOrders s u → LooksOn ds n now v
+    → IsInside (standing n ds u t b now true over halt fresh v) fresh v
 unfolding seen
-behind-done n ds s u t b now over false v is done m alike on = absurd (cc done)
-behind-done n ds s u (Some i) b now over true v is done m alike on = absurd (cc (is.none_taken refl))
-behind-done n ds s u None b now true true v is done m alike on =
+behind-done halt n ds s u t b now over false v is done m alike on = absurd (cc done)
+behind-done halt n ds s u (Some i) b now over true v is done m alike on = absurd (cc (is.none_taken refl))
+behind-done halt n ds s u None b now true true v is done m alike on =
     let between : IsBetween now None s v = is.looking in
     record {
       some = is.some;
@@ -97,6 +98,7 @@ behind-done n ds s u None b now true true v is done m alike on =
       in_time = is.in_time;
       fresh_owed = λ e. refl;
       ended_owed = λ e. refl;
+      stopped_owed = λ e. refl;
       behind_fresh = λ e. absurd (cc e);
       done_now = λ e g. absurd (cc g);
       none_taken = λ e. refl;
@@ -104,7 +106,7 @@ behind-done n ds s u None b now true true v is done m alike on =
       unstarted = λ e. absurd (cc e);
       near = λ e. is.near refl;
     }
-behind-done n ds s u None b now false true v is done m alike on =
+behind-done halt n ds s u None b now false true v is done m alike on =
     let f = oldest_front v.levels.plans v.front in
     let look : IsLook ds n now now None (with_counter b s) f v = is.looking in
     let next = on (with_counter b s) (with_counter b u) f look look.not_done (is.done_now refl refl)
@@ -117,6 +119,7 @@ behind-done n ds s u None b now false true v is done m alike on =
       in_time = is.in_time;
       fresh_owed = λ e. refl;
       ended_owed = λ e. absurd (cc e);
+      stopped_owed = λ e. refl;
       behind_fresh = λ e. absurd (cc e);
       done_now = λ e g. is.done_now refl refl;
       none_taken = λ e. refl;
@@ -129,12 +132,12 @@ done-fresh : (fresh : Bool) (banks : LastAnswers) → IsSome (if fresh then Some
 done-fresh true banks some = refl
 done-fresh false banks some = absurd (cc some)
 
-pub signal-inside : (n : ℕ) (ds : List ℕ) (s u : Machine) (t b : Option ℕ) (now : ℕ) (owed over fresh : Bool) (v : LookView)
-    → IsInside (standing n ds s t b now owed over fresh v) fresh v
-    → ((owed ≡ false) × (now ≡ 0)) ⊎ ((owed ≡ true) × IsSome (standing n ds s t b now owed over fresh v).closing)
+pub signal-inside : (halt : Bool) (n : ℕ) (ds : List ℕ) (s u : Machine) (t b : Option ℕ) (now : ℕ) (owed over fresh : Bool) (v : LookView)
+    → IsInside (standing n ds s t b now owed over halt fresh v) fresh v
+    → ((owed ≡ false) × (now ≡ 0)) ⊎ ((owed ≡ true) × IsSome (standing n ds s t b now owed over halt fresh v).closing)
     → IsMachine u → AreAlikeBesideOrders s u → LooksOn ds n now v
-    → IsInside (standing n ds u t b now owed over fresh v) fresh v
-signal-inside n ds s u t b now false over fresh v is (inl turn) m alike on = before-first n ds s u t b now over fresh v is turn.1 m alike on
-signal-inside n ds s u t b now true over fresh v is (inl turn) m alike on = absurd (cc turn.0)
-signal-inside n ds s u t b now true over fresh v is (inr turn) m alike on = behind-done n ds s u t b now over fresh v is (done-fresh fresh (answers_before now v) turn.1) m alike on
-signal-inside n ds s u t b now false over fresh v is (inr turn) m alike on = absurd (cc turn.0)
+    → IsInside (standing n ds u t b now owed over halt fresh v) fresh v
+signal-inside halt n ds s u t b now false over fresh v is (inl turn) m alike on = before-first halt n ds s u t b now over fresh v is turn.1 m alike on
+signal-inside halt n ds s u t b now true over fresh v is (inl turn) m alike on = absurd (cc turn.0)
+signal-inside halt n ds s u t b now true over fresh v is (inr turn) m alike on = behind-done halt n ds s u t b now over fresh v is (done-fresh fresh (answers_before now v) turn.1) m alike on
+signal-inside halt n ds s u t b now false over fresh v is (inr turn) m alike on = absurd (cc turn.0)

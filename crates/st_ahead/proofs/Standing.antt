@@ -49,8 +49,8 @@ left_over true x y e = absurd (cc e)
 
 -- ---- machines that agree
 
-abbrev pub overlap : List ℕ → ℕ → Machine → Option ℕ → Option ℕ → Front → ℕ → Bool → Bool → Option LastAnswers → Overlap
-overlap ds n s t b f now owed ended closing = record {
+abbrev pub overlap : Bool → List ℕ → ℕ → Machine → Option ℕ → Option ℕ → Front → ℕ → Bool → Bool → Option LastAnswers → Overlap
+overlap halt ds n s t b f now owed ended closing = record {
   delays = ds;
   levels = n;
   state = s;
@@ -60,12 +60,13 @@ overlap ds n s t b f now owed ended closing = record {
   now = now;
   owed = owed;
   ended = ended;
+  stopped = halt;
   closing = closing;
 }
 
-pub same-fields : (ds : List ℕ) (n : ℕ) (s u : Machine) (t : Option ℕ) (b c : Option ℕ) (f g : Front) (now : ℕ) (owed ended : Bool) (x y : Option LastAnswers)
-    → s ≡ u → b ≡ c → f ≡ g → x ≡ y → overlap ds n s t b f now owed ended x ≡ overlap ds n u t c g now owed ended y
-same-fields ds n s u t b c f g now owed ended x y state behind front closing = rw (state, behind, front, closing) refl
+pub same-fields : (halt : Bool) (ds : List ℕ) (n : ℕ) (s u : Machine) (t : Option ℕ) (b c : Option ℕ) (f g : Front) (now : ℕ) (owed ended : Bool) (x y : Option LastAnswers)
+    → s ≡ u → b ≡ c → f ≡ g → x ≡ y → overlap halt ds n s t b f now owed ended x ≡ overlap halt ds n u t c g now owed ended y
+same-fields halt ds n s u t b c f g now owed ended x y state behind front closing = rw (state, behind, front, closing) refl
 
 -- a row that is told
 abbrev pub told : ℕ → ℕ → ℕ → ℕ → ℕ → Row
@@ -94,7 +95,7 @@ opened-answers now t s banks start v is = rw (is.log, is.words) refl
 
 pub started-inside : (n : ℕ) (ds : List ℕ) (s : Machine) (v : LookView) → 1 ≤ n → n ≤ 8 → IsMachine s → s.enabled ≡ false → s.waiting ≡ false
     → IsOpened None s (opening (record { ticks = replicate BANKS 0 }) 0) v
-    → IsInside (standing n ds s None None 0 false false false v) false v × (standing n ds s None None 0 false false false v ≡ started ds n s)
+    → IsInside (standing n ds s None None 0 false false false false v) false v × (standing n ds s None None 0 false false false false v ≡ started ds n s)
 unfolding seen
 started-inside n ds s v some few m enabled waiting is =
     let banks : LastAnswers = record { ticks = replicate BANKS 0 } in
@@ -108,6 +109,7 @@ started-inside n ds s v some few m enabled waiting is =
         in_time = omega arith;
         fresh_owed = λ e. absurd (cc e);
         ended_owed = λ e. absurd (cc e);
+        stopped_owed = λ e. absurd (cc e);
         behind_fresh = λ e. refl;
         done_now = λ e. absurd (cc e);
         none_taken = λ e. refl;
@@ -115,7 +117,7 @@ started-inside n ds s v some few m enabled waiting is =
         unstarted = λ e f. record { enabled = enabled; waiting = waiting; table = refl; start = ap (λ (g : Front). g.c) front };
         near = λ e. absurd (cc e);
       },
-      same-fields ds n s s None None None _ _ 0 false false None None refl refl front refl,
+      same-fields false ds n s s None None None _ _ 0 false false None None refl refl front refl,
     )
 
 -- ---- between two ticks
@@ -127,13 +129,13 @@ pub record IsIdle (n : ℕ) (ds : List ℕ) (s : Machine) (t b : Option ℕ) (no
   pub behind : b ≡ None
   pub look : IsLook ds n (now - 1) now t s (oldest_front v.levels.plans v.front) v
 
-pub idle : (n : ℕ) (ds : List ℕ) (s : Machine) (t b : Option ℕ) (now : ℕ) (owed ended fresh : Bool) (v : LookView)
-    → IsInside (standing n ds s t b now owed ended fresh v) fresh v → owed ≡ false → IsIdle n ds s t b now ended fresh v
+pub idle : (halt : Bool) (n : ℕ) (ds : List ℕ) (s : Machine) (t b : Option ℕ) (now : ℕ) (owed ended fresh : Bool) (v : LookView)
+    → IsInside (standing n ds s t b now owed ended halt fresh v) fresh v → owed ≡ false → IsIdle n ds s t b now ended fresh v
 unfolding seen
-idle n ds s t b now true ended fresh v is e = absurd (cc e)
-idle n ds s t b now false true fresh v is e = absurd (cc (is.ended_owed refl))
-idle n ds s t b now false false true v is e = absurd (cc (is.fresh_owed refl))
-idle n ds s t b now false false false v is e =
+idle halt n ds s t b now true ended fresh v is e = absurd (cc e)
+idle halt n ds s t b now false true fresh v is e = absurd (cc (is.ended_owed refl))
+idle halt n ds s t b now false false true v is e = absurd (cc (is.fresh_owed refl))
+idle halt n ds s t b now false false false v is e =
     let behind = is.behind_fresh refl in
     record {
       ended = refl;
@@ -149,17 +151,17 @@ not-first now (level ∷ levels) each some = let early : level.p < now = All-hea
 
 -- ---- a tick
 
-pub passed-calm : (n : ℕ) (ds : List ℕ) (s u : Machine) (t : Option ℕ) (now : ℕ) (v w : LookView)
-    → IsInside (standing n ds s t None now false false false v) false v → now < 2 ^ 63
+pub passed-calm : (halt : Bool) (n : ℕ) (ds : List ℕ) (s u : Machine) (t : Option ℕ) (now : ℕ) (v w : LookView)
+    → IsInside (standing n ds s t None now false false halt false v) false v → now < 2 ^ 63
     → IsPassedBy ds n now t s (oldest_front v.levels.plans v.front) v u w
     → oldest_front w.levels.plans w.front ≡ oldest_front v.levels.plans v.front
-    → IsInside (standing n ds u t None now true false false w) false w
-    × (is_done (standing n ds s t None now false false false v) ≡ false)
-    × (standing n ds u t None now true false false w ≡ ticked (standing n ds s t None now false false false v))
+    → IsInside (standing n ds u t None now true false halt false w) false w
+    × (is_done (standing n ds s t None now false false halt false v) ≡ false)
+    × (standing n ds u t None now true false halt false w ≡ ticked (standing n ds s t None now false false halt false v))
 unfolding seen oldest_row ticked
-passed-calm n ds s u t now v w is early by front =
+passed-calm halt n ds s u t now v w is early by front =
     let f = oldest_front v.levels.plans v.front in
-    let late : is_done (standing n ds s t None now false false false v) ≡ false = ne_eqb (row ds n f (entry t s)).c now by.later in
+    let late : is_done (standing n ds s t None now false false halt false v) ≡ false = ne_eqb (row ds n f (entry t s)).c now by.later in
     let quiet = is.quiet refl in (
       record {
         some = is.some;
@@ -171,6 +173,7 @@ passed-calm n ds s u t now v w is early by front =
         in_time = early;
         fresh_owed = λ e. absurd (cc e);
         ended_owed = λ e. absurd (cc e);
+        stopped_owed = λ e. refl;
         behind_fresh = λ e. refl;
         done_now = λ e. absurd (cc e);
         none_taken = λ e. absurd (cc e);
@@ -182,21 +185,21 @@ passed-calm n ds s u t now v w is early by front =
         near = λ e. absurd (cc e);
       },
       late,
-      same-fields ds n u s t None None _ f now true false None None by.state refl front refl ∙ sym (left_over _ _ _ late),
+      same-fields halt ds n u s t None None _ f now true false None None by.state refl front refl ∙ sym (left_over _ _ _ late),
     )
 
-pub passed-tick : (n : ℕ) (ds : List ℕ) (s u : Machine) (t b : Option ℕ) (now : ℕ) (owed ended fresh : Bool) (v w : LookView)
-    → IsInside (standing n ds s t b now owed ended fresh v) fresh v → owed ≡ false → now < 2 ^ 63
+pub passed-tick : (halt : Bool) (n : ℕ) (ds : List ℕ) (s u : Machine) (t b : Option ℕ) (now : ℕ) (owed ended fresh : Bool) (v w : LookView)
+    → IsInside (standing n ds s t b now owed ended halt fresh v) fresh v → owed ≡ false → now < 2 ^ 63
     → IsPassedBy ds n now t s (oldest_front v.levels.plans v.front) v u w
     → oldest_front w.levels.plans w.front ≡ oldest_front v.levels.plans v.front
-    → IsInside (standing n ds u t b now true ended fresh w) fresh w
-    × (is_done (standing n ds s t b now owed ended fresh v) ≡ false)
-    × (standing n ds u t b now true ended fresh w ≡ ticked (standing n ds s t b now owed ended fresh v))
-passed-tick n ds s u t b now true ended fresh v w is e early by front = absurd (cc e)
-passed-tick n ds s u t b now false true fresh v w is e early by front = absurd (cc (is.ended_owed refl))
-passed-tick n ds s u t b now false false true v w is e early by front = absurd (cc (is.fresh_owed refl))
-passed-tick n ds s u t (Some h) now false false false v w is e early by front = absurd (cc (is.behind_fresh refl))
-passed-tick n ds s u t None now false false false v w is e early by front = passed-calm n ds s u t now v w is early by front
+    → IsInside (standing n ds u t b now true ended halt fresh w) fresh w
+    × (is_done (standing n ds s t b now owed ended halt fresh v) ≡ false)
+    × (standing n ds u t b now true ended halt fresh w ≡ ticked (standing n ds s t b now owed ended halt fresh v))
+passed-tick halt n ds s u t b now true ended fresh v w is e early by front = absurd (cc e)
+passed-tick halt n ds s u t b now false true fresh v w is e early by front = absurd (cc (is.ended_owed refl))
+passed-tick halt n ds s u t b now false false true v w is e early by front = absurd (cc (is.fresh_owed refl))
+passed-tick halt n ds s u t (Some h) now false false false v w is e early by front = absurd (cc (is.behind_fresh refl))
+passed-tick halt n ds s u t None now false false false v w is e early by front = passed-calm halt n ds s u t now v w is early by front
 
 -- what runs ahead goes on by the guess
 pub guess-seen : (t : Option ℕ) (s u : Machine) (b : Bool) (missed : Option ℕ) → is_missed (plan s t) s ≡ b
@@ -207,22 +210,22 @@ pub guess-seen : (t : Option ℕ) (s u : Machine) (b : Bool) (missed : Option �
 guess-seen t s u true missed is state told right wrong = rw (told, state) (sym (wrong is))
 guess-seen t s u false missed is state told right wrong = rw (told, state) (sym (right is))
 
-pub done-calm : (n : ℕ) (ds : List ℕ) (s u : Machine) (t : Option ℕ) (now : ℕ) (v w : LookView) (done : Completed)
-    → IsInside (standing n ds s t None now false false false v) false v → now < 2 ^ 63
+pub done-calm : (halt : Bool) (n : ℕ) (ds : List ℕ) (s u : Machine) (t : Option ℕ) (now : ℕ) (v w : LookView) (done : Completed)
+    → IsInside (standing n ds s t None now false false halt false v) false v → now < 2 ^ 63
     → IsDoneAt ds n now t s (oldest_front v.levels.plans v.front) v u w done
     → oldest_front w.levels.plans w.front ≡ after ds n (oldest_front v.levels.plans v.front) (entry t s)
-    → banks_at_its_end (standing n ds s t None now false false false v) ≡ answers_before now v
+    → banks_at_its_end (standing n ds s t None now false false halt false v) ≡ answers_before now v
     → All (λ b. b ≤ now + 255) (answers_before now v).ticks
     → with_counter done.missed u ≡ guess t s
-    → IsInside (standing n ds u None done.missed now true false true w) true w
-    × (is_done (standing n ds s t None now false false false v) ≡ true)
-    × (standing n ds u None done.missed now true false true w ≡ ticked (standing n ds s t None now false false false v))
+    → IsInside (standing n ds u None done.missed now true false halt true w) true w
+    × (is_done (standing n ds s t None now false false halt false v) ≡ true)
+    × (standing n ds u None done.missed now true false halt true w ≡ ticked (standing n ds s t None now false false halt false v))
 unfolding seen oldest_row ticked completed
-done-calm n ds s u t now v w done is early by front banks near guessed =
+done-calm halt n ds s u t now v w done is early by front banks near guessed =
     let f = oldest_front v.levels.plans v.front in
-    let due : is_done (standing n ds s t None now false false false v) ≡ true = eq-eqb (row ds n f (entry t s)).c now by.due in
+    let due : is_done (standing n ds s t None now false false halt false v) ≡ true = eq-eqb (row ds n f (entry t s)).c now by.due in
     let same : answers_before now w ≡ answers_before now v = answers-same now v w by.log by.bus in
-    let left : Some (answers_before now w) ≡ Some (banks_at_its_end (standing n ds s t None now false false false v)) = ap Some (same ∙ sym banks) in (
+    let left : Some (answers_before now w) ≡ Some (banks_at_its_end (standing n ds s t None now false false halt false v)) = ap Some (same ∙ sym banks) in (
       record {
         some = is.some;
         few = is.few;
@@ -233,6 +236,7 @@ done-calm n ds s u t now v w done is early by front banks near guessed =
         in_time = early;
         fresh_owed = λ e. refl;
         ended_owed = λ e. refl;
+        stopped_owed = λ e. refl;
         behind_fresh = λ e. absurd (cc e);
         done_now = λ e g. ap (λ (x : Front). x.c) front ∙ after-c ds n f (entry t s) ∙ by.due;
         none_taken = λ e. refl;
@@ -241,25 +245,25 @@ done-calm n ds s u t now v w done is early by front banks near guessed =
         near = λ e. subst (λ (x : LastAnswers). All (λ b. b ≤ now + 255) x.ticks) (sym same) near;
       },
       due,
-      same-fields ds n u (executed t s) None done.missed _ _ (after ds n f (entry t s)) now true false _ _ by.state by.told.missed front left
+      same-fields halt ds n u (executed t s) None done.missed _ _ (after ds n f (entry t s)) now true false _ _ by.state by.told.missed front left
           ∙ sym (chosen _ _ _ due),
     )
 
-pub done-tick : (n : ℕ) (ds : List ℕ) (s u : Machine) (t b : Option ℕ) (now : ℕ) (owed ended fresh : Bool) (v w : LookView) (done : Completed)
-    → IsInside (standing n ds s t b now owed ended fresh v) fresh v → owed ≡ false → now < 2 ^ 63
+pub done-tick : (halt : Bool) (n : ℕ) (ds : List ℕ) (s u : Machine) (t b : Option ℕ) (now : ℕ) (owed ended fresh : Bool) (v w : LookView) (done : Completed)
+    → IsInside (standing n ds s t b now owed ended halt fresh v) fresh v → owed ≡ false → now < 2 ^ 63
     → IsDoneAt ds n now t s (oldest_front v.levels.plans v.front) v u w done
     → oldest_front w.levels.plans w.front ≡ after ds n (oldest_front v.levels.plans v.front) (entry t s)
-    → banks_at_its_end (standing n ds s t None now false false false v) ≡ answers_before now v
+    → banks_at_its_end (standing n ds s t None now false false halt false v) ≡ answers_before now v
     → All (λ b. b ≤ now + 255) (answers_before now v).ticks
     → with_counter done.missed u ≡ guess t s
-    → IsInside (standing n ds u None done.missed now true ended true w) true w
-    × (is_done (standing n ds s t b now owed ended fresh v) ≡ true)
-    × (standing n ds u None done.missed now true ended true w ≡ ticked (standing n ds s t b now owed ended fresh v))
-done-tick n ds s u t b now true ended fresh v w done is e early by front banks near guessed = absurd (cc e)
-done-tick n ds s u t b now false true fresh v w done is e early by front banks near guessed = absurd (cc (is.ended_owed refl))
-done-tick n ds s u t b now false false true v w done is e early by front banks near guessed = absurd (cc (is.fresh_owed refl))
-done-tick n ds s u t (Some h) now false false false v w done is e early by front banks near guessed = absurd (cc (is.behind_fresh refl))
-done-tick n ds s u t None now false false false v w done is e early by front banks near guessed = done-calm n ds s u t now v w done is early by front banks near guessed
+    → IsInside (standing n ds u None done.missed now true ended halt true w) true w
+    × (is_done (standing n ds s t b now owed ended halt fresh v) ≡ true)
+    × (standing n ds u None done.missed now true ended halt true w ≡ ticked (standing n ds s t b now owed ended halt fresh v))
+done-tick halt n ds s u t b now true ended fresh v w done is e early by front banks near guessed = absurd (cc e)
+done-tick halt n ds s u t b now false true fresh v w done is e early by front banks near guessed = absurd (cc (is.ended_owed refl))
+done-tick halt n ds s u t b now false false true v w done is e early by front banks near guessed = absurd (cc (is.fresh_owed refl))
+done-tick halt n ds s u t (Some h) now false false false v w done is e early by front banks near guessed = absurd (cc (is.behind_fresh refl))
+done-tick halt n ds s u t None now false false false v w done is e early by front banks near guessed = done-calm halt n ds s u t now v w done is early by front banks near guessed
 
 -- ---- what is told of an entry that is done
 
@@ -267,22 +271,22 @@ pub same-row : (number address p r c number' address' p' r' : ℕ) → number �
     → told number address p r c ≡ told number' address' p' r' c
 same-row number address p r c number' address' p' r' a b d e = rw (a, b, d, e) refl
 
-row-calm : (n : ℕ) (ds : List ℕ) (s u : Machine) (t : Option ℕ) (now : ℕ) (v w : LookView) (done : Completed)
+row-calm : (halt : Bool) (n : ℕ) (ds : List ℕ) (s u : Machine) (t : Option ℕ) (now : ℕ) (v w : LookView) (done : Completed)
     → IsDoneAt ds n now t s (oldest_front v.levels.plans v.front) v u w done → (executed t s).done ≡ s.done + 1
-    → told u.done done.address done.p done.r now ≡ row_done (standing n ds s t None now false false false v)
+    → told u.done done.address done.p done.r now ≡ row_done (standing n ds s t None now false false halt false v)
 unfolding seen oldest_row
-row-calm n ds s u t now v w done by number =
+row-calm halt n ds s u t now v w done by number =
     same-row u.done done.address done.p done.r now _ _ _ _ (ap (λ (x : Machine). x.done) by.state ∙ number) by.told.address by.told.p by.told.r
 
-pub row-tick : (n : ℕ) (ds : List ℕ) (s u : Machine) (t b : Option ℕ) (now : ℕ) (owed ended fresh : Bool) (v w : LookView) (done : Completed)
-    → IsInside (standing n ds s t b now owed ended fresh v) fresh v → owed ≡ false
+pub row-tick : (halt : Bool) (n : ℕ) (ds : List ℕ) (s u : Machine) (t b : Option ℕ) (now : ℕ) (owed ended fresh : Bool) (v w : LookView) (done : Completed)
+    → IsInside (standing n ds s t b now owed ended halt fresh v) fresh v → owed ≡ false
     → IsDoneAt ds n now t s (oldest_front v.levels.plans v.front) v u w done → (executed t s).done ≡ s.done + 1
-    → told u.done done.address done.p done.r now ≡ row_done (standing n ds s t b now owed ended fresh v)
-row-tick n ds s u t b now true ended fresh v w done is e by number = absurd (cc e)
-row-tick n ds s u t b now false true fresh v w done is e by number = absurd (cc (is.ended_owed refl))
-row-tick n ds s u t b now false false true v w done is e by number = absurd (cc (is.fresh_owed refl))
-row-tick n ds s u t (Some h) now false false false v w done is e by number = absurd (cc (is.behind_fresh refl))
-row-tick n ds s u t None now false false false v w done is e by number = row-calm n ds s u t now v w done by number
+    → told u.done done.address done.p done.r now ≡ row_done (standing n ds s t b now owed ended halt fresh v)
+row-tick halt n ds s u t b now true ended fresh v w done is e by number = absurd (cc e)
+row-tick halt n ds s u t b now false true fresh v w done is e by number = absurd (cc (is.ended_owed refl))
+row-tick halt n ds s u t b now false false true v w done is e by number = absurd (cc (is.fresh_owed refl))
+row-tick halt n ds s u t (Some h) now false false false v w done is e by number = absurd (cc (is.behind_fresh refl))
+row-tick halt n ds s u t None now false false false v w done is e by number = row-calm halt n ds s u t now v w done by number
 
 -- ---- the banks
 
@@ -292,13 +296,13 @@ same-answers x y h = ap (λ (ticks : List ℕ). from-ticks ticks) h
     from-ticks : List ℕ → LastAnswers
     from-ticks ticks = record { ticks = ticks }
 
-pub banks-at : (n : ℕ) (ds : List ℕ) (s : Machine) (t : Option ℕ) (now : ℕ) (v : LookView)
+pub banks-at : (halt : Bool) (n : ℕ) (ds : List ℕ) (s : Machine) (t : Option ℕ) (now : ℕ) (v : LookView)
     → (let f = oldest_front v.levels.plans v.front in
     (made_before ds now (asked ds n f (entry t s) ++ reads_before ds n now (ahead ds n (suc n) None (guess t s) (after ds n f (entry t s)))) f.bus).banks.ticks
     ≡ (answers_before now v).ticks)
-    → banks_at_its_end (standing n ds s t None now false false false v) ≡ answers_before now v
+    → banks_at_its_end (standing n ds s t None now false false halt false v) ≡ answers_before now v
 unfolding seen banks_at_its_end
-banks-at n ds s t now v h = same-answers _ _ h
+banks-at halt n ds s t now v h = same-answers _ _ h
 
 pub some-due : (k : ℕ) → (k ≡ 0 → ⊥) → 1 ≤ k
 some-due zero f = absurd (f refl)

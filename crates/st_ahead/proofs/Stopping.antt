@@ -19,18 +19,18 @@ use Rattle.st_ahead.proofs.Runs.{is-due, ticked-done}
 use Rattle.st_ahead.proofs.Standing.{same-fields, same-row, told, after-c}
 
 -- a machine that nothing is owed of may be awake
-pub awake-inside : (n : ℕ) (ds : List ℕ) (s : Machine) (t b : Option ℕ) (now : ℕ) (owed ended fresh : Bool) (v : LookView)
-    → IsInside (standing n ds s t b now owed ended fresh v) fresh v → owed ≡ false → IsAwake t s
-awake-inside n ds s t b now true ended fresh v is e = absurd (cc e)
-awake-inside n ds s t b now false ended true v is e = absurd (cc (is.fresh_owed refl))
-awake-inside n ds s t b now false ended false v is e = let quiet = is.quiet refl in record { due = quiet.0; goes = quiet.1 }
+pub awake-inside : (halt : Bool) (n : ℕ) (ds : List ℕ) (s : Machine) (t b : Option ℕ) (now : ℕ) (owed ended fresh : Bool) (v : LookView)
+    → IsInside (standing n ds s t b now owed ended halt fresh v) fresh v → owed ≡ false → IsAwake t s
+awake-inside halt n ds s t b now true ended fresh v is e = absurd (cc e)
+awake-inside halt n ds s t b now false ended true v is e = absurd (cc (is.fresh_owed refl))
+awake-inside halt n ds s t b now false ended false v is e = let quiet = is.quiet refl in record { due = quiet.0; goes = quiet.1 }
 
 -- all ticks up to `last` are passed
 passed-calm : (n : ℕ) (ds : List ℕ) (s u : Machine) (t k : Option ℕ) (now last count : ℕ) (v w : LookView)
-    → IsInside (standing n ds s t None now false false false v) false v → last < 2 ^ 63
+    → IsInside (standing n ds s t None now false false false false v) false v → last < 2 ^ 63
     → (is : HasPassed ds n count last now t s (oldest_front v.levels.plans v.front) k u w) → oldest_front w.levels.plans w.front ≡ is.front
-    → IsInside (standing n ds u k None (last + 1) false false false w) false w
-    × ArePassed count (last + 1 - now) (standing n ds s t None now false false false v) (standing n ds u k None (last + 1) false false false w)
+    → IsInside (standing n ds u k None (last + 1) false false false false w) false w
+    × ArePassed count (last + 1 - now) (standing n ds s t None now false false false false v) (standing n ds u k None (last + 1) false false false false w)
 unfolding seen
 passed-calm n ds s u t k now last count v w is early by front = (
   record {
@@ -44,6 +44,7 @@ passed-calm n ds s u t k now last count v w is early by front = (
     in_time = omega (arith, early);
     fresh_owed = λ e. absurd (cc e);
     ended_owed = λ e. absurd (cc e);
+    stopped_owed = λ e. absurd (cc e);
     behind_fresh = λ e. refl;
     done_now = λ e. absurd (cc e);
     none_taken = λ e. absurd (cc e);
@@ -51,19 +52,20 @@ passed-calm n ds s u t k now last count v w is early by front = (
     unstarted = λ e first. absurd (omega (arith, first));
     near = λ e. absurd (cc e);
   },
-  subst (λ (g : Front). ArePassed count (last + 1 - now) (standing n ds s t None now false false false v) (between ds n u k g (last + 1))) (sym front) by.passed,
+  subst (λ (g : Front). ArePassed count (last + 1 - now) (standing n ds s t None now false false false false v) (between ds n u k g (last + 1))) (sym front) by.passed,
 )
 
-pub passed-machine : (n : ℕ) (ds : List ℕ) (s u : Machine) (t k b : Option ℕ) (now last count : ℕ) (owed ended fresh : Bool) (v w : LookView)
-    → IsInside (standing n ds s t b now owed ended fresh v) fresh v → owed ≡ false → last < 2 ^ 63
+pub passed-machine : (halt : Bool) (n : ℕ) (ds : List ℕ) (s u : Machine) (t k b : Option ℕ) (now last count : ℕ) (owed ended fresh : Bool) (v w : LookView)
+    → IsInside (standing n ds s t b now owed ended halt fresh v) fresh v → owed ≡ false → last < 2 ^ 63
     → (is : HasPassed ds n count last now t s (oldest_front v.levels.plans v.front) k u w) → oldest_front w.levels.plans w.front ≡ is.front
-    → IsInside (standing n ds u k b (last + 1) owed ended fresh w) fresh w
-    × ArePassed count (last + 1 - now) (standing n ds s t b now owed ended fresh v) (standing n ds u k b (last + 1) owed ended fresh w)
-passed-machine n ds s u t k b now last count true ended fresh v w is e early by front = absurd (cc e)
-passed-machine n ds s u t k b now last count false true fresh v w is e early by front = absurd (cc (is.ended_owed refl))
-passed-machine n ds s u t k b now last count false false true v w is e early by front = absurd (cc (is.fresh_owed refl))
-passed-machine n ds s u t k (Some h) now last count false false false v w is e early by front = absurd (cc (is.behind_fresh refl))
-passed-machine n ds s u t k None now last count false false false v w is e early by front = passed-calm n ds s u t k now last count v w is early by front
+    → IsInside (standing n ds u k b (last + 1) owed ended halt fresh w) fresh w
+    × ArePassed count (last + 1 - now) (standing n ds s t b now owed ended halt fresh v) (standing n ds u k b (last + 1) owed ended halt fresh w)
+passed-machine halt n ds s u t k b now last count true ended fresh v w is e early by front = absurd (cc e)
+passed-machine halt n ds s u t k b now last count false true fresh v w is e early by front = absurd (cc (is.ended_owed refl))
+passed-machine halt n ds s u t k b now last count false false true v w is e early by front = absurd (cc (is.fresh_owed refl))
+passed-machine true n ds s u t k b now last count false false false v w is e early by front = absurd (cc (is.stopped_owed refl))
+passed-machine false n ds s u t k (Some h) now last count false false false v w is e early by front = absurd (cc (is.behind_fresh refl))
+passed-machine false n ds s u t k None now last count false false false v w is e early by front = passed-calm n ds s u t k now last count v w is early by front
 
 -- an entry is done, behind which something may come
 row-between : (n : ℕ) (ds : List ℕ) (s u : Machine) (t : Option ℕ) (f : Front) (tick number : ℕ) (done : Completed)
@@ -74,21 +76,21 @@ row-between n ds s u t f tick number done counted address p r =
     same-row number done.address done.p done.r tick _ _ _ _ counted address p r
 
 stopped-calm : (n : ℕ) (ds : List ℕ) (s u : Machine) (t : Option ℕ) (now last count tick number : ℕ) (v w : LookView) (done : Completed)
-    → IsInside (standing n ds s t None now false false false v) false v → last < 2 ^ 63
+    → IsInside (standing n ds s t None now false false false false v) false v → last < 2 ^ 63
     → (is : HasStopped ds n count last now tick t s (oldest_front v.levels.plans v.front) None u w done)
     → oldest_front w.levels.plans w.front ≡ after ds n is.front (entry is.table is.state)
     → with_counter done.missed u ≡ guess is.table is.state → number ≡ is.state.done + 1
-    → IsInside (standing n ds u None done.missed tick true false true w) true w
-    × StopsAt count last (told number done.address done.p done.r tick) (standing n ds s t None now false false false v)
-    (standing n ds u None done.missed tick true false true w)
+    → IsInside (standing n ds u None done.missed tick true false false true w) true w
+    × StopsAt count last (told number done.address done.p done.r tick) (standing n ds s t None now false false false false v)
+    (standing n ds u None done.missed tick true false false true w)
 unfolding seen completed
 stopped-calm n ds s u t now last count tick number v w done is early by front guessed counted =
     let f = by.front in
     let at = by.done_at in
     let state = between ds n by.state by.table f tick in
-    let new = standing n ds u None done.missed tick true false true w in
+    let new = standing n ds u None done.missed tick true false false true w in
     let after_ : new ≡ ticked state =
-    same-fields ds n u (executed by.table by.state) None done.missed _ _ (after ds n f (entry by.table by.state)) tick true false _ _ at.state at.told.missed front
+    same-fields false ds n u (executed by.table by.state) None done.missed _ _ (after ds n f (entry by.table by.state)) tick true false _ _ at.state at.told.missed front
     (ap Some (sym by.banks))
     ∙ sym (ticked-done ds n tick by.table by.state f at.due) in (
       record {
@@ -101,6 +103,7 @@ stopped-calm n ds s u t now last count tick number v w done is early by front gu
         in_time = omega (arith, early, by.soon);
         fresh_owed = λ e. refl;
         ended_owed = λ e. refl;
+        stopped_owed = λ e. absurd (cc e);
         behind_fresh = λ e. absurd (cc e);
         done_now = λ e g. ap (λ (x : Front). x.c) front ∙ after-c ds n f (entry by.table by.state) ∙ at.due;
         none_taken = λ e. refl;
@@ -120,18 +123,19 @@ stopped-calm n ds s u t now last count tick number v w done is early by front gu
       },
     )
 
-pub stopped-machine : (n : ℕ) (ds : List ℕ) (s u : Machine) (t k b : Option ℕ) (now last count tick number : ℕ) (owed ended fresh : Bool) (v w : LookView) (done : Completed)
-    → IsInside (standing n ds s t b now owed ended fresh v) fresh v → owed ≡ false → last < 2 ^ 63
+pub stopped-machine : (halt : Bool) (n : ℕ) (ds : List ℕ) (s u : Machine) (t k b : Option ℕ) (now last count tick number : ℕ) (owed ended fresh : Bool) (v w : LookView) (done : Completed)
+    → IsInside (standing n ds s t b now owed ended halt fresh v) fresh v → owed ≡ false → last < 2 ^ 63
     → (is : HasStopped ds n count last now tick t s (oldest_front v.levels.plans v.front) k u w done)
     → oldest_front w.levels.plans w.front ≡ after ds n is.front (entry is.table is.state)
     → with_counter done.missed u ≡ guess is.table is.state → number ≡ is.state.done + 1
-    → IsInside (standing n ds u k done.missed tick true ended true w) true w
-    × StopsAt count last (told number done.address done.p done.r tick) (standing n ds s t b now owed ended fresh v)
-    (standing n ds u k done.missed tick true ended true w)
-stopped-machine n ds s u t k b now last count tick number true ended fresh v w done is e early by front guessed counted = absurd (cc e)
-stopped-machine n ds s u t k b now last count tick number false true fresh v w done is e early by front guessed counted = absurd (cc (is.ended_owed refl))
-stopped-machine n ds s u t k b now last count tick number false false true v w done is e early by front guessed counted = absurd (cc (is.fresh_owed refl))
-stopped-machine n ds s u t k (Some h) now last count tick number false false false v w done is e early by front guessed counted = absurd (cc (is.behind_fresh refl))
-stopped-machine n ds s u t (Some i) None now last count tick number false false false v w done is e early by front guessed counted = absurd (cc by.none_taken)
-stopped-machine n ds s u t None None now last count tick number false false false v w done is e early by front guessed counted =
+    → IsInside (standing n ds u k done.missed tick true ended halt true w) true w
+    × StopsAt count last (told number done.address done.p done.r tick) (standing n ds s t b now owed ended halt fresh v)
+    (standing n ds u k done.missed tick true ended halt true w)
+stopped-machine halt n ds s u t k b now last count tick number true ended fresh v w done is e early by front guessed counted = absurd (cc e)
+stopped-machine halt n ds s u t k b now last count tick number false true fresh v w done is e early by front guessed counted = absurd (cc (is.ended_owed refl))
+stopped-machine halt n ds s u t k b now last count tick number false false true v w done is e early by front guessed counted = absurd (cc (is.fresh_owed refl))
+stopped-machine true n ds s u t k b now last count tick number false false false v w done is e early by front guessed counted = absurd (cc (is.stopped_owed refl))
+stopped-machine false n ds s u t k (Some h) now last count tick number false false false v w done is e early by front guessed counted = absurd (cc (is.behind_fresh refl))
+stopped-machine false n ds s u t (Some i) None now last count tick number false false false v w done is e early by front guessed counted = absurd (cc by.none_taken)
+stopped-machine false n ds s u t None None now last count tick number false false false v w done is e early by front guessed counted =
     stopped-calm n ds s u t now last count tick number v w done is early by front guessed counted

@@ -75,6 +75,10 @@ ended m =
       ended = true;
     }
 
+-- the machine at the end of a run
+abbrev pub run_ended : Overlap → Overlap
+run_ended m = record (ended m) { stopped = true }
+
 -- ---- the decision about interrupts
 
 -- the tick is settled
@@ -110,13 +114,13 @@ answer m = answer_by (interrupt_due m) (rests m.state) m.behind m
 abbrev pub signalled_by : ℕ → Overlap → Overlap
 signalled_by i m = record m { state = signalled m.state i }
 
--- one may come: before the first tick, or where an entry was done at the tick that is not settled yet
+-- one may come: before the first tick, or where an entry was done at the tick that is not settled yet, and the run has not ended
 abbrev pub MaySignal : Overlap → Type 0
-MaySignal m = ((m.owed ≡ false) × (m.now ≡ 0)) ⊎ ((m.owed ≡ true) × IsSome m.closing)
+MaySignal m = (((m.owed ≡ false) × (m.now ≡ 0)) ⊎ ((m.owed ≡ true) × IsSome m.closing)) × (m.stopped ≡ false)
 
--- a device may be served: behind a tick at which an entry was done, while its settle is owed
+-- a device may be served: behind a tick at which an entry was done, while its settle is owed, in a run that has not ended
 abbrev pub MayServe : Overlap → Type 0
-MayServe m = (m.owed ≡ true) × IsSome m.closing
+MayServe m = (m.owed ≡ true) × IsSome m.closing × (m.stopped ≡ false)
 
 -- the reader's order takes effect, for the area at word w: a card ends the segment first
 abbrev pub read_in_by : ℕ → Option (List ℕ) → Overlap → Overlap

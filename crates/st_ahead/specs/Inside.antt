@@ -18,8 +18,8 @@ abbrev pub answers_before : ℕ → LookView → LastAnswers
 answers_before now v = record { ticks = undone now v.log v.next.words.bus.banks.ticks }
 
 -- what it stands for, by what it keeps; `fresh` says whether an entry was done at this tick
-abbrev pub standing : ℕ → List ℕ → Machine → Option ℕ → Option ℕ → ℕ → Bool → Bool → Bool → LookView → Overlap
-standing n delays state taken behind now owed ended fresh v = record {
+abbrev pub standing : ℕ → List ℕ → Machine → Option ℕ → Option ℕ → ℕ → Bool → Bool → Bool → Bool → LookView → Overlap
+standing n delays state taken behind now owed ended stopped fresh v = record {
   delays = delays;
   levels = n;
   state = state;
@@ -29,6 +29,7 @@ standing n delays state taken behind now owed ended fresh v = record {
   now = now;
   owed = owed;
   ended = ended;
+  stopped = stopped;
   closing = if fresh then Some (answers_before now v) else None;
 }
 
@@ -65,6 +66,7 @@ pub record IsInside (m : Overlap) (fresh : Bool) (v : LookView) : Type 0 where
   pub in_time : IsInTime m.owed m.now
   pub fresh_owed : fresh ≡ true → m.owed ≡ true
   pub ended_owed : m.ended ≡ true → m.owed ≡ true
+  pub stopped_owed : m.stopped ≡ true → m.owed ≡ true
   pub behind_fresh : fresh ≡ false → m.behind ≡ None
   pub done_now : fresh ≡ true → m.ended ≡ false → m.front.c ≡ m.now
   pub none_taken : fresh ≡ true → m.taken ≡ None

@@ -15,8 +15,8 @@ use Rattle.st_segment.specs.Ahead.{Ahead, ahead, prepared_before, reads_before}
 
 -- the delays of reads and the number of levels; the committed state; the indicator whose interrupt was taken and whose table instruction is
 -- not done; the counter behind a branch that was missed at this tick; the front of the oldest entry that is not done; the tick that comes
--- next, or that is not settled yet; whether that is owed; whether the segment has ended at this tick; and, where an entry was done at it, the last
--- answers of the banks if the segment ends here
+-- next, or that is not settled yet; whether that is owed; whether the segment has ended at this tick; whether the run has; and, where an entry was
+-- done at this tick, the last answers of the banks if the segment ends here
 pub record Overlap : Type 0 where
   pub delays : List ℕ
   pub levels : ℕ
@@ -27,6 +27,7 @@ pub record Overlap : Type 0 where
   pub now : ℕ
   pub owed : Bool
   pub ended : Bool
+  pub stopped : Bool
   pub closing : Option LastAnswers
 
 -- banks that nothing was read from
@@ -45,6 +46,7 @@ started delays levels s = record {
   now = 0;
   owed = false;
   ended = false;
+  stopped = false;
   closing = None;
 }
 

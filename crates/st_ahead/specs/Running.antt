@@ -27,6 +27,7 @@ between ds n s t f now = record {
   now = now;
   owed = false;
   ended = false;
+  stopped = false;
   closing = None;
 }
 

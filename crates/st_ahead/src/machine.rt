@@ -11,7 +11,7 @@ use st_state::State;
 use std::marker::Model;
 
 /// A machine with N levels, 1 to 8, over storage whose reads take the given delays. Its calls take turns: after each `tick` one `settle` or one
-/// `stop` is owed. None takes memory. `docs/timetable.md` has the rules.
+/// `stop` is owed, and after `stop` none that changes it. None takes memory. `docs/timetable.md` has the rules.
 #[derive(Drop)]
 pub struct Machine<const N: usize> {
     delays: Delays,
@@ -21,6 +21,7 @@ pub struct Machine<const N: usize> {
     now: u64,
     owed: bool,
     ended: bool,
+    stopped: bool,
     fresh: bool,
     look: Look<N>,
 }
@@ -32,15 +33,15 @@ impl<const N: usize> Model for Machine<N> {
 
     ghost Value = { Overlap };
 
-    ghost view = { λ a. standing N a.delays a.state a.taken a.behind a.now a.owed a.ended a.fresh a.look };
+    ghost view = { λ a. standing N a.delays a.state a.taken a.behind a.now a.owed a.ended a.stopped a.fresh a.look };
 
-    ghost invariant = { λ a. IsInside (standing N a.delays a.state a.taken a.behind a.now a.owed a.ended a.fresh a.look) a.fresh a.look };
+    ghost invariant = { λ a. IsInside (standing N a.delays a.state a.taken a.behind a.now a.owed a.ended a.stopped a.fresh a.look) a.fresh a.look };
 }
 
 impl<const N: usize> Machine<N> {
     ghost use Rattle.st_exec.specs.Step.{rests};
     ghost use Rattle.st_ahead.specs.Overlap.{started, interrupt_due as interrupt_due_of};
-    ghost use Rattle.st_ahead.specs.Calls.{IsEvent, ticked, dropped, ended, answer, settled, passed, signalled_by, MaySignal, MayServe, read_in_by, dropped_by, printed_by};
+    ghost use Rattle.st_ahead.specs.Calls.{IsEvent, ticked, dropped, ended, run_ended, answer, settled, passed, signalled_by, MaySignal, MayServe, read_in_by, dropped_by, printed_by};
     ghost use Rattle.st_exec.specs.Transfer.{read_in as read_in_of, words_from};
     ghost use Rattle.st_ahead.specs.Overlap.{last_tick as last_tick_of};
     ghost use Rattle.st_ahead.specs.Shown.{AreLevelsOf, index_of, shown};
@@ -64,6 +65,7 @@ impl<const N: usize> Machine<N> {
             now: 0,
             owed: false,
             ended: false,
+            stopped: false,
             fresh: false,
             look,
         }
@@ -135,9 +137,10 @@ impl<const N: usize> Machine<N> {
     }
 
     /// Decides what comes behind the last tick: an interrupt is taken; or the machine waits, and the decision is still owed; or a missed branch ends
-    /// the segment; or it goes on. One is owed.
+    /// the segment; or it goes on. One is owed, and the run has not ended.
     pub fn settle(&mut self) -> Settled
-        requires { self.old.owed ≡ true }
+        requires owed { self.old.owed ≡ true }
+        requires stands { self.old.stopped ≡ false }
         ensures answer { result ≡ answer self.old }
         ensures after { self.new ≡ settled self.old }
     {
@@ -159,9 +162,10 @@ impl<const N: usize> Machine<N> {
     }
 
     /// What runs ahead goes on behind the last tick, as `settle` decides where it answers `Goes`: no interrupt is due, the machine is not at rest,
-    /// and no branch was missed. One is owed.
+    /// and no branch was missed. One is owed, and the run has not ended.
     pub fn go_on(&mut self)
         requires owed { self.old.owed ≡ true }
+        requires stands { self.old.stopped ≡ false }
         requires due { interrupt_due_of self.old ≡ None }
         requires goes { rests self.old.state ≡ false }
         requires right { self.old.behind ≡ None }
@@ -263,6 +267,7 @@ impl<const N: usize> Machine<N> {
     // The interrupt by this indicator, which is due, is taken.
     fn interrupt(&mut self, indicator: u8) -> Settled
         requires owed { self.old.owed ≡ true }
+        requires stands { self.old.stopped ≡ false }
         requires due { interrupt_due_of self.old ≡ Some indicator }
         requires known { indicator < 64 }
         ensures answer { result ≡ answer self.old }
@@ -292,6 +297,7 @@ impl<const N: usize> Machine<N> {
     // The tick passes, where the segment has ended at it, no interrupt is due and the machine is not at rest.
     fn pass(&mut self)
         requires owed { self.old.owed ≡ true }
+        requires stands { self.old.stopped ≡ false }
         requires ended { self.old.ended ≡ true }
         requires due { interrupt_due_of self.old ≡ None }
         requires goes { rests self.old.state ≡ false }
@@ -305,7 +311,7 @@ impl<const N: usize> Machine<N> {
         self.now += 1;
     }
 
-    /// Turns on the indicator i, 0 to 13, before the first tick, or while a settle is owed and an entry was done at the last tick.
+    /// Turns on the indicator i, 0 to 13, before the first tick, or while a settle is owed and an entry was done at the last tick. The run has not ended.
     pub fn signal(&mut self, i: u8)
         requires known { i ≤ 13 }
         requires turn { MaySignal self.old }
@@ -316,9 +322,21 @@ impl<const N: usize> Machine<N> {
         self.state.shape();
     }
 
-    /// Ends the segment at the end of a run, at the tick whose settle is owed. The result is the number of levels dropped. After it only `view`,
-    /// `state`, `ring` and `index` are of use.
+    /// Ends the segment at the end of a run, at the tick whose settle is owed. The result is the number of levels dropped. After it no call may be made but
+    /// `view`, `state`, `ring` and `index`.
     pub fn stop(&mut self) -> u8
+        requires owed { self.old.owed ≡ true }
+        requires stands { self.old.stopped ≡ false }
+        ensures dropped { result ≡ dropped self.old }
+        ensures after { self.new ≡ run_ended self.old }
+    {
+        let dropped = self.end_or_give_up();
+        self.halt();
+        dropped
+    }
+
+    // The segment ends at this tick, where it has not ended already. The result is the number of levels dropped.
+    fn end_or_give_up(&mut self) -> u8
         requires { self.old.owed ≡ true }
         ensures dropped { result ≡ dropped self.old }
         ensures after { self.new ≡ ended self.old }
@@ -328,6 +346,15 @@ impl<const N: usize> Machine<N> {
         } else {
             self.give_up()
         }
+    }
+
+    // The run ends.
+    fn halt(&mut self)
+        requires { self.old.owed ≡ true }
+        ensures { self.new ≡ record self.old { stopped = true } }
+    {
+        self.state.shape();
+        self.stopped = true;
     }
 
     // The segment ends at this tick, at which no entry was done; where it has not ended already. The result is the number of levels dropped.

@@ -32,6 +32,7 @@ fn begun(rt: &impl Abort, alloc: Global, state: State) -> Result<Machine<4>, Fai
     ensures settled { IfOk result (λ m. m.owed ≡ false) }
     ensures first { IfOk result (λ m. m.now ≡ 0) }
     ensures done { IfOk result (λ m. m.state.done ≡ 0) }
+    ensures stands { IfOk result (λ m. m.stopped ≡ false) }
 {
     assert!(rt; state.done == 0 && !state.enabled && !state.waiting);
     match Delays::new(alloc, &[1]) {
@@ -45,9 +46,11 @@ fn make_tick(rt: &impl Abort, machine: &mut Machine<4>)
     requires settled { machine.old.owed ≡ false }
     requires early { machine.old.now < 1000 }
     requires done { machine.old.state.done ≡ 0 }
+    requires stands { machine.old.stopped ≡ false }
     ensures owed { machine.new.owed ≡ true }
     ensures now { machine.new.now ≡ machine.old.now }
     ensures done { machine.new.state.done ≡ 0 }
+    ensures stands { machine.new.stopped ≡ false }
 {
     let Event::Passed = machine.tick() else {
         panic!(rt; "an entry is done");
@@ -58,9 +61,11 @@ fn make_tick(rt: &impl Abort, machine: &mut Machine<4>)
 fn settle(rt: &impl Abort, machine: &mut Machine<4>)
     requires owed { machine.old.owed ≡ true }
     requires done { machine.old.state.done ≡ 0 }
+    requires stands { machine.old.stopped ≡ false }
     ensures settled { machine.new.owed ≡ false }
     ensures now { machine.new.now ≡ machine.old.now + 1 }
     ensures done { machine.new.state.done ≡ 0 }
+    ensures stands { machine.new.stopped ≡ false }
 {
     let Settled::Goes = machine.settle() else {
         panic!(rt; "something else comes");
@@ -72,9 +77,11 @@ fn make_ticks(rt: &impl Abort, machine: &mut Machine<4>, count: u64)
     requires settled { machine.old.owed ≡ false }
     requires early { machine.old.now + count ≤ 1000 }
     requires done { machine.old.state.done ≡ 0 }
+    requires stands { machine.old.stopped ≡ false }
     ensures settled { machine.new.owed ≡ false }
     ensures now { machine.new.now ≡ machine.old.now + count }
     ensures done { machine.new.state.done ≡ 0 }
+    ensures stands { machine.new.stopped ≡ false }
 {
     'ticks: for _k in 0..count {
         make_tick(rt, machine);

@@ -28,7 +28,7 @@ use Rattle.st_rows.proofs.Tight.{tight-after}
 use Rattle.st_segment.specs.Entries.{entry}
 use Rattle.st_segment.proofs.EntryRanges.{entry-ranges}
 use Rattle.st_ahead.specs.Overlap.{Overlap, seen, oldest, oldest_row, levels_of, banks_at_its_end, interrupt_due}
-use Rattle.st_ahead.specs.Calls.{is_done, completed, ticked, banks_left, ended, passed, settled, settled_by, read_in_by}
+use Rattle.st_ahead.specs.Calls.{is_done, completed, ticked, banks_left, ended, run_ended, passed, settled, settled_by, read_in_by}
 use Rattle.st_refine.specs.Reached.{IsReached, Starts, Ticks, Settles, Signals, Reads, Prints, Stops}
 use Rattle.st_refine.proofs.LevelLists.{few-before}
 use Rattle.st_refine.proofs.Kept.{choice_by, ticks_made, IsIdle, IsPhase, IsKept, idle-of, fresh-of, kept, seen-idle, after-oldest, made-settled, made-owed, ended-rest, settled-idle_is, closing-cases}
@@ -121,6 +121,9 @@ within-table most made since m t w = record { tight = w.tight; banks = w.banks; 
 within-state : (most made since : ℕ) (m : Overlap) (s : Machine) → IsWithin most m made since → IsWithin most (record m { state = s }) made since
 within-state most made since m s w = record { tight = w.tight; banks = w.banks; ticks = w.ticks; near = w.near; fresh = w.fresh }
 
+within-stopped : (most made since : ℕ) (m : Overlap) → IsWithin most m made since → IsWithin most (record m { stopped = true }) made since
+within-stopped most made since m w = record { tight = w.tight; banks = w.banks; ticks = w.ticks; near = w.near; fresh = w.fresh }
+
 within-settled_fresh : (due behind : Option ℕ) (resting : Bool) (most made since : ℕ) (m : Overlap) → IsKept m → IsSome m.closing
     → IsWithin most m made since → IsWithin most (settled_by due resting behind m) made since
 within-settled_fresh (Some i) behind resting most made since m is some w =
@@ -210,14 +213,15 @@ within most (Starts ds n s can) are = record {
 within most (Ticks m made since from may) are =
     let same = subst (AreDelays most) (ticked-delays m) are in
     within-ticked most made since m same (kept from) may.settled (within most from same)
-within most (Settles m made since from owed) are =
+within most (Settles m made since from owed stands) are =
     within-settled most made since m (kept from) owed (within most from (subst (AreDelays most) (settled-delays m) are))
 within most (Signals m made since i from known may) are = within-state most made since m _ (within most from are)
 within most (Reads m made since order card from given fits may) are =
     read-within most made since order.word m card (kept from) may.1 (within most from (subst (AreDelays most) (read-delays order.word m card) are))
 within most (Prints m made since from given may) are = within-state most made since m _ (within most from are)
 within most (Stops m made since from may) are =
-    within-ended most made since m (kept from) may.1 (within most from (subst (AreDelays most) (ended-rest m).delays are))
+    within-stopped most made since (ended m)
+    (within-ended most made since m (kept from) may.1 (within most from (subst (AreDelays most) (ended-rest m).delays are)))
 
 pub made-ticks : {m : Overlap} {made since : ℕ} → IsReached m made since → made ≡ ticks_made m
 made-ticks {m} from = (within 255 from (kept from).delays).ticks
@@ -294,7 +298,7 @@ counted most (Starts ds n s can) are = omega arith
 counted most (Ticks m made since from may) are =
     let same = subst (AreDelays most) (ticked-delays m) are in
     counted-ticked (64 * (most + 4)) made since m (done-early m made since most from same may.settled) (counted most from same)
-counted most (Settles m made since from owed) are =
+counted most (Settles m made since from owed stands) are =
     same-counted (64 * (most + 4)) made since m (settled m) (settled-state m) (counted most from (subst (AreDelays most) (settled-delays m) are))
 counted most (Signals m made since i from known may) are = changed-counted (64 * (most + 4)) made since m (signalled m.state i) refl (counted most from are)
 counted most (Reads m made since order card from given fits may) are =
@@ -302,7 +306,7 @@ counted most (Reads m made since order card from given fits may) are =
     subst (λ d. made ≤ 64 * (most + 4) * d + since) (sym (ap (λ (s : Machine). s.done) (read-state order.word m card) ∙ read-done m.state order.word card)) before
 counted most (Prints m made since from given may) are = changed-counted (64 * (most + 4)) made since m (printed_out m.state) refl (counted most from are)
 counted most (Stops m made since from may) are =
-    same-counted (64 * (most + 4)) made since m (ended m) (ended-rest m).state (counted most from (subst (AreDelays most) (ended-rest m).delays are))
+    same-counted (64 * (most + 4)) made since m (run_ended m) (ended-rest m).state (counted most from (subst (AreDelays most) (ended-rest m).delays are))
 
 pub all-in_time : (m : Overlap) (made since most : ℕ) → IsReached m made since → AreDelays most m.delays
     → made ≤ 64 * (most + 4) * (m.state.done + 1)

@@ -255,6 +255,7 @@ pub record IsEnded (m e : Overlap) : Type 0 where
   pub now : e.now ≡ m.now
   pub owed : e.owed ≡ m.owed
   pub ended : e.ended ≡ true
+  pub stopped : e.stopped ≡ m.stopped
   pub closing : e.closing ≡ m.closing
 
 pub ended-rest : (m : Overlap) → IsEnded m (ended m)
@@ -270,6 +271,7 @@ ended-rest m =
       now = refl;
       owed = refl;
       ended = over;
+      stopped = refl;
       closing = refl;
     })
     (λ going. record {
@@ -281,8 +283,32 @@ ended-rest m =
       now = refl;
       owed = refl;
       ended = refl;
+      stopped = refl;
       closing = refl;
     })
+
+-- the end of a run
+stopped-phase : (c : Option LastAnswers) (m : Overlap) → IsPhase c m → IsPhase c (record m { stopped = true })
+stopped-phase None m is = record {
+  table = is.table;
+  awake = is.awake;
+  going = is.going;
+  right = is.right;
+  early = is.early;
+  unstarted = is.unstarted;
+}
+stopped-phase (Some banks) m is = record { owed = is.owed; none = is.none; last = is.last; start = is.start }
+
+kept-stopped : (m : Overlap) → IsKept m → IsKept (record m { stopped = true })
+kept-stopped m is = record {
+  some = is.some;
+  few = is.few;
+  delays = is.delays;
+  machine = is.machine;
+  indicator = is.indicator;
+  counter = is.counter;
+  phase = stopped-phase m.closing m is.phase;
+}
 
 -- ---- a settle
 
@@ -441,8 +467,10 @@ kept-unstarted m i is settled first =
     }
 
 pub kept-signalled : (m : Overlap) (i : ℕ) → IsKept m → MaySignal m → IsKept (signalled_by i m)
-kept-signalled m i is (inl first) = kept-unstarted m i is first.0 first.1
-kept-signalled m i is (inr done) = kept-changed m (signalled m.state i) is done.1 (signalled-machine m.state i is.machine)
+kept-signalled m i is may = elim may.0 [
+  | inl first ↦ kept-unstarted m i is first.0 first.1
+  | inr done ↦ kept-changed m (signalled m.state i) is done.1 (signalled-machine m.state i is.machine)
+]
 
 pub kept-read : (m : Overlap) (order : Order) (card : Option (List ℕ)) → IsKept m → m.state.reader ≡ Some order → IfSome card IsCard → MayServe m
     → IsKept (read_in_by order.word card m)
@@ -458,8 +486,40 @@ kept-read m order (Some card) is given fits may =
 pub kept : {m : Overlap} {made since : ℕ} → IsReached m made since → IsKept m
 kept (Starts ds n s can) = kept-started ds n s can
 kept (Ticks m made since from may) = kept-ticked m (kept from) may.settled
-kept (Settles m made since from owed) = kept-settled m (kept from) owed
+kept (Settles m made since from owed stands) = kept-settled m (kept from) owed
 kept (Signals m made since i from known may) = kept-signalled m i (kept from) may
 kept (Reads m made since order card from given fits may) = kept-read m order card (kept from) given fits may
 kept (Prints m made since from given may) = kept-changed m (printed_out m.state) (kept from) may.1 (printed-machine m.state (kept from).machine)
-kept (Stops m made since from may) = kept-ended m (kept from) may.1
+kept (Stops m made since from may) = kept-stopped (ended m) (kept-ended m (kept from) may.1)
+
+-- a run in which no settle is owed has not ended
+settled_by-stopped : (due behind : Option ℕ) (resting : Bool) (m : Overlap) → (settled_by due resting behind m).stopped ≡ m.stopped
+settled_by-stopped (Some i) behind resting m = (ended-rest m).stopped
+settled_by-stopped None behind true m = (ended-rest m).stopped
+settled_by-stopped None (Some h) false m = (ended-rest m).stopped
+settled_by-stopped None None false m = refl
+
+pub settled-stopped : (m : Overlap) → (settled m).stopped ≡ m.stopped
+unfolding settled
+settled-stopped m = settled_by-stopped (interrupt_due m) m.behind (rests m.state) m
+
+pub ticked-stopped : (m : Overlap) → (ticked m).stopped ≡ m.stopped
+unfolding ticked completed
+ticked-stopped m = choice_by (λ (x : Overlap). x.stopped ≡ m.stopped) (is_done m) (completed m) (record m { owed = true; closing = None }) (λ done. refl) (λ later. refl)
+
+ticked-owes : (m : Overlap) → (ticked m).owed ≡ true
+unfolding ticked completed
+ticked-owes m = choice_by (λ (x : Overlap). x.owed ≡ true) (is_done m) (completed m) (record m { owed = true; closing = None }) (λ done. refl) (λ later. refl)
+
+read-stopped : (w : ℕ) (card : Option (List ℕ)) (m : Overlap) → (read_in_by w card m).stopped ≡ m.stopped
+read-stopped w None m = refl
+read-stopped w (Some card) m = (ended-rest m).stopped
+
+pub stands-settled : {m : Overlap} {made since : ℕ} → IsReached m made since → m.owed ≡ false → m.stopped ≡ false
+stands-settled (Starts ds n s can) over = refl
+stands-settled (Ticks m made since from may) over = absurd (cc (sym (ticked-owes m) ∙ over))
+stands-settled (Settles m made since from owed stands) over = settled-stopped m ∙ stands
+stands-settled (Signals m made since i from known may) over = may.1
+stands-settled (Reads m made since order card from given fits may) over = read-stopped order.word card m ∙ may.2
+stands-settled (Prints m made since from given may) over = may.2
+stands-settled (Stops m made since from may) over = absurd (cc (sym may.0 ∙ sym (ended-rest m).owed ∙ over))

@@ -2,18 +2,18 @@
 use Rattle.std.specs.Prelude.{if◌then◌else◌}
 use Rattle.std.proofs.Common.{◌≡◌, ℕ, zero, suc, ◌+◌, ◌-◌, ◌<◌, ◌≤◌, ◌^◌, false, None, Some, refl, sym, subst, ◌∙◌, ap, arith}
 use Rattle.st_ahead.specs.Overlap.{Overlap}
-use Rattle.st_ahead.specs.Calls.{is_done, ticked, settled}
+use Rattle.st_ahead.specs.Calls.{is_done, ticked, ended, settled}
 use Rattle.st_ahead.specs.RunTo.{after_ticks, ArePassed, RunsTo}
 use Rattle.st_ahead.specs.declared.events.Row.{Row}
 use Rattle.st_ahead.proofs.Passing.{ticked-owed, passed-keeps, passed-now}
 use Rattle.st_refine.specs.Reached.{IsReached, MayTick, Ticks, Settles}
 use Rattle.st_refine.specs.Laws.{IsLedTo, RunsAreReached, BanksHaveTheFirstReads, CompletionsComeInTime, LevelsAreLent, OpeningsAreKept, OpeningsFollow, RowsTellTheLevels, CompletionsAreSteps, LevelsAreUnwound, TheStateIsSplit, SignalsLeaveLevels}
-use Rattle.st_refine.proofs.Kept.{made-settled, kept}
+use Rattle.st_refine.proofs.Kept.{made-settled, kept, stands-settled, ticked-stopped}
 use Rattle.st_refine.proofs.InTime.{made-ticks, in-time, all-in_time, settled-state, levels-few}
 use Rattle.st_refine.proofs.ReadLemmas.{have-first}
 use Rattle.st_refine.proofs.LentLemmas.{ring-count, ring-level, ring-word, ring-slot, ring-undone, index-shown}
 use Rattle.st_refine.specs.Openings.{Signalled, ReadIn, PrintedOut}
-use Rattle.st_refine.proofs.OpeningLemmas.{stands-started, stands-ticked, stands-goes, stands-changed, stands-ended, ended-again, stands-interrupt, stands-missed, waits-ended, stands-card}
+use Rattle.st_refine.proofs.OpeningLemmas.{stands-started, stands-ticked, stands-goes, stands-changed, stands-ended, stands-stopped, ended-again, stands-interrupt, stands-missed, waits-ended, stands-card}
 use Rattle.st_refine.proofs.RowLemmas.{rows-done, levels-ahead, levels-told, next-told}
 use Rattle.st_refine.proofs.RefinedLemmas.{table-is, tick-state, tick-oldest, tick-row, tick-times, tick-missed, tick-passed, goes-more, interrupt-unwinds, missed-unwinds, waits-unwinds, stop-unwinds, card-unwinds, start-unwound}
 use Rattle.st_refine.proofs.SplitLemmas.{shown-done, shown-tick, shown-index, shown-none, shown-eight, shown-level, shown-behind, seen-settled, seen-missed, seen-ended}
@@ -42,7 +42,8 @@ led-by zero count made since m new from owes few soon most are =
 led-by (suc k) count made since m new from owes few soon most are =
     let keeps = passed-keeps count m (are.each 0 (omega arith)) most few in
     let tick = Ticks m made since from (record { settled = owes; tick = omega arith; done = few }) in
-    let next = Settles (ticked m) (made + 1) (if is_done m then 0 else since + 1) tick (ticked-owed m) in
+    let next = Settles (ticked m) (made + 1) (if is_done m then 0 else since + 1) tick (ticked-owed m)
+    (ticked-stopped m ∙ stands-settled from owes) in
     let rest = led-by k count (made + 1) (if is_done m then 0 else since + 1) (settled (ticked m)) new next keeps.0 keeps.2
     (omega (arith, keeps.1, soon)) most (record { each = λ i before. are.each (suc i) (omega (arith, before)); after = are.after }) in
     let same : made + 1 + k ≡ made + suc k = omega arith in
@@ -117,6 +118,8 @@ pub openings_follow : OpeningsFollow
 openings_follow = record {
   end = stands-ended;
   again = ended-again;
+  stop = λ m j o changes is. stands-stopped (ended m) j o changes is;
+  last = λ m made since from over may. cc (sym over ∙ stands-settled from may.settled);
   interrupt = λ m made since i d ic k o xs from owed is stands. stands-interrupt m i d ic k o xs is stands;
   missed = λ m made since k o xs from owed is stands. stands-missed m k o xs owed is stands;
   waits = waits-ended;

@@ -331,6 +331,17 @@ stands-ended m made since j o xs from may going is =
     subst (StandsAt (opening_behind m.delays m.levels (length (levels_of m)) o xs j) [] 0) (sym (ended-going m going))
     (stands-opened m made since j o xs from may going is)
 
+-- the end of a run
+pub stands-stopped : (m : Overlap) (j : ℕ) (o : Opening) (xs : List Outside) → StandsAt o xs j m → StandsAt o xs j (record m { stopped = true })
+stands-stopped m j o xs is = record {
+  state = is.state;
+  front = is.front;
+  table = is.table;
+  done = is.done;
+  before = is.before;
+  banks = is.banks;
+}
+
 with-table : (o : Opening) (t : Option ℕ) (xs : List Outside) (m : Overlap) → StandsAt o xs 0 m
     → StandsAt (record o { table = t }) xs 0 (passed (record m { taken = t }))
 unfolding state_after front_after

@@ -15,7 +15,7 @@ use Rattle.st_segment.specs.Guesses.{guesses}
 use Rattle.st_segment.specs.Ahead.{next_ahead, ahead, prepared_before, front_behind}
 use Rattle.st_segment.proofs.StepLemmas.{guess-right, guess-missed}
 use Rattle.st_ahead.specs.Overlap.{Overlap, started, seen, with_counter, oldest_row, levels_of, interrupt_due}
-use Rattle.st_ahead.specs.Calls.{is_done, row_done, missed_counter, completed, ticked, dropped, banks_left, ended, passed, settled, settled_by, answer, answer_by, read_in_by, dropped_by, MayServe}
+use Rattle.st_ahead.specs.Calls.{is_done, row_done, missed_counter, completed, ticked, dropped, banks_left, ended, run_ended, passed, settled, settled_by, answer, answer_by, read_in_by, dropped_by, MayServe}
 use Rattle.st_ahead.specs.Shown.{shown}
 use Rattle.st_ahead.specs.declared.events.Settled.TheVariants.{Goes, Interrupt, Missed, Waits}
 use Rattle.st_ahead.proofs.Settling.{due-taken}
@@ -197,6 +197,9 @@ ended-late m is some =
 unwound-ended : (m : Overlap) → IsKept m → IsSome m.closing → IsUnwound (ended m)
 unwound-ended m is some = unwound-by (ended m) (omega (arith, (ended-rest m).now, ended-late m is some))
 
+unwound-stopped : (m : Overlap) → IsKept m → IsSome m.closing → IsUnwound (run_ended m)
+unwound-stopped m is some = unwound-by (run_ended m) (omega (arith, (ended-rest m).now, ended-late m is some))
+
 unwound-passed : (m : Overlap) (t : Option ℕ) → IsKept m → IsSome m.closing → IsUnwound (passed (record (ended m) { taken = t }))
 unwound-passed m t is some = unwound-by (passed (record (ended m) { taken = t })) (omega (arith, (ended-rest m).now, ended-late m is some))
 
@@ -288,20 +291,20 @@ unfolding dropped
 dropped-going m going =
     choice_by (λ k. k ≡ length (levels_of m)) m.ended 0 (length (levels_of m)) (λ over. absurd (cc (sym over ∙ going))) (λ on. refl)
 
-unwound-going : (m : Overlap) → m.ended ≡ false → IsUnwound (ended m)
+unwound-going : (m : Overlap) → m.ended ≡ false → IsUnwound (run_ended m)
 unfolding ended
 unwound-going m going =
     let m' = record m { front = opening (banks_left m.closing) (m.now + 1 + length (levels_of m)); ended = true } in
-    choice_by IsUnwound m.ended m m' (λ over. absurd (cc (sym over ∙ going))) (λ on. unwound-by m' (omega arith))
+    choice_by (λ (x : Overlap). IsUnwound (record x { stopped = true })) m.ended m m' (λ over. absurd (cc (sym over ∙ going))) (λ on. unwound-by (record m' { stopped = true }) (omega arith))
 
 pub stop-unwinds : (m : Overlap) (made since : ℕ) → IsReached m made since → m.owed ≡ true
-    → ((ended m).state ≡ m.state) × (dropped m ≡ length (levels_of m)) × IsUnwound (ended m)
+    → ((run_ended m).state ≡ m.state) × (dropped m ≡ length (levels_of m)) × IsUnwound (run_ended m)
 stop-unwinds m made since from owed =
     let is = kept from in
     elim (closing-cases m.closing) [
       | inl none ↦ let idle : IsIdle m = subst (λ c. IsPhase c m) none is.phase in
           ((ended-rest m).state, dropped-going m idle.going, unwound-going m idle.going)
-      | inr some ↦ ((ended-rest m).state, dropped-is m is some, unwound-ended m is some)
+      | inr some ↦ ((ended-rest m).state, dropped-is m is some, unwound-stopped m is some)
     ]
 
 pub card-unwinds : (m : Overlap) (made since w : ℕ) (card : List ℕ) → IsReached m made since → MayServe m

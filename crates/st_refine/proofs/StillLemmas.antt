@@ -197,5 +197,7 @@ still-first m u first alike =
     (same-index m.state u alike)
 
 pub still-signalled : (m : Overlap) (made since i : ℕ) → IsReached m made since → MaySignal m → IsStill m (signalled_by i m)
-still-signalled m made since i from (inl first) = still-first m (signalled m.state i) first.1 (beside-signalled m.state i)
-still-signalled m made since i from (inr done) = still-done m (signalled m.state i) (kept from) done.1 (beside-signalled m.state i)
+still-signalled m made since i from may = elim may.0 [
+  | inl first ↦ still-first m (signalled m.state i) first.1 (beside-signalled m.state i)
+  | inr done ↦ still-done m (signalled m.state i) (kept from) done.1 (beside-signalled m.state i)
+]

@@ -22,7 +22,7 @@ use Rattle.st_ahead.specs.Shown.{AreLevelsOf, index_of, shown}
 use Rattle.st_refine.specs.Refined.{state_before, table_before, row_of, fills_at, IsUnwound, AddsOneAtMost, level_seen, IsStill}
 use Rattle.st_segment.specs.Ahead.{ahead, prepared_before, next_ahead}
 use Rattle.st_segment.specs.Guesses.{table_behind, split_words}
-use Rattle.st_ahead.specs.Calls.{is_done, ticked, ended, settled, answer, signalled_by, read_in_by, printed_by, MayServe, IsEvent, dropped, dropped_by, MaySignal}
+use Rattle.st_ahead.specs.Calls.{is_done, ticked, ended, run_ended, settled, answer, signalled_by, read_in_by, printed_by, MayServe, IsEvent, dropped, dropped_by, MaySignal}
 use Rattle.st_ahead.specs.declared.events.Settled.TheVariants.{Goes, Interrupt, Missed, Waits}
 use Rattle.st_exec.specs.Step.{interrupt, rests, step, address}
 use Rattle.st_exec.specs.Completion.{is_missed}
@@ -98,8 +98,9 @@ pub record LevelsAreLent : Type 0 where
 -- goes on leave it standing there, with one entry more done where the tick completes one (`tick`, `goes`). What changes the state from outside is added to
 -- the changes, with the number done at it (`signal`, `unread`, `print`).
 -- A call that ends the segment ends it as `end` does, and leaves the machine at the opening of the next one, one tick behind the completion and one more for
--- each level that is dropped (`end`). Where it has ended already at this tick that opening stays (`again`). Behind it an interrupt makes the first entry a
--- table instruction (`interrupt`), a missed branch and a wait leave it (`missed`, `waits`), and a card is a change of its first state (`card`).
+-- each level that is dropped (`end`). Where it has ended already at this tick that opening stays (`again`), and so it does at the end of a run (`stop`), behind
+-- which no tick may be made (`last`). Behind the end of a segment an interrupt makes the first entry a table instruction (`interrupt`), a missed branch and a
+-- wait leave it (`missed`, `waits`), and a card is a change of its first state (`card`).
 -- The levels of a machine that stands at an opening are entries behind those that are done, by guessed steps from the state, unless a branch was missed at this
 -- tick (`ahead`).
 -- Of a segment at whose opening a machine stands, the entries with C up to the tick are done (`done`), and the levels are those with P up to the tick and C
@@ -124,6 +125,9 @@ pub record OpeningsFollow : Type 0 where
       m.ended ≡ false → StandsAt o changes j m →
       StandsAt (opening_behind m.delays m.levels (length (levels_of m)) o changes j) [] 0 (ended m)
   pub again : (m : Overlap) → m.ended ≡ true → ended m ≡ m
+  pub stop : (m : Overlap) (j : ℕ) (o : Opening) (changes : List Outside) → StandsAt o changes j (ended m) →
+      StandsAt o changes j (run_ended m)
+  pub last : (m : Overlap) (made since : ℕ) → IsReached m made since → m.stopped ≡ true → MayTick m → ⊥
   pub interrupt : (m : Overlap) (made since i d ic k : ℕ) (o : Opening) (changes : List Outside) → IsReached m made since →
       m.owed ≡ true → answer m ≡ Interrupt i d ic k → StandsAt o changes 0 (ended m) →
       StandsAt (record o { table = Some i }) changes 0 (settled m)
@@ -181,7 +185,7 @@ pub record LevelsAreUnwound : Type 0 where
   pub waits : (m : Overlap) (made since : ℕ) → IsReached m made since → m.owed ≡ true →
       answer m ≡ Waits → (rests m.state ≡ true) × IsUnwound (settled m)
   pub stop : (m : Overlap) (made since : ℕ) → IsReached m made since → m.owed ≡ true →
-      ((ended m).state ≡ m.state) × (dropped m ≡ length (levels_of m)) × IsUnwound (ended m)
+      ((run_ended m).state ≡ m.state) × (dropped m ≡ length (levels_of m)) × IsUnwound (run_ended m)
   pub card : (m : Overlap) (made since w : ℕ) (card : List ℕ) → IsReached m made since → MayServe m →
       (dropped_by (Some card) m ≡ length (levels_of m)) × IsUnwound (read_in_by w (Some card) m)
   pub start : (ds : List ℕ) (n : ℕ) (s : Machine) → IsUnwound (started ds n s)

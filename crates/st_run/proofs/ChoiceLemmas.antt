@@ -14,7 +14,7 @@ use Rattle.st_rows.specs.declared.front.Front.{Front}
 use Rattle.st_segment.specs.Entries.{entry}
 use Rattle.st_segment.proofs.EntryRanges.{entry-ranges}
 use Rattle.st_ahead.specs.Overlap.{Overlap, seen, levels_of, interrupt_due, oldest_row}
-use Rattle.st_ahead.specs.Calls.{ended, settled as settled_of, settled_by, passed, answer, answer_by}
+use Rattle.st_ahead.specs.Calls.{ended, run_ended, settled as settled_of, settled_by, passed, answer, answer_by}
 use Rattle.st_ahead.specs.declared.events.Settled.{Settled}
 use Rattle.st_run.specs.Moments.{Moment, next_scene, next_state, ends_segment, next_front, next_segment, has_card, has_waited}
 use Rattle.st_run.specs.Scenes.{IsScene}
@@ -26,7 +26,7 @@ use Rattle.st_run.specs.declared.turn.Turn.TheVariants.{Before, AtEnd, Over}
 use Rattle.st_run.specs.declared.leaving.Decided.{Decided}
 use Rattle.st_run.proofs.SceneLemmas.{interrupt-below, settled-scene}
 use Rattle.st_run.proofs.PrintLemmas.{settled-one}
-use Rattle.st_run.proofs.EndedLemmas.{opened, opened-none, by_now, ended-since, since-is}
+use Rattle.st_run.proofs.EndedLemmas.{opened, stopped-none, by_now, ended-since, since-is}
 
 -- ---- what the answer says
 
@@ -81,6 +81,7 @@ going-before b n s t f is same scene table awake late =
       scene = scene;
       settled = ap (λ (m : Overlap). m.owed) same;
       going = ap (λ (m : Overlap). m.ended) same;
+      stands = ap (λ (m : Overlap). m.stopped) same ∙ is.stands;
       guessed = ap (λ (m : Overlap). m.behind) same;
       closed = ap (λ (m : Overlap). m.closing) same;
       table = ap (λ (m : Overlap). m.taken) same ∙ table ∙ ap interrupt (sym state);
@@ -196,12 +197,13 @@ module _ (b t : Together) (text : Option (List ℕ)) (over : Bool) (is : IsBehin
         now = ap (λ (x : Overlap). x.now) same;
       }
 
-  stops : (n : Together) → n ≡ record t { machine = n.machine } → n.machine ≡ ended t.machine → Stops m n
+  stops : (n : Together) → n ≡ record t { machine = n.machine } → n.machine ≡ run_ended t.machine → Stops m n
   stops n rest after =
-      let same : n.machine ≡ opened b.machine s = after ∙ ended-since b t over is since in
+      let same : n.machine ≡ record (opened b.machine s) { stopped = true } =
+      after ∙ ap (λ (x : Overlap). record x { stopped = true }) (ended-since b t over is since) in
       record {
         scene = scene-is n rest (ap (λ (x : Overlap). x.state) same);
-        none = ap levels_of same ∙ opened-none b.machine s;
+        none = ap levels_of same ∙ stopped-none b.machine s;
       }
 
   way-is : (turn : Turn) (left : ℕ) (d : Decided) (n : Together) → n ≡ record t { machine = n.machine }

@@ -181,6 +181,6 @@ opening-none ds n (suc k) t s banks start now early =
     let late : now ≤ p = omega arith in
     rw (le-ltb p now late) refl
 
-pub opened-none : (o : Overlap) (s : Machine) → levels_of (opened o s) ≡ []
+pub stopped-none : (o : Overlap) (s : Machine) → levels_of (record (opened o s) { stopped = true }) ≡ []
 unfolding levels_of seen
-opened-none o s = opening-none o.delays o.levels o.levels o.taken s (banks_left o.closing) (o.now + 1 + length (levels_of o)) o.now (omega arith)
+stopped-none o s = opening-none o.delays o.levels o.levels o.taken s (banks_left o.closing) (o.now + 1 + length (levels_of o)) o.now (omega arith)

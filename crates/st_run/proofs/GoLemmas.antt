@@ -48,6 +48,7 @@ tick-before t now h early = record {
   scene = h.scene;
   settled = h.settled;
   going = h.going;
+  stands = h.stands;
   guessed = h.guessed;
   closed = h.closed;
   table = h.table;

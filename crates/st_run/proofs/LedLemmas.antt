@@ -14,7 +14,7 @@ use Rattle.st_state.specs.declared.devices.Device.TheVariants.{Reader, Printer}
 use Rattle.st_prep.proofs.Choices.{of_choice}
 use Rattle.st_exec.specs.Step.{rests}
 use Rattle.st_ahead.specs.Overlap.{Overlap, started}
-use Rattle.st_ahead.specs.Calls.{ended, settled, passed, signalled_by, read_in_by, printed_by, MaySignal, MayServe}
+use Rattle.st_ahead.specs.Calls.{run_ended, settled, passed, signalled_by, read_in_by, printed_by, MaySignal, MayServe}
 use Rattle.st_ahead.specs.RunTo.{after_ticks, ArePassed, RunsTo}
 use Rattle.st_ahead.specs.declared.events.Row.{Row}
 use Rattle.st_ahead.proofs.Passing.{passed-now}
@@ -39,10 +39,10 @@ signal-led m i known may led = record {
   reached = Signals m led.made led.since i led.reached known may;
 }
 
-settle-led : (m : Overlap) → m.owed ≡ true → IsLed m → IsLed (settled m)
-settle-led m owed led = record { made = led.made; since = led.since; reached = Settles m led.made led.since led.reached owed }
+settle-led : (m : Overlap) → m.owed ≡ true → m.stopped ≡ false → IsLed m → IsLed (settled m)
+settle-led m owed stands led = record { made = led.made; since = led.since; reached = Settles m led.made led.since led.reached owed stands }
 
-stop-led : (m : Overlap) → MayServe m → IsLed m → IsLed (ended m)
+stop-led : (m : Overlap) → MayServe m → IsLed m → IsLed (run_ended m)
 stop-led m may led = record { made = led.made; since = led.since; reached = Stops m led.made led.since led.reached may }
 
 print-led : (m : Overlap) → IsSome m.state.printer → MayServe m → IsLed m → IsLed (printed_by m)
@@ -141,14 +141,14 @@ module _ (m : Overlap) (xs : List Signal) (cards : List (List ℕ)) (is : IsDriv
   rest-driven k ys may came same known =
       signals-driven (with_signals_at_rest m.state xs cards) k ys (rest-led xs m cards is.known may is.led) (came cards) same known
 
-  pub settled-driven : (k : Overlap) → m.owed ≡ true → k ≡ settled m → IsDriven k xs cards
-  settled-driven k owed same = also k (subst {A = Overlap} IsLed (sym same) (settle-led m owed is.led))
+  pub settled-driven : (k : Overlap) → m.owed ≡ true → m.stopped ≡ false → k ≡ settled m → IsDriven k xs cards
+  settled-driven k owed stands same = also k (subst {A = Overlap} IsLed (sym same) (settle-led m owed stands is.led))
 
-  pub stopped-driven : (k : Overlap) → MayServe m → k ≡ ended m → IsDriven k xs cards
+  pub stopped-driven : (k : Overlap) → MayServe m → k ≡ run_ended m → IsDriven k xs cards
   stopped-driven k may same = also k (subst {A = Overlap} IsLed (sym same) (stop-led m may is.led))
 
-  pub passed-driven : (k : Overlap) → m.owed ≡ true → IsQuiet m → k ≡ passed m → IsDriven k xs cards
-  passed-driven k owed quiet same = settled-driven k owed (same ∙ quiet-settled m quiet)
+  pub passed-driven : (k : Overlap) → m.owed ≡ true → m.stopped ≡ false → IsQuiet m → k ≡ passed m → IsDriven k xs cards
+  passed-driven k owed stands quiet same = settled-driven k owed stands (same ∙ quiet-settled m quiet)
 
   pub ran-driven : (count last : ℕ) (row : Option Row) (new : Overlap) → m.owed ≡ false → m.state.done < 2 ^ 63 → count ≤ 2 ^ 63 → last < 2 ^ 63
       → RunsTo count last row m new → IsDriven new xs cards

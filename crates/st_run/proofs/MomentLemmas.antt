@@ -31,6 +31,7 @@ pub ready-before : (t : Together) → IsBefore t → IsReady t.machine
 ready-before t h = record {
   settled = h.settled;
   going = h.going;
+  stands = h.stands;
   guessed = h.guessed;
   closed = h.closed;
   table = h.table;
@@ -107,6 +108,7 @@ behind-done t f now some few delays is = record {
   scene = stepped-scene (scene_of t) is;
   owed = refl;
   going = refl;
+  stands = refl;
   done = refl;
   table = refl;
   counter =

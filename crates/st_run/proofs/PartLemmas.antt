@@ -38,7 +38,8 @@ choice-parts : (turn : Turn) (left : ℕ) (over : Bool) (o p : Overlap) (d : Dec
 unfolding settled_of
 choice-parts Before left over o p d h =
     subst {A = Overlap} (λ q. HasParts o q) (sym h.2) (settled-parts (interrupt_due o) (rests o.state) o.behind o)
-choice-parts (AtEnd resting) left over o p d h = subst {A = Overlap} (λ q. HasParts o q) (sym h.4) (ended-parts o)
+choice-parts (AtEnd resting) left over o p d h =
+    subst {A = Overlap} (λ q. HasParts o q) (sym h.4) (record { delays = (ended-parts o).delays; levels = (ended-parts o).levels })
 choice-parts Over left over o p d h = absurd h
 
 closed-parts : (over : Bool) (o : Overlap) → HasParts o (closed_if over o)

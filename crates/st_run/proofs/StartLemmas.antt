@@ -273,6 +273,7 @@ module _ (ds : List ℕ) (n : ℕ) (c : Scene) (idle : IsIdle c.machine) (is : I
     scene = due-scene c.machine c.signals c.cards is.machine is.cards;
     settled = refl;
     going = refl;
+    stands = refl;
     guessed = refl;
     closed = refl;
     table = sym (idle-interrupt (due c idle).machine (due-idle c idle));

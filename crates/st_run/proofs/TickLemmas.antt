@@ -26,6 +26,7 @@ calm ds n s table front now = record {
   now = now;
   owed = false;
   ended = false;
+  stopped = false;
   closing = None;
 }
 
@@ -34,7 +35,8 @@ ready-calm o h =
     ap (λ x. record o { owed = x }) h.settled
     ∙ ap (λ x. record o { owed = false; ended = x }) h.going
     ∙ ap (λ x. record o { owed = false; ended = false; behind = x }) h.guessed
-    ∙ ap (λ x. record o { owed = false; ended = false; behind = None; closing = x }) h.closed
+    ∙ ap (λ x. record o { owed = false; ended = false; behind = None; stopped = x }) h.stands
+    ∙ ap (λ x. record o { owed = false; ended = false; behind = None; stopped = false; closing = x }) h.closed
 
 -- the oldest row does not depend on the tick
 pub row-same : (o : Overlap) (at : ℕ) → oldest_row (record o { now = at }) ≡ oldest_row o
@@ -153,6 +155,7 @@ made-until old m new xs cards view before in_time snap from last is row ran =
     let ready : IsReady old.machine = record {
       settled = before.settled;
       going = before.going;
+      stands = before.stands;
       guessed = before.guessed;
       closed = before.closed;
       table = before.table;

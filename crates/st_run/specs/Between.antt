@@ -5,7 +5,7 @@ use Rattle.st_exec.specs.Step.{rests}
 use Rattle.st_card.specs.declared.control_cards.Signal.{Signal}
 use Rattle.st_run.specs.Run.{Transition}
 use Rattle.st_ahead.specs.Overlap.{Overlap, interrupt_due}
-use Rattle.st_ahead.specs.Calls.{ended, settled, MayServe}
+use Rattle.st_ahead.specs.Calls.{run_ended, settled, MayServe}
 use Rattle.st_ahead.specs.declared.events.Settled.{Settled}
 use Rattle.st_ahead.specs.declared.events.Settled.TheVariants as answers
 use Rattle.st_run.specs.Together.{Together, scene_of, AreTexts, IsBehind, IsSince}
@@ -32,7 +32,7 @@ IsChoice Before left over old d new =
     (left ≢ 0) × (rests old.state ≡ false) × (new ≡ settled old) × (d.taken ≡ interrupt_due old)
     × (d.ends ≡ (is_some old.behind || over || is_some (interrupt_due old)))
 IsChoice (AtEnd resting) left over old d new =
-    (resting ≡ rests old.state) × (resting ≡ false → left ≡ 0) × (d.ends ≡ true) × (d.taken ≡ None) × (new ≡ ended old)
+    (resting ≡ rests old.state) × (resting ≡ false → left ≡ 0) × (d.ends ≡ true) × (d.taken ≡ None) × (new ≡ run_ended old)
 IsChoice Over left over old d new = ⊥
 
 -- whether the segment ends and which interrupt is taken, by the answer

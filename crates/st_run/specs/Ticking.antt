@@ -11,6 +11,7 @@ use Rattle.st_run.specs.Together.{Together}
 pub record IsReady (o : Overlap) : Type 0 where
   pub settled : o.owed ≡ false
   pub going : o.ended ≡ false
+  pub stands : o.stopped ≡ false
   pub guessed : o.behind ≡ None
   pub closed : o.closing ≡ None
   pub table : o.taken ≡ interrupt o.state

@@ -36,6 +36,7 @@ pub record IsBefore (t : Together) : Type 0 where
   pub scene : IsScene (scene_of t)
   pub settled : t.machine.owed ≡ false
   pub going : t.machine.ended ≡ false
+  pub stands : t.machine.stopped ≡ false
   pub guessed : t.machine.behind ≡ None
   pub closed : t.machine.closing ≡ None
   pub table : t.machine.taken ≡ interrupt t.machine.state
@@ -60,6 +61,7 @@ pub record IsBehind (t : Together) : Type 0 where
   pub scene : IsScene (scene_of t)
   pub owed : t.machine.owed ≡ true
   pub going : t.machine.ended ≡ false
+  pub stands : t.machine.stopped ≡ false
   pub done : IsSome t.machine.closing
   pub table : t.machine.taken ≡ None
   pub counter : IfSome t.machine.behind (λ h. h < 2 ^ 19)

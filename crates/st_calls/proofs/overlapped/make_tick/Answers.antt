@@ -14,3 +14,7 @@ returns-clause-now g c =
 pub returns-clause-done : goal.returns-clause-done
 returns-clause-done g c =
     ap (λ (m : Overlap). m.state.done) (c.tick.ensures.after ∙ late-ticked c.args.machine.now c.in-Passed.ensures.event) ∙ c.requires.done
+
+pub returns-clause-stands : goal.returns-clause-stands
+returns-clause-stands g c =
+    ap (λ (m : Overlap). m.stopped) (c.tick.ensures.after ∙ late-ticked c.args.machine.now c.in-Passed.ensures.event) ∙ c.requires.stands

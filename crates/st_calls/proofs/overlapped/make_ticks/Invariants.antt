@@ -6,4 +6,5 @@ invariant-ticks g l = record {
   settled : l.machine.owed ≡ false;
   now : l.machine.now ≡ l.fn.machine.now + l._k;
   done : l.machine.state.done ≡ 0;
+  stands : l.machine.stopped ≡ false;
 }

@@ -23,4 +23,4 @@ pub invariant_of-driven-2 : goal.invariant_of-driven-2
 invariant_of-driven-2 g c =
     let i = c.driven.inside in
     let may = subst (λ (t : Together). MayServe t.machine) (sym c.driven.view_is) c.requires in
-    settled-driven i.machine i.signals.now i.cards c.driven.invariant c.settle.new.self may.0 c.settle.ensures.after
+    settled-driven i.machine i.signals.now i.cards c.driven.invariant c.settle.new.self may.0 may.2 c.settle.ensures.after

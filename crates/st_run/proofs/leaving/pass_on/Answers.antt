@@ -1,4 +1,4 @@
-use Rattle.std.proofs.Common.{◌≡◌, true, sym, subst, ◌∙◌, ap}
+use Rattle.std.proofs.Common.{◌≡◌, true, false, sym, subst, ◌∙◌, ap}
 use Rattle.st_state.specs.Machine.{Machine}
 use Rattle.st_run.specs.Between.{signal_due}
 use Rattle.st_run.specs.Together.{Together}
@@ -28,4 +28,5 @@ pub invariant_of-driven : goal.invariant_of-driven
 invariant_of-driven g c =
     let i = c.driven.inside in
     passed-driven i.machine i.signals.now i.cards c.driven.invariant c.go_on.new.self
-    (subst (λ (t : Together). t.machine.owed ≡ true) (sym c.driven.view_is) c.requires.owed) (c.is_quiet.ensures c.if-not-is_quiet.false) c.go_on.ensures
+    (subst (λ (t : Together). t.machine.owed ≡ true) (sym c.driven.view_is) c.requires.owed)
+    (subst (λ (t : Together). t.machine.stopped ≡ false) (sym c.driven.view_is) c.requires.stands) (c.is_quiet.ensures c.if-not-is_quiet.false) c.go_on.ensures

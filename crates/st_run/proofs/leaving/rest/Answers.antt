@@ -12,4 +12,4 @@ pub invariant_of-driven : goal.invariant_of-driven
 invariant_of-driven g c =
     let i = c.driven.inside in
     let may = subst (λ (t : Together). MayServe t.machine) (sym c.driven.view_is) c.requires.serves in
-    settled-driven i.machine i.signals.now i.cards c.driven.invariant c.settle.new.self may.0 c.settle.ensures.after
+    settled-driven i.machine i.signals.now i.cards c.driven.invariant c.settle.new.self may.0 may.2 c.settle.ensures.after

@@ -14,28 +14,28 @@ pub returns-then-self-clause-dropped : goal.returns-then-self-clause-dropped
 returns-then-self-clause-dropped g c =
     let i = c.self.inside in
     subst (λ (m : Overlap). 0 ≡ dropped m) c.self.view_is
-    (end-again g.row.N i.delays i.state i.taken i.behind i.now i.owed i.ended i.fresh i.look c.if-self.true).0
+    (end-again i.stopped g.row.N i.delays i.state i.taken i.behind i.now i.owed i.ended i.fresh i.look c.if-self.true).0
 
 pub returns-then-self-clause-after : goal.returns-then-self-clause-after
 returns-then-self-clause-after g c =
     let i = c.self.inside in
     subst (λ (m : Overlap). m ≡ ended m) c.self.view_is
-    (end-again g.row.N i.delays i.state i.taken i.behind i.now i.owed i.ended i.fresh i.look c.if-self.true).1
+    (end-again i.stopped g.row.N i.delays i.state i.taken i.behind i.now i.owed i.ended i.fresh i.look c.if-self.true).1
 
 pub end-dropped-requires : goal.end-dropped-requires
 end-dropped-requires g c =
     let i = c.self.inside in
     let owes = subst (λ (m : Overlap). m.owed ≡ true) (sym c.self.view_is) c.requires.owed in
     let done = subst (λ (m : Overlap). IsSome m.closing) (sym c.self.view_is) c.requires.done in
-    let e = ending g.row.N i.delays i.state i.taken i.behind i.now i.owed i.ended i.fresh i.look c.self.invariant owes c.if-self.false
-    (fresh-closing g.row.N i.delays i.state i.taken i.behind i.now i.owed i.ended i.fresh i.look done) in
+    let e = ending i.stopped g.row.N i.delays i.state i.taken i.behind i.now i.owed i.ended i.fresh i.look c.self.invariant owes c.if-self.false
+    (fresh-closing i.stopped g.row.N i.delays i.state i.taken i.behind i.now i.owed i.ended i.fresh i.look done) in
     let early : i.now < 2 ^ 63 = e.early in (
       omega arith,
       (
         tt,
         (
           omega (arith, early),
-          c.self.invariant.near (fresh-closing g.row.N i.delays i.state i.taken i.behind i.now i.owed i.ended i.fresh i.look done),
+          c.self.invariant.near (fresh-closing i.stopped g.row.N i.delays i.state i.taken i.behind i.now i.owed i.ended i.fresh i.look done),
         ),
       ),
     )
@@ -46,9 +46,9 @@ invariant_of-self g c =
     let i = c.self.inside in
     let owes = subst (λ (m : Overlap). m.owed ≡ true) (sym c.self.view_is) c.requires.owed in
     let done = subst (λ (m : Overlap). IsSome m.closing) (sym c.self.view_is) c.requires.done in
-    let fresh = fresh-closing n i.delays i.state i.taken i.behind i.now i.owed i.ended i.fresh i.look done in
+    let fresh = fresh-closing i.stopped n i.delays i.state i.taken i.behind i.now i.owed i.ended i.fresh i.look done in
     let most : count i.look ≤ n = c.shape-2.ensures in
-    (end-first n i.delays i.state i.taken i.behind i.now i.owed i.ended i.fresh i.look c.end-dropped.new.self c.self.invariant owes c.if-self.false fresh most
+    (end-first i.stopped n i.delays i.state i.taken i.behind i.now i.owed i.ended i.fresh i.look c.end-dropped.new.self c.self.invariant owes c.if-self.false fresh most
     (λ look. looks_are_levels i.delays n i.now i.now i.taken (with_counter i.behind i.state) (oldest_front i.look.levels.plans i.look.front) i.look
     c.self.invariant.some c.self.invariant.few (AreDelays-list i.delays c.shape.ensures) (omega arith) most look)
     (λ look. c.end-dropped.ensures.opened i.delays i.now i.taken (with_counter i.behind i.state) (oldest_front i.look.levels.plans i.look.front) look
@@ -61,11 +61,11 @@ returns-clause-dropped g c =
     let i = c.self.inside in
     let owes = subst (λ (m : Overlap). m.owed ≡ true) (sym c.self.view_is) c.requires.owed in
     let done = subst (λ (m : Overlap). IsSome m.closing) (sym c.self.view_is) c.requires.done in
-    let fresh = fresh-closing n i.delays i.state i.taken i.behind i.now i.owed i.ended i.fresh i.look done in
+    let fresh = fresh-closing i.stopped n i.delays i.state i.taken i.behind i.now i.owed i.ended i.fresh i.look done in
     let most : count i.look ≤ n = c.shape-2.ensures in
     subst (λ (m : Overlap). c.end-dropped.result ≡ dropped m) c.self.view_is
     (c.end-dropped.ensures.dropped ∙
-    (end-first n i.delays i.state i.taken i.behind i.now i.owed i.ended i.fresh i.look c.end-dropped.new.self c.self.invariant owes c.if-self.false fresh most
+    (end-first i.stopped n i.delays i.state i.taken i.behind i.now i.owed i.ended i.fresh i.look c.end-dropped.new.self c.self.invariant owes c.if-self.false fresh most
     (λ look. looks_are_levels i.delays n i.now i.now i.taken (with_counter i.behind i.state) (oldest_front i.look.levels.plans i.look.front) i.look
     c.self.invariant.some c.self.invariant.few (AreDelays-list i.delays c.shape.ensures) (omega arith) most look)
     (λ look. c.end-dropped.ensures.opened i.delays i.now i.taken (with_counter i.behind i.state) (oldest_front i.look.levels.plans i.look.front) look
@@ -78,11 +78,11 @@ returns-clause-after g c =
     let i = c.self.inside in
     let owes = subst (λ (m : Overlap). m.owed ≡ true) (sym c.self.view_is) c.requires.owed in
     let done = subst (λ (m : Overlap). IsSome m.closing) (sym c.self.view_is) c.requires.done in
-    let fresh = fresh-closing n i.delays i.state i.taken i.behind i.now i.owed i.ended i.fresh i.look done in
+    let fresh = fresh-closing i.stopped n i.delays i.state i.taken i.behind i.now i.owed i.ended i.fresh i.look done in
     let most : count i.look ≤ n = c.shape-2.ensures in
     let w = c.end-dropped.new.self in
-    subst (λ (m : Overlap). standing n i.delays i.state i.taken i.behind i.now i.owed true i.fresh w ≡ ended m) c.self.view_is
-    (end-first n i.delays i.state i.taken i.behind i.now i.owed i.ended i.fresh i.look w c.self.invariant owes c.if-self.false fresh most
+    subst (λ (m : Overlap). standing n i.delays i.state i.taken i.behind i.now i.owed true i.stopped i.fresh w ≡ ended m) c.self.view_is
+    (end-first i.stopped n i.delays i.state i.taken i.behind i.now i.owed i.ended i.fresh i.look w c.self.invariant owes c.if-self.false fresh most
     (λ look. looks_are_levels i.delays n i.now i.now i.taken (with_counter i.behind i.state) (oldest_front i.look.levels.plans i.look.front) i.look
     c.self.invariant.some c.self.invariant.few (AreDelays-list i.delays c.shape.ensures) (omega arith) most look)
     (λ look. c.end-dropped.ensures.opened i.delays i.now i.taken (with_counter i.behind i.state) (oldest_front i.look.levels.plans i.look.front) look

@@ -10,14 +10,14 @@ use Rattle.st_levels.proofs.Laws.{levels_are_the_entries_ahead}
 
 pub pass-requires : goal.pass-requires
 pass-requires g c =
-    (omega arith, (c.requires.owed, (subst (λ (m : Overlap). m.ended ≡ true) c.self.view_is c.if-self.true, (c.requires.due, c.requires.goes))))
+    (omega arith, (c.requires.owed, (c.requires.stands, (subst (λ (m : Overlap). m.ended ≡ true) c.self.view_is c.if-self.true, (c.requires.due, c.requires.goes)))))
 
 pub go_on-requires : goal.go_on-requires
 go_on-requires g c =
     let i = c.self.inside in
     let owes = subst (λ (m : Overlap). m.owed ≡ true) (sym c.self.view_is) c.requires.owed in
     let right = subst (λ (m : Overlap). m.behind ≡ None) (sym c.self.view_is) c.requires.right in
-    let both = going-look g.row.N i.delays i.state i.taken i.behind i.now i.owed i.ended i.fresh i.look c.self.invariant owes c.if-self.false right in
+    let both = going-look i.stopped g.row.N i.delays i.state i.taken i.behind i.now i.owed i.ended i.fresh i.look c.self.invariant owes c.if-self.false right in
     let f = oldest_front i.look.levels.plans i.look.front in (
       omega arith,
       (
@@ -42,7 +42,7 @@ overflow_add-self g c =
     let i = c.self.inside in
     let owes = subst (λ (m : Overlap). m.owed ≡ true) (sym c.self.view_is) c.requires.owed in
     let right = subst (λ (m : Overlap). m.behind ≡ None) (sym c.self.view_is) c.requires.right in
-    let both = going-look g.row.N i.delays i.state i.taken i.behind i.now i.owed i.ended i.fresh i.look c.self.invariant owes c.if-self.false right in
+    let both = going-look i.stopped g.row.N i.delays i.state i.taken i.behind i.now i.owed i.ended i.fresh i.look c.self.invariant owes c.if-self.false right in
     let early : i.now < 2 ^ 63 = both.1 in
     omega (arith, early)
 
@@ -53,10 +53,11 @@ invariant_of-self g c =
     let w = c.go_on.new.self in
     let owes = subst (λ (m : Overlap). m.owed ≡ true) (sym c.self.view_is) c.requires.owed in
     let right = subst (λ (m : Overlap). m.behind ≡ None) (sym c.self.view_is) c.requires.right in
-    let both = going-look n i.delays i.state i.taken i.behind i.now i.owed i.ended i.fresh i.look c.self.invariant owes c.if-self.false right in
+    let both = going-look i.stopped n i.delays i.state i.taken i.behind i.now i.owed i.ended i.fresh i.look c.self.invariant owes c.if-self.false right in
     let f = oldest_front i.look.levels.plans i.look.front in
     let look = c.go_on.ensures i.taken f both.0 in
-    (go-inside n i.delays i.state i.taken i.behind i.now i.owed i.ended i.fresh i.look w c.self.invariant owes c.if-self.false right
+    (go-inside i.stopped n i.delays i.state i.taken i.behind i.now i.owed i.ended i.fresh i.look w c.self.invariant
+    (subst (λ (m : Overlap). m.stopped ≡ false) (sym c.self.view_is) c.requires.stands) owes c.if-self.false right
     (subst (λ (m : Overlap). interrupt_due m ≡ None) (sym c.self.view_is) c.requires.due)
     (subst (λ (m : Overlap). rests m.state ≡ false) (sym c.self.view_is) c.requires.goes)
     look (levels_are_the_entries_ahead.oldest i.delays n i.now i.taken i.state f w.front w.levels look.ahead)).0
@@ -68,11 +69,12 @@ returns g c =
     let w = c.go_on.new.self in
     let owes = subst (λ (m : Overlap). m.owed ≡ true) (sym c.self.view_is) c.requires.owed in
     let right = subst (λ (m : Overlap). m.behind ≡ None) (sym c.self.view_is) c.requires.right in
-    let both = going-look n i.delays i.state i.taken i.behind i.now i.owed i.ended i.fresh i.look c.self.invariant owes c.if-self.false right in
+    let both = going-look i.stopped n i.delays i.state i.taken i.behind i.now i.owed i.ended i.fresh i.look c.self.invariant owes c.if-self.false right in
     let f = oldest_front i.look.levels.plans i.look.front in
     let look = c.go_on.ensures i.taken f both.0 in
-    subst (λ (m : Overlap). standing n i.delays i.state i.taken i.behind (i.now + 1) false i.ended false w ≡ passed m) c.self.view_is
-    (go-inside n i.delays i.state i.taken i.behind i.now i.owed i.ended i.fresh i.look w c.self.invariant owes c.if-self.false right
+    subst (λ (m : Overlap). standing n i.delays i.state i.taken i.behind (i.now + 1) false i.ended i.stopped false w ≡ passed m) c.self.view_is
+    (go-inside i.stopped n i.delays i.state i.taken i.behind i.now i.owed i.ended i.fresh i.look w c.self.invariant
+    (subst (λ (m : Overlap). m.stopped ≡ false) (sym c.self.view_is) c.requires.stands) owes c.if-self.false right
     (subst (λ (m : Overlap). interrupt_due m ≡ None) (sym c.self.view_is) c.requires.due)
     (subst (λ (m : Overlap). rests m.state ≡ false) (sym c.self.view_is) c.requires.goes)
     look (levels_are_the_entries_ahead.oldest i.delays n i.now i.taken i.state f w.front w.levels look.ahead)).1

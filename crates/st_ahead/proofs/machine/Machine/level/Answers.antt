@@ -14,8 +14,8 @@ pub returns-clause-value : goal.returns-clause-value
 returns-clause-value g c =
     let n = g.row.N in
     let i = c.self.inside in
-    let m = standing n i.delays i.state i.taken i.behind i.now i.owed i.ended i.fresh i.look in
-    let look = look-inside n i.delays i.state i.taken i.behind i.now i.owed i.ended i.fresh i.look c.self.invariant c.shape-3.ensures in
+    let m = standing n i.delays i.state i.taken i.behind i.now i.owed i.ended i.stopped i.fresh i.look in
+    let look = look-inside i.stopped n i.delays i.state i.taken i.behind i.now i.owed i.ended i.fresh i.look c.self.invariant c.shape-3.ensures in
     let is = showing m i.look look (looks_are_levels i.delays n (last_tick m) i.now i.taken (seen m) m.front i.look
     c.self.invariant.some c.self.invariant.few (AreDelays-list i.delays c.shape.ensures) (soon-last i.owed i.now) c.shape-2.ensures look) in
     let tick = c.last_tick-tick.ensures ∙ ap (λ (x : Overlap). last_tick x) (sym c.self.view_is) in
@@ -26,8 +26,8 @@ pub returns-clause-eight : goal.returns-clause-eight
 returns-clause-eight g c =
     let n = g.row.N in
     let i = c.self.inside in
-    let m = standing n i.delays i.state i.taken i.behind i.now i.owed i.ended i.fresh i.look in
-    let look = look-inside n i.delays i.state i.taken i.behind i.now i.owed i.ended i.fresh i.look c.self.invariant c.shape-3.ensures in
+    let m = standing n i.delays i.state i.taken i.behind i.now i.owed i.ended i.stopped i.fresh i.look in
+    let look = look-inside i.stopped n i.delays i.state i.taken i.behind i.now i.owed i.ended i.fresh i.look c.self.invariant c.shape-3.ensures in
     let is = showing m i.look look (looks_are_levels i.delays n (last_tick m) i.now i.taken (seen m) m.front i.look
     c.self.invariant.some c.self.invariant.few (AreDelays-list i.delays c.shape.ensures) (soon-last i.owed i.now) c.shape-2.ensures look) in
     let most : count i.look ≤ n = c.shape-2.ensures in

@@ -16,7 +16,8 @@ overflow_add-self g c =
 pub invariant_of-self : goal.invariant_of-self
 invariant_of-self g c =
     let i = c.self.inside in
-    (pass-inside g.row.N i.delays i.state i.taken i.behind i.now i.owed i.ended i.fresh i.look c.self.invariant c.shape.ensures
+    (pass-inside i.stopped g.row.N i.delays i.state i.taken i.behind i.now i.owed i.ended i.fresh i.look c.self.invariant
+    (subst (λ (m : Overlap). m.stopped ≡ false) (sym c.self.view_is) c.requires.stands) c.shape.ensures
     (subst (λ (m : Overlap). m.owed ≡ true) (sym c.self.view_is) c.requires.owed)
     (subst (λ (m : Overlap). m.ended ≡ true) (sym c.self.view_is) c.requires.ended)
     (subst (λ (m : Overlap). interrupt_due m ≡ None) (sym c.self.view_is) c.requires.due)
@@ -25,8 +26,9 @@ invariant_of-self g c =
 pub returns : goal.returns
 returns g c =
     let i = c.self.inside in
-    subst (λ (m : Overlap). standing g.row.N i.delays i.state i.taken None (i.now + 1) false false false i.look ≡ passed m) c.self.view_is
-    (pass-inside g.row.N i.delays i.state i.taken i.behind i.now i.owed i.ended i.fresh i.look c.self.invariant c.shape.ensures
+    subst (λ (m : Overlap). standing g.row.N i.delays i.state i.taken None (i.now + 1) false false i.stopped false i.look ≡ passed m) c.self.view_is
+    (pass-inside i.stopped g.row.N i.delays i.state i.taken i.behind i.now i.owed i.ended i.fresh i.look c.self.invariant
+    (subst (λ (m : Overlap). m.stopped ≡ false) (sym c.self.view_is) c.requires.stands) c.shape.ensures
     (subst (λ (m : Overlap). m.owed ≡ true) (sym c.self.view_is) c.requires.owed)
     (subst (λ (m : Overlap). m.ended ≡ true) (sym c.self.view_is) c.requires.ended)
     (subst (λ (m : Overlap). interrupt_due m ≡ None) (sym c.self.view_is) c.requires.due)

@@ -16,8 +16,9 @@ pub invariant_of-self : goal.invariant_of-self
 invariant_of-self g c =
     let n = g.row.N in
     let i = c.self.inside in
-    signal-inside n i.delays i.state c.print_out-words.new.state i.taken i.behind i.now i.owed i.ended i.fresh i.look c.self.invariant
-    (inr (subst MayServe (sym c.self.view_is) c.requires.turn)) c.shape-2.ensures
+    let may = subst MayServe (sym c.self.view_is) c.requires.turn in
+    signal-inside i.stopped n i.delays i.state c.print_out-words.new.state i.taken i.behind i.now i.owed i.ended i.fresh i.look c.self.invariant
+    (inr (may.0, may.1)) c.shape-2.ensures
     (subst (λ (u : Machine). AreAlikeBesideOrders i.state u) (sym c.print_out-words.ensures.state) (orders_are_passed_over.printed i.state))
     (λ x y f look late done m alike. signals_leave_looks.look i.delays n i.now i.now x y f i.look
     c.self.invariant.some c.self.invariant.few (AreDelays-list i.delays c.shape.ensures) look late done m alike)
@@ -30,5 +31,5 @@ pub returns-clause-after : goal.returns-clause-after
 returns-clause-after g c =
     let n = g.row.N in
     let i = c.self.inside in
-    subst (λ (m : Overlap). standing n i.delays c.print_out-words.new.state i.taken i.behind i.now i.owed i.ended i.fresh i.look ≡ printed_by m) c.self.view_is
-    (ap (λ (u : Machine). standing n i.delays u i.taken i.behind i.now i.owed i.ended i.fresh i.look) c.print_out-words.ensures.state)
+    subst (λ (m : Overlap). standing n i.delays c.print_out-words.new.state i.taken i.behind i.now i.owed i.ended i.stopped i.fresh i.look ≡ printed_by m) c.self.view_is
+    (ap (λ (u : Machine). standing n i.delays u i.taken i.behind i.now i.owed i.ended i.stopped i.fresh i.look) c.print_out-words.ensures.state)

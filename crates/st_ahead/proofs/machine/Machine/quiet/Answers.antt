@@ -9,4 +9,4 @@ returns g c =
     let i = c.self.inside in
     let P : Overlap → Type 0 = λ m. m.closing ≡ None → (interrupt_due m ≡ None) × (rests m.state ≡ false) × (m.behind ≡ None) in
     subst P c.self.view_is
-    (quiet-inside g.row.N i.delays i.state i.taken i.behind i.now i.owed i.ended i.fresh i.look c.self.invariant)
+    (quiet-inside i.stopped g.row.N i.delays i.state i.taken i.behind i.now i.owed i.ended i.fresh i.look c.self.invariant)

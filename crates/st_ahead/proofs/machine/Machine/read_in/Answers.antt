@@ -11,7 +11,8 @@ store_card-requires g c =
     let rest = ended-rest m c.end-dropped.new.self m.ended refl c.end-dropped.ensures.after in
     let owed = rest.owed ∙ c.requires.turn.0 in
     let done = subst IsSome (sym rest.closing) c.requires.turn.1 in
-    (omega arith, (subst (λ (s : Machine). IsSome s.reader) (sym rest.state) c.requires.order, ((owed, done), rest.ended)))
+    let stands = rest.stopped ∙ c.requires.turn.2 in
+    (omega arith, (subst (λ (s : Machine). IsSome s.reader) (sym rest.state) c.requires.order, ((owed, done, stands), rest.ended)))
 
 pub returns-clause-after : goal.returns-clause-after
 returns-clause-after g c =

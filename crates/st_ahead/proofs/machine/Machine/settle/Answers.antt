@@ -21,12 +21,12 @@ pass-requires g c =
     let rest = ended-rest m e m.ended refl c.end-dropped.ensures.after in
     let due = ap (λ t. if is_none t then interrupt e.state else None) rest.taken
     ∙ ap (λ s. if is_none m.taken then interrupt s else None) rest.state ∙ sym c.interrupt_due.ensures.value ∙ c.in_default.is in
-    (omega arith, (rest.owed ∙ c.requires, (rest.ended, (due, ap (λ s. rests s) rest.state ∙ sym c.is_resting.ensures ∙ c.if-is_resting.false))))
+    (omega arith, (rest.owed ∙ c.requires.owed, (rest.stopped ∙ c.requires.stands, (rest.ended, (due, ap (λ s. rests s) rest.state ∙ sym c.is_resting.ensures ∙ c.if-is_resting.false)))))
 
 pub go_on-requires : goal.go_on-requires
 go_on-requires g c =
     let yes = c.goes_on.ensures.yes c.if-goes_on.true in
-    (omega arith, (c.requires, (yes.0, (yes.1, yes.2))))
+    (omega arith, (c.requires.owed, (c.requires.stands, (yes.0, (yes.1, yes.2)))))
 
 pub returns-then-goes_on-clause-answer : goal.returns-then-goes_on-clause-answer
 returns-then-goes_on-clause-answer g c =

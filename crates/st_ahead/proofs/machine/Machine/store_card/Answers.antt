@@ -15,15 +15,15 @@ invariant_of-self g c =
     let some = subst (λ (m : Overlap). IsSome m.state.reader) (sym c.self.view_is) c.requires.order in
     let over = subst (λ (m : Overlap). m.ended ≡ true) (sym c.self.view_is) c.requires.ended in
     let done = subst (λ (m : Overlap). IsSome m.closing) (sym c.self.view_is) c.requires.turn.1 in
-    let fresh = fresh-closing n i.delays i.state i.taken i.behind i.now i.owed i.ended i.fresh i.look done in
-    card-inside n i.delays i.state c.read_in.new.state i.taken i.behind i.now i.owed i.ended i.fresh i.look i.state.reader c.args.card c.self.invariant over fresh
+    let fresh = fresh-closing i.stopped n i.delays i.state i.taken i.behind i.now i.owed i.ended i.fresh i.look done in
+    card-inside i.stopped n i.delays i.state c.read_in.new.state i.taken i.behind i.now i.owed i.ended i.fresh i.look i.state.reader c.args.card c.self.invariant over fresh
     c.shape.ensures.reader_area some c.read_in.ensures
 
 pub returns : goal.returns
 returns g c =
     let n = g.row.N in
     let i = c.self.inside in
-    subst (λ (m : Overlap). IfSome m.state.reader (λ order. standing n i.delays c.read_in.new.state i.taken i.behind i.now i.owed i.ended i.fresh i.look
+    subst (λ (m : Overlap). IfSome m.state.reader (λ order. standing n i.delays c.read_in.new.state i.taken i.behind i.now i.owed i.ended i.stopped i.fresh i.look
     ≡ record m { state = read_in m.state order.word (Some c.args.card) }))
     c.self.view_is
-    (with-read i.state.reader (Some c.args.card) i.state c.read_in.new.state (λ (u : Machine). standing n i.delays u i.taken i.behind i.now i.owed i.ended i.fresh i.look) c.read_in.ensures)
+    (with-read i.state.reader (Some c.args.card) i.state c.read_in.new.state (λ (u : Machine). standing n i.delays u i.taken i.behind i.now i.owed i.ended i.stopped i.fresh i.look) c.read_in.ensures)

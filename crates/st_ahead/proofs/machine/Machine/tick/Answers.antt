@@ -32,13 +32,13 @@ invariant_of-self g c =
     let f = oldest_front v.levels.plans v.front in
     let owes = subst (λ (m : Overlap). m.owed ≡ false) (sym c.self.view_is) c.requires.settled in
     let early = subst (λ (m : Overlap). m.now < 2 ^ 63) (sym c.self.view_is) c.requires.tick in
-    let at = idle n i.delays i.state i.taken i.behind i.now i.owed i.ended i.fresh v c.self.invariant owes in
+    let at = idle i.stopped n i.delays i.state i.taken i.behind i.now i.owed i.ended i.fresh v c.self.invariant owes in
     let w = c.tick-done.new.self in
     let u = c.tick-done.new.state in
     let are = AreDelays-list i.delays c.shape.ensures in
     let by = subst (λ (x : Option Completed). IsTicked i.delays n i.now i.taken i.state f v u w x) c.in_default.is
     (c.tick-done.ensures i.delays (i.now - 1) i.taken f c.self.invariant.some c.self.invariant.few are at.look (not-first i.now v.levels.ring at.look.prepared)) in
-    let all = passed-tick n i.delays i.state u i.taken i.behind i.now i.owed i.ended i.fresh v w c.self.invariant owes early by
+    let all = passed-tick i.stopped n i.delays i.state u i.taken i.behind i.now i.owed i.ended i.fresh v w c.self.invariant owes early by
     (levels_are_the_entries_ahead.oldest i.delays n i.now i.taken i.state f w.front w.levels by.look.ahead) in
     all.0
 
@@ -50,13 +50,13 @@ returns-in_default-clause-event g c =
     let f = oldest_front v.levels.plans v.front in
     let owes = subst (λ (m : Overlap). m.owed ≡ false) (sym c.self.view_is) c.requires.settled in
     let early = subst (λ (m : Overlap). m.now < 2 ^ 63) (sym c.self.view_is) c.requires.tick in
-    let at = idle n i.delays i.state i.taken i.behind i.now i.owed i.ended i.fresh v c.self.invariant owes in
+    let at = idle i.stopped n i.delays i.state i.taken i.behind i.now i.owed i.ended i.fresh v c.self.invariant owes in
     let w = c.tick-done.new.self in
     let u = c.tick-done.new.state in
     let are = AreDelays-list i.delays c.shape.ensures in
     let by = subst (λ (x : Option Completed). IsTicked i.delays n i.now i.taken i.state f v u w x) c.in_default.is
     (c.tick-done.ensures i.delays (i.now - 1) i.taken f c.self.invariant.some c.self.invariant.few are at.look (not-first i.now v.levels.ring at.look.prepared)) in
-    let all = passed-tick n i.delays i.state u i.taken i.behind i.now i.owed i.ended i.fresh v w c.self.invariant owes early by
+    let all = passed-tick i.stopped n i.delays i.state u i.taken i.behind i.now i.owed i.ended i.fresh v w c.self.invariant owes early by
     (levels_are_the_entries_ahead.oldest i.delays n i.now i.taken i.state f w.front w.levels by.look.ahead) in
     subst (λ (m : Overlap). is_done m ≡ false) c.self.view_is all.1
 
@@ -68,15 +68,15 @@ returns-in_default-clause-after g c =
     let f = oldest_front v.levels.plans v.front in
     let owes = subst (λ (m : Overlap). m.owed ≡ false) (sym c.self.view_is) c.requires.settled in
     let early = subst (λ (m : Overlap). m.now < 2 ^ 63) (sym c.self.view_is) c.requires.tick in
-    let at = idle n i.delays i.state i.taken i.behind i.now i.owed i.ended i.fresh v c.self.invariant owes in
+    let at = idle i.stopped n i.delays i.state i.taken i.behind i.now i.owed i.ended i.fresh v c.self.invariant owes in
     let w = c.tick-done.new.self in
     let u = c.tick-done.new.state in
     let are = AreDelays-list i.delays c.shape.ensures in
     let by = subst (λ (x : Option Completed). IsTicked i.delays n i.now i.taken i.state f v u w x) c.in_default.is
     (c.tick-done.ensures i.delays (i.now - 1) i.taken f c.self.invariant.some c.self.invariant.few are at.look (not-first i.now v.levels.ring at.look.prepared)) in
-    let all = passed-tick n i.delays i.state u i.taken i.behind i.now i.owed i.ended i.fresh v w c.self.invariant owes early by
+    let all = passed-tick i.stopped n i.delays i.state u i.taken i.behind i.now i.owed i.ended i.fresh v w c.self.invariant owes early by
     (levels_are_the_entries_ahead.oldest i.delays n i.now i.taken i.state f w.front w.levels by.look.ahead) in
-    subst (λ (m : Overlap). standing n i.delays u i.taken i.behind i.now true i.ended i.fresh w ≡ ticked m) c.self.view_is all.2
+    subst (λ (m : Overlap). standing n i.delays u i.taken i.behind i.now true i.ended i.stopped i.fresh w ≡ ticked m) c.self.view_is all.2
 
 pub invariant_of-self-2 : goal.invariant_of-self-2
 invariant_of-self-2 g c =
@@ -86,7 +86,7 @@ invariant_of-self-2 g c =
     let f = oldest_front v.levels.plans v.front in
     let owes = subst (λ (m : Overlap). m.owed ≡ false) (sym c.self.view_is) c.requires.settled in
     let early = subst (λ (m : Overlap). m.now < 2 ^ 63) (sym c.self.view_is) c.requires.tick in
-    let at = idle n i.delays i.state i.taken i.behind i.now i.owed i.ended i.fresh v c.self.invariant owes in
+    let at = idle i.stopped n i.delays i.state i.taken i.behind i.now i.owed i.ended i.fresh v c.self.invariant owes in
     let w = c.tick-done.new.self in
     let u = c.tick-done.new.state in
     let are = AreDelays-list i.delays c.shape.ensures in
@@ -103,11 +103,11 @@ invariant_of-self-2 g c =
     let next = not-first i.now v.levels.ring at.look.prepared some in
     let left = the_banks_are_left i.delays n (i.now - 1) i.now i.taken i.state f v
     c.self.invariant.some c.self.invariant.few are next most some (outlook-of i.delays n (i.now - 1) i.now i.taken i.state f v at.look) by.due in
-    let banks = banks-at n i.delays i.state i.taken i.now v left.0 in
+    let banks = banks-at i.stopped n i.delays i.state i.taken i.now v left.0 in
     let guessed = guess-seen i.taken i.state u (is_missed (plan i.state i.taken) i.state) done.missed refl by.state by.told.missed
     (steps_are_guesses.right i.taken i.state m t) (steps_are_guesses.missed i.taken i.state m t) in
     let front = levels_are_the_entries_ahead.oldest i.delays n i.now None (guess i.taken i.state) (after i.delays n f (entry i.taken i.state)) w.front w.levels by.look.ahead in
-    let all = done-tick n i.delays i.state u i.taken i.behind i.now i.owed i.ended i.fresh v w done c.self.invariant owes early by front banks left.1 guessed in
+    let all = done-tick i.stopped n i.delays i.state u i.taken i.behind i.now i.owed i.ended i.fresh v w done c.self.invariant owes early by front banks left.1 guessed in
     all.0
 
 pub returns-clause-event : goal.returns-clause-event
@@ -118,7 +118,7 @@ returns-clause-event g c =
     let f = oldest_front v.levels.plans v.front in
     let owes = subst (λ (m : Overlap). m.owed ≡ false) (sym c.self.view_is) c.requires.settled in
     let early = subst (λ (m : Overlap). m.now < 2 ^ 63) (sym c.self.view_is) c.requires.tick in
-    let at = idle n i.delays i.state i.taken i.behind i.now i.owed i.ended i.fresh v c.self.invariant owes in
+    let at = idle i.stopped n i.delays i.state i.taken i.behind i.now i.owed i.ended i.fresh v c.self.invariant owes in
     let w = c.tick-done.new.self in
     let u = c.tick-done.new.state in
     let are = AreDelays-list i.delays c.shape.ensures in
@@ -135,12 +135,12 @@ returns-clause-event g c =
     let next = not-first i.now v.levels.ring at.look.prepared some in
     let left = the_banks_are_left i.delays n (i.now - 1) i.now i.taken i.state f v
     c.self.invariant.some c.self.invariant.few are next most some (outlook-of i.delays n (i.now - 1) i.now i.taken i.state f v at.look) by.due in
-    let banks = banks-at n i.delays i.state i.taken i.now v left.0 in
+    let banks = banks-at i.stopped n i.delays i.state i.taken i.now v left.0 in
     let guessed = guess-seen i.taken i.state u (is_missed (plan i.state i.taken) i.state) done.missed refl by.state by.told.missed
     (steps_are_guesses.right i.taken i.state m t) (steps_are_guesses.missed i.taken i.state m t) in
     let front = levels_are_the_entries_ahead.oldest i.delays n i.now None (guess i.taken i.state) (after i.delays n f (entry i.taken i.state)) w.front w.levels by.look.ahead in
-    let all = done-tick n i.delays i.state u i.taken i.behind i.now i.owed i.ended i.fresh v w done c.self.invariant owes early by front banks left.1 guessed in
-    let row = row-tick n i.delays i.state u i.taken i.behind i.now i.owed i.ended i.fresh v w done c.self.invariant owes by
+    let all = done-tick i.stopped n i.delays i.state u i.taken i.behind i.now i.owed i.ended i.fresh v w done c.self.invariant owes early by front banks left.1 guessed in
+    let row = row-tick i.stopped n i.delays i.state u i.taken i.behind i.now i.owed i.ended i.fresh v w done c.self.invariant owes by
     (entries_count_as_one (plan i.state i.taken) i.state) in
     subst (λ (m : Overlap). (is_done m ≡ true) × (told c.done_in-number.result done.address done.p done.r i.now ≡ row_done m)) c.self.view_is (all.1, ap (λ k. told k done.address done.p done.r i.now) c.done_in-number.ensures ∙ row)
 
@@ -152,7 +152,7 @@ returns-clause-after g c =
     let f = oldest_front v.levels.plans v.front in
     let owes = subst (λ (m : Overlap). m.owed ≡ false) (sym c.self.view_is) c.requires.settled in
     let early = subst (λ (m : Overlap). m.now < 2 ^ 63) (sym c.self.view_is) c.requires.tick in
-    let at = idle n i.delays i.state i.taken i.behind i.now i.owed i.ended i.fresh v c.self.invariant owes in
+    let at = idle i.stopped n i.delays i.state i.taken i.behind i.now i.owed i.ended i.fresh v c.self.invariant owes in
     let w = c.tick-done.new.self in
     let u = c.tick-done.new.state in
     let are = AreDelays-list i.delays c.shape.ensures in
@@ -169,9 +169,9 @@ returns-clause-after g c =
     let next = not-first i.now v.levels.ring at.look.prepared some in
     let left = the_banks_are_left i.delays n (i.now - 1) i.now i.taken i.state f v
     c.self.invariant.some c.self.invariant.few are next most some (outlook-of i.delays n (i.now - 1) i.now i.taken i.state f v at.look) by.due in
-    let banks = banks-at n i.delays i.state i.taken i.now v left.0 in
+    let banks = banks-at i.stopped n i.delays i.state i.taken i.now v left.0 in
     let guessed = guess-seen i.taken i.state u (is_missed (plan i.state i.taken) i.state) done.missed refl by.state by.told.missed
     (steps_are_guesses.right i.taken i.state m t) (steps_are_guesses.missed i.taken i.state m t) in
     let front = levels_are_the_entries_ahead.oldest i.delays n i.now None (guess i.taken i.state) (after i.delays n f (entry i.taken i.state)) w.front w.levels by.look.ahead in
-    let all = done-tick n i.delays i.state u i.taken i.behind i.now i.owed i.ended i.fresh v w done c.self.invariant owes early by front banks left.1 guessed in
-    subst (λ (m : Overlap). standing n i.delays u None done.missed i.now true i.ended true w ≡ ticked m) c.self.view_is all.2
+    let all = done-tick i.stopped n i.delays i.state u i.taken i.behind i.now i.owed i.ended i.fresh v w done c.self.invariant owes early by front banks left.1 guessed in
+    subst (λ (m : Overlap). standing n i.delays u None done.missed i.now true i.ended i.stopped true w ≡ ticked m) c.self.view_is all.2
