@@ -35,8 +35,8 @@ use st_exch::Hopper;
 use st_exec::{complete_in, interrupt, is_at_rest, is_missed, next_address};
 use st_io::{Failed, Sink};
 use st_ledger::{Totals, write_row, write_sums};
-use st_plain::{Aheads, entry, next_row};
-use st_prep::{Prepared, plan};
+use st_plain::{Aheads, next_row, plan_entry};
+use st_prep::Prepared;
 use st_rows::{Log, Past, Row};
 use st_run::plain::{printer_is_free, reader_is_free};
 use st_state::State;
@@ -99,22 +99,23 @@ fn is_end_near(left: u64, still: bool) -> bool
     left == 0 || !still
 }
 
-// The numbers of the next entry, which is prepared as `p`: its row, and what is at hand behind it.
+// The numbers of the next entry, which is planned as `p`: its row, and what is at hand behind it.
 fn count_on(
     state: &State,
     taken: Option<u8>,
-    p: &Prepared,
+    p: &mut Prepared,
     last: &mut Last,
     delays: &Delays,
     levels: u8,
     log: &mut Log,
 ) -> Row
     requires indicator { IfSome taken (λ i. i < 64) }
-    requires plan { p.now ≡ plan_of state.now taken }
     requires levels { (1 ≤ levels) × (levels ≤ 8) }
     requires tight { IsTight 255 last.old.front }
     requires early { last.old.front.c ≤ 2 ^ 63 }
     requires past { last.old.past ≡ last.old.front.past }
+    ensures plan { p.new ≡ plan_of state.now taken }
+    ensures prepared { IsPrepared p.new }
     ensures row { result ≡ row_of delays.now levels last.old.front (entry_of taken state.now) }
     ensures front { last.new.front ≡ after_of delays.now levels last.old.front (entry_of taken state.now) }
     ensures log { log.new ≡ noted delays.now (asked_of delays.now levels last.old.front (entry_of taken state.now)) last.old.front.bus [] }
@@ -122,7 +123,7 @@ fn count_on(
     ensures tick { last.new.tick ≡ result.c }
 {
     state.shape();
-    let e = entry(taken, p, state);
+    let e = plan_entry(taken, state, p);
     log.clear();
     let row = next_row(&mut last.front, delays, levels as usize, &e, log);
     put_past(
@@ -211,10 +212,10 @@ fn write_entry<K: Sink>(
     let taken = interrupt(state);
     let address = next_address(state);
     let n = row_number(state);
-    let p = plan(state, taken);
+    let mut p = Prepared::default();
     let before = last.tick;
     let start = last.front.c;
-    let row = count_on(state, taken, &p, last, delays, levels, log);
+    let row = count_on(state, taken, &mut p, last, delays, levels, log);
     execute(state, taken, &p, last);
     sums.add_row(&row, before, start);
     write_row(out, n, address, &row, before, start)

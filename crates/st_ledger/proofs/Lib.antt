@@ -4,3 +4,4 @@ pub mod Runs
 pub mod Sums
 pub mod Told
 pub mod Added
+pub mod FromEnd

@@ -7,6 +7,6 @@ mod telling;
 mod totals;
 
 pub use charges::{Charge, Part, Stage};
-pub use lines::{line_charge, line_row, line_sum};
+pub use lines::{fill_charge, fill_row, line_sum};
 pub use telling::write_row;
 pub use totals::{Totals, write_sums};

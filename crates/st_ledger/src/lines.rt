@@ -5,8 +5,9 @@ ghost use Rattle.st_text.specs.Bytes.{lf};
 ghost use Rattle.st_ledger.specs.Lines.{stage_name, row_line, charge_line, sum_line};
 
 use crate::charges::{Charge, Stage};
+use st_report::LineFromEnd;
 use st_rows::Row;
-use st_text::{Line, begun, push_decimal, push_half_address, push_short_decimal};
+use st_text::{Line, begun, push_decimal};
 
 // The line with its line end.
 fn ended(mut line: Line) -> Line
@@ -33,36 +34,57 @@ fn name_of(stage: Stage) -> &'static str
     }
 }
 
-/// `ROW n a A x P p R r C c`: the n-th entry that is done, its half-word address, and its ticks.
-pub fn line_row(n: u32, address: u32, row: &Row) -> Line
-    ensures { result.bytes ≡ row_line n address row.now }
+// Puts the name of a stage before a line.
+#[inline(always)]
+fn put_stage(line: &mut LineFromEnd, stage: Stage)
+    requires { length line.old + 11 ≤ 128 }
+    ensures bytes { line.new ≡ stage_name stage ++ line.old }
+    ensures room { length line.new ≤ length line.old + 11 }
 {
-    let mut line = begun("ROW ");
-    push_short_decimal(&mut line, n);
-    line.push_str(" ");
-    push_half_address(&mut line, address);
-    line.push_str(" A ");
-    push_decimal(&mut line, row.a);
-    line.push_str(" P ");
-    push_decimal(&mut line, row.p);
-    line.push_str(" R ");
-    push_decimal(&mut line, row.r);
-    line.push_str(" C ");
-    push_decimal(&mut line, row.c);
-    ended(line)
+    match stage {
+        Stage::Restart => line.put(b"RESTART"),
+        Stage::Instruction => line.put(b"INSTRUCTION"),
+        Stage::Address => line.put(b"ADDRESS"),
+        Stage::Index => line.put(b"INDEX"),
+        Stage::Preparing => line.put(b"PREPARING"),
+        Stage::Operand => line.put(b"OPERAND"),
+        Stage::Executing => line.put(b"EXECUTING"),
+    }
 }
 
-/// `CHARGE f t stage`: ticks that are charged to a stage.
-pub fn line_charge(charge: Charge) -> Line
-    ensures { result.bytes ≡ charge_line charge }
+/// `ROW n a A x P p R r C c`, filled into a line: the n-th entry that is done, its half-word address, and its ticks. What the line had
+/// is gone.
+pub fn fill_row(line: &mut LineFromEnd, n: u32, address: u32, row: &Row)
+    ensures { line.new ≡ row_line n address row.now }
 {
-    let mut line = begun("CHARGE ");
-    push_decimal(&mut line, charge.from);
-    line.push_str(" ");
-    push_decimal(&mut line, charge.to);
-    line.push_str(" ");
-    line.push_str(name_of(charge.stage));
-    ended(line)
+    line.clear();
+    line.put(b"\n");
+    line.put_decimal(row.c);
+    line.put(b" C ");
+    line.put_decimal(row.r);
+    line.put(b" R ");
+    line.put_decimal(row.p);
+    line.put(b" P ");
+    line.put_decimal(row.a);
+    line.put(b" A ");
+    line.put_half_address(address);
+    line.put(b" ");
+    line.put_decimal(u64::from(n));
+    line.put(b"ROW ");
+}
+
+/// `CHARGE f t stage`, filled into a line: ticks that are charged to a stage. What the line had is gone.
+pub fn fill_charge(line: &mut LineFromEnd, charge: Charge)
+    ensures { line.new ≡ charge_line charge }
+{
+    line.clear();
+    line.put(b"\n");
+    put_stage(line, charge.stage);
+    line.put(b" ");
+    line.put_decimal(charge.to);
+    line.put(b" ");
+    line.put_decimal(charge.from);
+    line.put(b"CHARGE ");
 }
 
 /// `SUM stage n`: the ticks of a stage in the whole run.

@@ -5,17 +5,10 @@ ghost use Rattle.st_ledger.specs.Charges.{parts as parts_of, charged, part_charg
 ghost use Rattle.st_ledger.specs.Lines.{row_line, charge_line, charge_lines, row_lines};
 
 use crate::charges::{Charge, Part, Stage};
-use crate::lines::{line_charge, line_row};
+use crate::lines::{fill_charge, fill_row};
 use st_io::{Failed, Sink, write_line};
+use st_report::LineFromEnd;
 use st_rows::Row;
-use st_text::Line;
-
-// Writes a line.
-pub(crate) fn put<K: Sink>(out: &mut K, line: &Line) -> Result<(), Failed>
-    ensures { WritesLines (K.output out.old) (K.output out.new) (line.now.bytes ∷ []) result }
-{
-    write_line(out, line.as_str().as_bytes())
-}
 
 // A stage, with the tick at which it ends.
 fn part(stage: Stage, end: u64) -> Part
@@ -47,14 +40,16 @@ fn write_part<K: Sink>(out: &mut K, from: u64, part: Part) -> Result<(), Failed>
     if part.end <= from {
         return Ok(());
     }
-    put(
-        out,
-        &line_charge(Charge {
+    let mut line = LineFromEnd::new();
+    fill_charge(
+        &mut line,
+        Charge {
             from,
             to: part.end,
             stage: part.stage,
-        }),
-    )
+        },
+    );
+    write_line(out, line.as_bytes())
 }
 
 // The first of some stages, and those behind it.
@@ -90,7 +85,9 @@ fn write_charges<K: Sink>(out: &mut K, from: u64, parts: &[Part]) -> Result<(), 
 fn write_ticks<K: Sink>(out: &mut K, n: u32, address: u32, row: &Row) -> Result<(), Failed>
     ensures { WritesLines (K.output out.old) (K.output out.new) (row_line n address row.now ∷ []) result }
 {
-    put(out, &line_row(n, address, row))
+    let mut line = LineFromEnd::new();
+    fill_row(&mut line, n, address, row);
+    write_line(out, line.as_bytes())
 }
 
 /// Writes the lines of the n-th entry that is done, whose half-word address and row these are: the last one before it was done at the

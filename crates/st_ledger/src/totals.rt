@@ -8,8 +8,8 @@ ghost use Rattle.st_ledger.specs.Totals.{sum_at, AreWithin, stages, sums_by, sum
 
 use crate::charges::{Charge, Part, Stage};
 use crate::lines::line_sum;
-use crate::telling::{first_part, later, parts, put};
-use st_io::{Failed, Sink};
+use crate::telling::{first_part, later, parts};
+use st_io::{Failed, Sink, write_line};
 use st_rows::Row;
 
 /// The ticks of charges, stage by stage.
@@ -129,7 +129,7 @@ fn first_sum(sums: &[Sum]) -> Option<(Sum, &[Sum])>
 fn write_sum<K: Sink>(out: &mut K, sum: Sum) -> Result<(), Failed>
     ensures { WritesLines (K.output out.old) (K.output out.new) (sum_line sum.stage sum.ticks ∷ []) result }
 {
-    put(out, &line_sum(sum.stage, sum.ticks))
+    write_line(out, line_sum(sum.stage, sum.ticks).as_str().as_bytes())
 }
 
 // Writes the lines of sums.

@@ -1,3 +1,4 @@
+pub mod PlanLemmas
 pub mod Words
 pub mod RowLemmas
 pub mod LookLemmas

@@ -1,14 +1,17 @@
 //! The next entry of a state, as the timetable sees it.
-ghost use Rattle.std.specs.Prelude.{◌≡◌, ◌+◌, ◌<◌, ◌≤◌, if◌then◌else◌, IfSome, length, take, drop};
+ghost use Rattle.std.specs.Prelude.{◌≡◌, ◌+◌, ◌<◌, ◌≤◌, ◌&&◌, is_none, if◌then◌else◌, IfSome, length, take, drop};
 ghost use Rattle.st_state.specs.Machine.{word};
-ghost use Rattle.st_prep.specs.Fetch.{reading_of};
-ghost use Rattle.st_prep.specs.Plan.{plan as plan_of};
-ghost use Rattle.st_prep.specs.Ranges.{IsPlace};
+ghost use Rattle.st_prep.specs.Fetch.{index_words as index_words_of, reading_of, fetched as fetched_of};
+ghost use Rattle.st_prep.specs.Plan.{needs as needs_of, plan as plan_of, prepared as prepared_of, seen, side_of};
+ghost use Rattle.st_prep.specs.Ranges.{IsPlace, IsFetched, IsNeeds, IsPrepared};
 ghost use Rattle.st_prep.specs.Reading.{words_read, own_words};
 ghost use Rattle.st_segment.specs.Entries.{run_of as run_by, above_registers as above_registers_of, words_to_read as words_to_read_of, words_to_write as words_to_write_of, side_to_read as side_to_read_of, entry as entry_of};
 
 use st_bits::register::FIRST_STORAGE_WORD;
-use st_prep::{Fetching, Place, Prepared, Words, fetch, fetch_on, index_words, look, place_of};
+use st_prep::{
+    Fetched, Fetching, Needs, Place, Prepared, Words, fetch_on, index_words, place_of, prepare_in,
+    prepare_without_side, side_word,
+};
 use st_rows::{Entry, Run, Runs};
 use st_state::State;
 
@@ -35,28 +38,44 @@ fn own_after(own: usize, target: bool) -> usize
     if target { own } else { own + 1 }
 }
 
-// The instruction words of the entry at a place: its own, and those of the target of EX.
-fn instruction_runs(place: &Place, state: &State) -> (Run, Run)
-    requires { IsPlace place.now }
+// An entry as far as it is fetched: what is fetched, and its instruction words, its own and those of the target of EX.
+#[derive(Drop)]
+struct Found {
+    fetched: Fetched,
+    own: Run,
+    target: Run,
+}
+
+// What is fetched at a place by these index words, which are those of the state.
+fn find(place: &Place, x: &[u64; 16], state: &State) -> Found
+    requires place { IsPlace place.now }
+    requires words { x.now ≡ index_words_of state.now }
+    ensures fetched { result.fetched ≡ fetched_of state.now place.now }
+    ensures shape { IsFetched result.fetched }
     ensures own { let r = reading_of state.now place.now in
-        result.0 ≡ run_by (take (own_words r (word state.now)) (words_read r (word state.now))) }
+        result.own ≡ run_by (take (own_words r (word state.now)) (words_read r (word state.now))) }
     ensures target { let r = reading_of state.now place.now in
-        result.1 ≡ run_by (drop (own_words r (word state.now)) (words_read r (word state.now))) }
+        result.target ≡ run_by (drop (own_words r (word state.now)) (words_read r (word state.now))) }
 {
-    let x = index_words(state);
     let mut read = [0; 4];
     let mut contents = [0; 4];
     let mut n = 0;
     let mut own = 0;
     'reads: loop {
-        match fetch_on(place, &x, &contents[..n], state) {
+        match fetch_on(place, x, &contents[..n], state) {
             Fetching::Next { word, target } => {
                 read[n] = word;
                 contents[n] = state.word(word);
                 own = own_after(own, target);
                 n += 1;
             }
-            Fetching::Found(_) => return (run_of(&read[..own]), run_of(&read[own..n])),
+            Fetching::Found(fetched) => {
+                return Found {
+                    fetched,
+                    own: run_of(&read[..own]),
+                    target: run_of(&read[own..n]),
+                };
+            }
         }
     }
 }
@@ -112,25 +131,66 @@ fn side_to_read(side: Option<u32>) -> Option<u32>
     }
 }
 
-/// The next entry of a state, or the table instruction of an interrupt by the indicator in `table`, which is prepared as `p`.
-#[tactic(auto, unfolding(st_segment::specs::Entries::entry, st_segment::specs::Entries::instruction_words, st_segment::specs::Entries::own_count, st_prep::specs::Plan::sight))]
-pub fn entry(table: Option<u8>, p: &Prepared, state: &State) -> Entry
-    requires indicator { IfSome table (λ i. i < 64) }
-    requires plan { p.now ≡ plan_of state.now table }
-    ensures { result ≡ entry_of table state.now }
+// Whether following words are asked for.
+fn asks_for_following(table: Option<u8>, fault: Option<u8>) -> bool
+    ensures { result ≡ (is_none table && is_none fault) }
 {
-    let place = place_of(state, table);
-    let (own, target) = instruction_runs(&place, state);
-    let fetched = fetch(state, &place);
-    let needs = look(&place, &fetched, &index_words(state), state);
+    table.is_none() && fault.is_none()
+}
+
+// Prepares the entry at `p.place` once more, by its index-side word, which it asks for.
+#[inline(never)]
+fn prepare_by_side(p: &mut Prepared, fetched: &Fetched, x: &[u64; 16], needs: Needs, state: &State)
+    requires place { IsPlace p.old.place }
+    requires fetched { IsFetched fetched.now }
+    requires asked { needs ≡ needs_of (seen p.old.place fetched.now x.now state.now) }
+    requires shape { IsNeeds needs }
+    ensures value { let v = seen p.old.place fetched.now x.now state.now in
+        p.new ≡ prepared_of v (side_of state.now v) }
+    ensures ranges { IsPrepared p.new }
+{
+    let read = side_word(state, p.place.table, needs.index_read);
+    let mut after = *x;
+    prepare_in(p, fetched, &mut after, read, state);
+}
+
+// Prepares what is fetched at `p.place` in a state, by these index words. The result says what it needs.
+#[inline(always)]
+fn prepare_found(p: &mut Prepared, fetched: &Fetched, x: &[u64; 16], state: &State) -> Needs
+    requires place { IsPlace p.old.place }
+    requires fetched { IsFetched fetched.now }
+    ensures value { let v = seen p.old.place fetched.now x.now state.now in
+        p.new ≡ prepared_of v (side_of state.now v) }
+    ensures needs { result ≡ needs_of (seen p.old.place fetched.now x.now state.now) }
+    ensures ranges { IsPrepared p.new }
+{
+    let needs = prepare_without_side(p, fetched, x, state);
+    if needs.index_read.is_some() {
+        prepare_by_side(p, fetched, x, needs, state);
+    }
+    needs
+}
+
+/// Plans the next entry of a state, or the table instruction of an interrupt by the indicator in `table`, in place. The result is
+/// what the timetable sees of it.
+pub fn plan_entry(table: Option<u8>, state: &State, p: &mut Prepared) -> Entry
+    requires indicator { IfSome table (λ i. i < 64) }
+    ensures plan { p.new ≡ plan_of state.now table }
+    ensures ranges { IsPrepared p.new }
+    ensures entry { result ≡ entry_of table state.now }
+{
+    p.place = place_of(state, table);
+    let x = index_words(state);
+    let found = find(&p.place, &x, state);
+    let needs = prepare_found(p, &found.fetched, &x, state);
     Entry {
-        own,
-        target,
+        own: found.own,
+        target: found.target,
         side: side_to_read(needs.index_read),
         reads: words_to_read(p.reads),
         writes: words_to_write(p.writes),
         cost: p.cost,
         serial: p.serial,
-        follows: table.is_none() && fetched.fault.is_none(),
+        follows: asks_for_following(table, found.fetched.fault),
     }
 }

@@ -9,13 +9,13 @@ ghost use Rattle.st_rows.specs.Rows.{done_before};
 ghost use Rattle.st_segment.specs.Ahead.{ahead as ahead_of, prepared_before};
 ghost use Rattle.st_plain.specs.Looking.{seen_of, looked};
 
-use crate::entries::entry;
+use crate::entries::plan_entry;
 use crate::rows::{begin, finish};
 use arrayvec::ArrayVec;
 use st_back::{keep, undo};
 use st_banks::Delays;
 use st_exec::complete_in;
-use st_prep::{Prepared, plan};
+use st_prep::Prepared;
 use st_rows::{Front, Log, Row};
 use st_state::State;
 
@@ -76,8 +76,8 @@ pub fn look(
 {
     delays.shape();
     state.shape();
-    let p = plan(state, None);
-    let e = entry(None, &p, state);
+    let mut p = Prepared::default();
+    let e = plan_entry(None, state, &mut p);
     let begun = begin(front, delays, levels, &e, log);
     if begun.formed.p >= tick {
         front.bus = begun.words.bus;

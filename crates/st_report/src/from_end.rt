@@ -47,17 +47,17 @@ impl LineFromEnd {
         &self.bytes[self.start..]
     }
 
-    // Takes all bytes away.
+    /// Takes all bytes away.
     #[inline(always)]
-    pub(crate) fn clear(&mut self)
+    pub fn clear(&mut self)
         ensures { self.new ≡ [] }
     {
         self.start = ROOM;
     }
 
-    // Puts a piece before the line.
+    /// Puts a piece before the line.
     #[inline(always)]
-    pub(crate) fn put(&mut self, piece: &[u8])
+    pub fn put(&mut self, piece: &[u8])
         requires { length piece.now + length self.old ≤ 128 }
         ensures { self.new ≡ piece.now ++ self.old }
     {
@@ -66,9 +66,9 @@ impl LineFromEnd {
         self.start = start;
     }
 
-    // Puts a number in decimal digits before the line, of which there are at most 20.
+    /// Puts a number in decimal digits before the line, of which there are at most 20.
     #[inline(always)]
-    pub(crate) fn put_decimal(&mut self, n: u64)
+    pub fn put_decimal(&mut self, n: u64)
         requires { length self.old + 20 ≤ 128 }
         ensures bytes { self.new ≡ decimal n ++ self.old }
         ensures room { length self.new ≤ length self.old + 20 }
@@ -91,9 +91,9 @@ impl LineFromEnd {
         }
     }
 
-    // Puts a half-word address before the line, as word.bit.
+    /// Puts a half-word address before the line, as word.bit.
     #[inline(always)]
-    pub(crate) fn put_half_address(&mut self, address: u32)
+    pub fn put_half_address(&mut self, address: u32)
         requires { length self.old + 23 ≤ 128 }
         ensures bytes { self.new ≡ half_address address ++ self.old }
         ensures room { length self.new ≤ length self.old + 23 }

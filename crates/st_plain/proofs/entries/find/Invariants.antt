@@ -2,7 +2,7 @@ use Rattle.std.proofs.Common.{◌≡◌, ◌+◌, ◌-◌, ◌≤◌, ◌++◌, 
 use Rattle.st_state.specs.Machine.{word}
 use Rattle.st_prep.specs.Reading.{reading, left_after, words_read, own_words}
 use Rattle.st_prep.proofs.ReadingLemmas.{IsLeft}
-use Rattle.st_plain.proofs.entries.instruction_runs.Given as goal
+use Rattle.st_plain.proofs.entries.find.Given as goal
 
 -- the words so far are the first ones that the reading reads, and what is left of it reads the others
 abbrev pub invariant-reads : goal.invariant-reads

@@ -1,0 +1,12 @@
+use Rattle.std.proofs.Common.{codes, decimal}
+use Rattle.st_text.specs.Bytes.{lf}
+use Rattle.st_ledger.specs.Lines.{stage_name}
+use Rattle.st_ledger.proofs.FromEnd.{seven_pieces}
+use Rattle.st_ledger.proofs.lines.fill_charge.Goals as goal
+
+pub returns : goal.returns
+returns c =
+    let x = c.args.charge in
+    seven_pieces (codes "CHARGE ") (decimal x.from) (codes " ") (decimal x.to) (codes " ") (stage_name x.stage) lf _ _ _ _ _ _ _ _
+    c.clear.ensures c.put.ensures c.put_stage.ensures.bytes c.put-2.ensures c.put_decimal.ensures.bytes c.put-3.ensures c.put_decimal-2.ensures.bytes
+    c.put-4.ensures
