@@ -16,4 +16,4 @@ pub use limits::WORDS;
 pub use operations::{BranchOp, ConnKind, HalfOp, VflOp};
 pub use parts::{part, with_part};
 pub use register::fix_register;
-pub use storage::{Ind, NoMemory, indicator, words_are_those_of_storage};
+pub use storage::{Ind, NoMemory, indicator};

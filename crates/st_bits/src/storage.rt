@@ -1,15 +1,6 @@
 //! Storage as a whole, and the indicators as bits of a word. `docs/machine.md` has the rules.
 ghost use Rattle.std.specs.Prelude.{◌≡◌, ◌<◌};
 ghost use Rattle.st_bits.specs.Indicators.{indicator as indicator_of};
-ghost use Rattle.st_bits.specs.Storage.{words_of_storage};
-
-use crate::limits::WORDS;
-
-/// The number of words in the code is that of the definitions.
-#[tactic(auto, unfolding(crate::specs::Storage::words_of_storage))]
-pub fn words_are_those_of_storage()
-    ensures { WORDS ≡ words_of_storage }
-{}
 
 /// Memory ran out.
 #[derive(Clone, Copy, Debug, PartialEq, Eq)]

@@ -162,6 +162,7 @@ impl State {
 
     /// The indicator that forbids the access to the word address `w`, None where it is allowed.
     #[tactic(auto, unfolding(crate::specs::Boundary::forbidden_by), using(st_bits::specs::Storage::words_of_storage_is))]
+    #[inline(always)]
     pub fn may(&self, access: Access, w: u32) -> Option<u8>
         ensures value { result ≡ forbidden self.now access w }
         ensures bound { IfSome result (λ i. i < 64) }
