@@ -6,6 +6,7 @@ ghost use Rattle.std.specs.Prelude.{◌≡◌};
 ghost use Rattle.st_io.specs.Count.{counted};
 
 mod buffer;
+mod command_line;
 mod lines;
 mod mem;
 mod sink;
@@ -15,6 +16,7 @@ mod sure;
 #[cfg(test)]
 mod tests;
 
+pub use command_line::{NoWords, words};
 pub use lines::write_line;
 pub use mem::{MemSink, MemSource};
 pub use sink::{Sink, write_all};
