@@ -6,7 +6,8 @@ use Rattle.st_prep.specs.Plan.{plan}
 use Rattle.st_exec.specs.Completion.{executed, is_missed}
 use Rattle.st_exec.specs.Step.{rests}
 use Rattle.st_exec.specs.Transfer.{read_in, printed_out}
-use Rattle.st_rows.specs.Rows.{opening, after}
+use Rattle.st_rows.specs.Rows.{after}
+use Rattle.st_segment.specs.Ahead.{front_behind_end}
 use Rattle.st_ahead.specs.Overlap.{Overlap, idle_banks, oldest, oldest_row, levels_of, banks_at_its_end, interrupt_due}
 use Rattle.st_ahead.specs.declared.events.Row.{Row}
 use Rattle.st_ahead.specs.declared.events.Event.{Event}
@@ -71,7 +72,7 @@ unfoldable pub ended : Overlap → Overlap
 ended m =
     if m.ended then m
     else record m {
-      front = opening (banks_left m.closing) (m.now + 1 + length (levels_of m));
+      front = front_behind_end (banks_left m.closing) m.now (length (levels_of m));
       ended = true;
     }
 

@@ -1,17 +1,16 @@
 -- What an overlapped machine stands for, and what is read off it.
-use Rattle.std.specs.Prelude.{ℕ, suc, ◌-◌, Bool, false, if◌then◌else◌, is_none, List, ◌++◌, replicate, Option, None, Some}
+use Rattle.std.specs.Prelude.{ℕ, ◌-◌, Bool, false, if◌then◌else◌, is_none, List, replicate, Option, None, Some}
 use Rattle.st_state.specs.Machine.{Machine}
 use Rattle.st_exec.specs.Completion.{guess}
 use Rattle.st_exec.specs.Step.{interrupt}
 use Rattle.st_banks.specs.declared.answers.LastAnswers.{LastAnswers}
 use Rattle.st_banks.specs.declared.answers.TheConstants.{BANKS}
-use Rattle.st_rows.specs.Rows.{opening, row, after}
-use Rattle.st_rows.specs.Asked.{asked, made_before}
+use Rattle.st_rows.specs.Rows.{opening, row}
 use Rattle.st_rows.specs.declared.entry.Entry.{Entry}
 use Rattle.st_rows.specs.declared.front.Front.{Front}
 use Rattle.st_rows.specs.declared.front.Row.{Row}
 use Rattle.st_segment.specs.Entries.{entry}
-use Rattle.st_segment.specs.Ahead.{Ahead, ahead, prepared_before, reads_before}
+use Rattle.st_segment.specs.Ahead.{Ahead, ahead, prepared_before, reads_to_end, banks_at_end}
 
 -- the delays of reads and the number of levels; the committed state; the indicator whose interrupt was taken and whose table instruction is
 -- not done; the counter behind a branch that was missed at this tick; the front of the oldest entry that is not done; the tick that comes
@@ -79,12 +78,7 @@ levels_of m = prepared_before m.now (entries_ahead m.levels m)
 -- that are accepted before that tick are made
 unfoldable pub banks_at_its_end : Overlap → LastAnswers
 banks_at_its_end m =
-    (made_before m.delays m.now
-    (asked m.delays m.levels m.front (oldest m)
-    ++ reads_before m.delays m.levels m.now
-    (ahead m.delays m.levels (suc m.levels) None (guess m.taken m.state)
-    (after m.delays m.levels m.front (oldest m))))
-    m.front.bus).banks
+    banks_at_end m.delays m.now (reads_to_end m.delays m.levels m.now m.taken m.state m.front) m.front.bus
 
 -- the interrupt that is taken before the next entry
 abbrev pub interrupt_due : Overlap → Option ℕ

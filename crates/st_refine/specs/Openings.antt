@@ -8,11 +8,11 @@ use Rattle.st_exec.specs.Transfer.{read_in, printed_out}
 use Rattle.st_banks.specs.declared.answers.LastAnswers.{LastAnswers}
 use Rattle.st_banks.specs.declared.answers.TheConstants.{BANKS}
 use Rattle.st_rows.specs.Rows.{opening, row, after}
-use Rattle.st_rows.specs.Asked.{Read, asked, made_before}
+use Rattle.st_rows.specs.Asked.{Read, asked}
 use Rattle.st_rows.specs.declared.front.Front.{Front}
 use Rattle.st_segment.specs.Entries.{entry}
 use Rattle.st_segment.specs.Guesses.{table_behind}
-use Rattle.st_segment.specs.Ahead.{ahead, reads_before}
+use Rattle.st_segment.specs.Ahead.{reads_to_end, banks_at_end, front_behind_end}
 use Rattle.st_ahead.specs.Look.{asked_ahead}
 use Rattle.st_ahead.specs.Overlap.{Overlap, last_tick}
 
@@ -87,17 +87,15 @@ banks_behind ds n o changes (suc j) =
     let s = state_after o changes j in
     let t = table_behind j o.table in
     let f = front_after ds n o changes j in
-    let e = entry t s in
-    let c = (row ds n f e).c in
-    (made_before ds c (reads_after ds n o changes j
-    ++ (asked ds n f e ++ reads_before ds n c (ahead ds n (suc n) None (guess t s) (after ds n f e)))) o.front.bus).banks
+    let c = (row ds n f (entry t s)).c in
+    banks_at_end ds c (reads_after ds n o changes j ++ reads_to_end ds n c t s f) o.front.bus
 
 -- the opening of the next segment, where that one ends there and so many entries are dropped
 unfoldable pub opening_behind : List ℕ → ℕ → ℕ → Opening → List Outside → ℕ → Opening
 opening_behind ds n dropped o changes j = record {
   state = state_after o changes j;
   table = None;
-  front = opening (banks_behind ds n o changes j) ((front_after ds n o changes j).c + 1 + dropped);
+  front = front_behind_end (banks_behind ds n o changes j) (front_after ds n o changes j).c dropped;
 }
 
 -- ---- standing at it

@@ -1,6 +1,6 @@
 -- Where a run with its timetable stands: when an entry has just been done, and before the next one.
 -- The machine has the delays ds and n levels.
-use Rattle.std.specs.Prelude.{ℕ, suc, ◌+◌, Bool, false, ◌||◌, nat_lt, if◌then◌else◌, is_some, List, [], ◌++◌, length, replicate, Option, None}
+use Rattle.std.specs.Prelude.{ℕ, Bool, false, ◌||◌, nat_lt, if◌then◌else◌, is_some, List, [], length, replicate, Option, None}
 use Rattle.st_state.specs.Machine.{Machine}
 use Rattle.st_prep.specs.Plan.{plan}
 use Rattle.st_exec.specs.Completion.{guess, is_missed}
@@ -9,12 +9,12 @@ use Rattle.st_run.specs.Run.{Scene, with_due_signals, with_due_orders, interlude
 use Rattle.st_banks.specs.declared.answers.LastAnswers.{LastAnswers}
 use Rattle.st_banks.specs.declared.answers.TheConstants.{BANKS}
 use Rattle.st_rows.specs.Rows.{opening, row, after}
-use Rattle.st_rows.specs.Asked.{Read, asked, made_before}
+use Rattle.st_rows.specs.Asked.{Read}
 use Rattle.st_rows.specs.declared.entry.Entry.{Entry}
 use Rattle.st_rows.specs.declared.front.Front.{Front}
 use Rattle.st_rows.specs.declared.front.Row.{Row}
 use Rattle.st_segment.specs.Entries.{entry}
-use Rattle.st_segment.specs.Ahead.{Ahead, ahead, prepared_before, reads_before}
+use Rattle.st_segment.specs.Ahead.{Ahead, ahead, prepared_before, reads_to_end, banks_at_end, front_behind_end}
 
 -- An entry has just been done, at this tick, and nothing has come from outside since: the scene with the
 -- state that it leaves; the front behind it; whether the guess was wrong by which others ran ahead of it;
@@ -76,7 +76,7 @@ ends_segment m = m.missed || has_card m || has_waited m || is_some (interrupt (n
 
 -- the front of the segment behind it, which starts one tick later and one more for each entry that is dropped
 abbrev pub next_segment : Moment → Front
-next_segment m = opening m.banks (m.tick + 1 + length m.dropped)
+next_segment m = front_behind_end m.banks m.tick (length m.dropped)
 
 -- the front of the next entry's row
 unfoldable pub next_front : Moment → Front
@@ -114,8 +114,7 @@ entries_behind ds n k p = ahead ds n k None (guess (taken p) p.scene.machine) (f
 
 -- its reads, those of the entries behind it that are prepared before the tick, and of the one behind these
 abbrev pub reads_until : List ℕ → ℕ → ℕ → Standing → List Read
-reads_until ds n tick p =
-    asked ds n p.front (oldest p) ++ reads_before ds n tick (entries_behind ds n (suc n) p)
+reads_until ds n tick p = reads_to_end ds n tick (taken p) p.scene.machine p.front
 
 -- the moment at which it is done: of the reads those are made that are accepted before
 unfoldable pub next_moment : List ℕ → ℕ → Standing → Moment
@@ -127,5 +126,5 @@ next_moment ds n p =
       front = front_after ds n p;
       missed = is_missed (plan p.scene.machine (taken p)) p.scene.machine;
       dropped = prepared_before tick (entries_behind ds n n p);
-      banks = (made_before ds tick (reads_until ds n tick p) p.front.bus).banks;
+      banks = banks_at_end ds tick (reads_until ds n tick p) p.front.bus;
     }

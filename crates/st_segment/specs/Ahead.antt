@@ -1,11 +1,13 @@
 -- The entries ahead of a state, with their rows: those that are prepared before a tick, and the reads that are made for them.
-use Rattle.std.specs.Prelude.{ℕ, zero, suc, nat_lt, if◌then◌else◌, List, [], ◌∷◌, ◌++◌, Option, None}
+use Rattle.std.specs.Prelude.{ℕ, zero, suc, ◌+◌, nat_lt, if◌then◌else◌, List, [], ◌∷◌, ◌++◌, Option, None}
 use Rattle.st_state.specs.Machine.{Machine}
 use Rattle.st_prep.specs.Plan.{plan}
 use Rattle.st_prep.specs.declared.entries.Prepared.{Prepared}
 use Rattle.st_exec.specs.Completion.{guess}
-use Rattle.st_rows.specs.Rows.{row, after}
-use Rattle.st_rows.specs.Asked.{Read, asked}
+use Rattle.st_banks.specs.declared.answers.LastAnswers.{LastAnswers}
+use Rattle.st_rows.specs.Rows.{opening, row, after}
+use Rattle.st_rows.specs.Asked.{Read, asked, made_before}
+use Rattle.st_rows.specs.declared.bus.Bus.{Bus}
 use Rattle.st_rows.specs.declared.entry.Entry.{Entry}
 use Rattle.st_rows.specs.declared.front.Front.{Front}
 use Rattle.st_rows.specs.declared.front.Row.{Row}
@@ -57,3 +59,19 @@ unfoldable pub reads_before : List ℕ → ℕ → ℕ → List Ahead → List R
 reads_before ds n t [] = []
 reads_before ds n t (a ∷ rest) =
     asked ds n a.front a.entry ++ (if nat_lt a.row.p t then reads_before ds n t rest else [])
+
+-- ---- the end of a segment
+
+-- the reads that may be made by then, where it ends at a tick: those of the next entry of a state, and of those behind it
+abbrev pub reads_to_end : List ℕ → ℕ → ℕ → Option ℕ → Machine → Front → List Read
+reads_to_end ds n tick table s f =
+    asked ds n f (entry table s)
+    ++ reads_before ds n tick (ahead ds n (suc n) None (guess table s) (after ds n f (entry table s)))
+
+-- the last answers of the banks, where it ends at a tick: those of the reads are made that are accepted before
+abbrev pub banks_at_end : List ℕ → ℕ → List Read → Bus → LastAnswers
+banks_at_end ds tick reads bus = (made_before ds tick reads bus).banks
+
+-- the front of the segment behind it, which starts one tick later and one more for each entry that is dropped
+abbrev pub front_behind_end : LastAnswers → ℕ → ℕ → Front
+front_behind_end banks tick dropped = opening banks (tick + 1 + dropped)
