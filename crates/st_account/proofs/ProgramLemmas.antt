@@ -3,7 +3,7 @@ use Rattle.std.proofs.Common.{◌≡◌, ◌<◌, ℕ, List, All, sym, subst}
 use Rattle.std.specs.Prelude.{Result, Ok, Err, IfOk}
 use Rattle.st_exch.proofs.CardLemmas.{cards-size, cards-below}
 use Rattle.st_exch.specs.Reader.{reader_cards}
-use Rattle.st_run.specs.Scenes.{IsCard}
+use Rattle.st_run.specs.Reached.{IsCard}
 
 are_cards : (job : List ℕ) → All (λ x. x < 256) job → All IsCard (reader_cards job)
 are_cards job bytes = λ k d lt. record { size = cards-size job k d lt; below = cards-below job bytes k d lt }

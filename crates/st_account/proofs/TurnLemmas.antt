@@ -19,7 +19,7 @@ use Rattle.st_rows.specs.declared.front.Front.{Front}
 use Rattle.st_rows.specs.declared.log.Made.{Made}
 use Rattle.st_segment.specs.Ahead.{ahead, prepared_before, reads_before}
 use Rattle.st_run.specs.Run.{Scene, interlude, with_due_signals, with_due_orders}
-use Rattle.st_run.specs.Scenes.{IsCard}
+use Rattle.st_run.specs.Reached.{IsCard}
 use Rattle.st_run.specs.Moments.{Moment, Standing, start, unread, next_state, next_front, standing, next_moment}
 use Rattle.st_exec.proofs.StepLemmas.{step-done}
 use Rattle.st_run.proofs.DoneLemmas.{settled-done}

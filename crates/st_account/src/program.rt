@@ -11,7 +11,7 @@ ghost use Rattle.st_card.specs.Limits.{IsWithinLimits};
 ghost use Rattle.st_exch.specs.Reader.{reader_cards};
 ghost use Rattle.st_io.specs.Lines.{WritesLines};
 ghost use Rattle.st_report.specs.Line.{fault_line};
-ghost use Rattle.st_run.specs.Scenes.{IsCard};
+ghost use Rattle.st_run.specs.Reached.{IsCard};
 ghost use Rattle.st_state.specs.Machine.{opening};
 ghost use Rattle.st_account.specs.Answers.{levels_by, levels_of, lines_by, status_by, lines_of, status_of, Writes, Did, IsAnswer};
 

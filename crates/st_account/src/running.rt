@@ -13,7 +13,7 @@ ghost use Rattle.st_rows.specs.Notes.{noted};
 ghost use Rattle.st_rows.specs.Ranges.{IsTight};
 ghost use Rattle.st_rows.specs.Rows.{row as row_of, after as after_of};
 ghost use Rattle.st_segment.specs.Entries.{entry as entry_of};
-ghost use Rattle.st_run.specs.Scenes.{IsCard};
+ghost use Rattle.st_run.specs.Reached.{IsCard};
 ghost use Rattle.st_run.specs.Moments.{Moment, Standing, start as start_of, next_state, next_front, next_moment};
 ghost use Rattle.st_ledger.specs.Ledger.{charges_at, entries_from, all_charges};
 ghost use Rattle.st_ledger.specs.declared.charges.Stage.{Stage};

@@ -19,10 +19,9 @@ use Rattle.st_ahead.specs.RunTo.{after_ticks, ArePassed, RunsTo}
 use Rattle.st_ahead.specs.declared.events.Row.{Row}
 use Rattle.st_ahead.proofs.Passing.{passed-now}
 use Rattle.st_refine.specs.Reached.{CanStart, MayTick, IsLed, Starts, Settles, Signals, Reads, Prints, Stops}
-use Rattle.st_refine.specs.Reached.{IsCard as IsCardRead}
 use Rattle.st_refine.proofs.Laws.{runs_are_reached}
 use Rattle.st_run.specs.Run.{Scene, with_due_signals, with_signals_at_rest, first_card, cards_after}
-use Rattle.st_run.specs.Scenes.{IsCard}
+use Rattle.st_refine.specs.Reached.{IsCard}
 use Rattle.st_run.specs.Serving.{IsServed, order_of}
 use Rattle.st_run.specs.Between.{IsQuiet}
 use Rattle.st_run.specs.Ticking.{last_for}
@@ -48,7 +47,7 @@ stop-led m may led = record { made = led.made; since = led.since; reached = Stop
 print-led : (m : Overlap) → IsSome m.state.printer → MayServe m → IsLed m → IsLed (printed_by m)
 print-led m some may led = record { made = led.made; since = led.since; reached = Prints m led.made led.since led.reached some may }
 
-read-led : (m : Overlap) (order : Order) (card : Option (List ℕ)) → m.state.reader ≡ Some order → IfSome card IsCardRead → MayServe m → IsLed m
+read-led : (m : Overlap) (order : Order) (card : Option (List ℕ)) → m.state.reader ≡ Some order → IfSome card IsCard → MayServe m → IsLed m
     → IsLed (read_in_by order.word card m)
 read-led m order card given is may led = record {
   made = led.made;
@@ -105,12 +104,9 @@ rest-led (x ∷ xs) m cards known may led =
 
 -- ---- cards
 
-card-read : (card : List ℕ) → IsCard card → IsCardRead card
-card-read card is = record { size = is.size; below = is.below }
-
-first-read : (cards : List (List ℕ)) → All IsCard cards → IfSome (first_card cards) IsCardRead
+first-read : (cards : List (List ℕ)) → All IsCard cards → IfSome (first_card cards) IsCard
 first-read [] are = tt
-first-read (card ∷ cards) are = card-read card (All-head IsCard card cards are)
+first-read (card ∷ cards) are = All-head IsCard card cards are
 
 left-cards : (cards : List (List ℕ)) → All IsCard cards → All IsCard (cards_after cards)
 left-cards [] are = are

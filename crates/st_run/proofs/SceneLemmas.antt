@@ -22,7 +22,8 @@ use Rattle.st_exec.specs.Transfer.{all_stored, read_in}
 use Rattle.st_card.specs.declared.control_cards.Signal.{Signal}
 use Rattle.st_run.specs.Run.{Scene, first_card, cards_after, with_due_signals, with_signals_at_rest, with_reader, with_printer, if_due, with_due_orders, with_device, with_order_at_rest, with_wait, interlude, stepped, uneventful}
 use Rattle.st_exec.proofs.MachineKept.{kept-stored, kept-completed}
-use Rattle.st_run.specs.Scenes.{IsCard, IsScene}
+use Rattle.st_refine.specs.Reached.{IsCard}
+use Rattle.st_run.specs.Scenes.{IsScene}
 
 -- ---- interrupts
 

@@ -14,3 +14,4 @@ pub mod Leaving
 pub mod Between
 pub mod RunLaws
 pub mod Laws
+pub use Rattle.st_refine.specs.Reached

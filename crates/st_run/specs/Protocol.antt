@@ -7,7 +7,7 @@ use Rattle.st_ahead.specs.Overlap.{Overlap}
 use Rattle.st_ahead.specs.Shown.{shown}
 use Rattle.st_ahead.specs.declared.events.View.{View}
 use Rattle.st_refine.specs.Reached.{IsLed}
-use Rattle.st_run.specs.Scenes.{IsCard}
+use Rattle.st_refine.specs.Reached.{IsCard}
 use Rattle.st_run.specs.Telling.{Telling, seen_of, ahead_of}
 
 -- a machine with the signals and the reader's cards that are still to come: the signals are known ones, each card has eight words, and calls

@@ -4,7 +4,7 @@ ghost use Rattle.std.specs.List.{AllPass};
 ghost use Rattle.std.specs.List.Sorted.{IsStrictlyIncreasing};
 ghost use Rattle.st_bits.specs.declared.limits.TheConstants.{MOST_INSTRUCTIONS};
 ghost use Rattle.st_card.specs.Limits.{is_signal};
-ghost use Rattle.st_run.specs.Scenes.{IsCard};
+ghost use Rattle.st_refine.specs.Reached.{IsCard};
 ghost use Rattle.st_run.specs.Told.{told as told_events};
 ghost use Rattle.st_run.specs.TimedRun.{timed_run};
 ghost use Rattle.st_run.specs.Telling.{what_told, AreLeftOut, AreLevels};
@@ -50,7 +50,7 @@ impl<'a, const N: usize> Run<'a, N> {
     ghost use Rattle.std.specs.List.{AllPass};
     ghost use Rattle.std.specs.List.Sorted.{IsStrictlyIncreasing};
     ghost use Rattle.st_card.specs.Limits.{is_signal};
-    ghost use Rattle.st_run.specs.Scenes.{IsCard};
+    ghost use Rattle.st_refine.specs.Reached.{IsCard};
     ghost use Rattle.st_run.specs.Told.{told as told_events};
     ghost use Rattle.st_run.specs.TimedRun.{timed_run};
     ghost use Rattle.st_run.specs.Telling.{what_told, AreLeftOut, AreLevels};

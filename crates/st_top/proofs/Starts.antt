@@ -7,7 +7,8 @@ use Rattle.st_state.specs.Machine.{Machine, IsMachine, opening}
 use Rattle.st_card.specs.declared.control_cards.Signal.{Signal}
 use Rattle.st_run.specs.Run.{Scene}
 use Rattle.st_exch.specs.Reader.{reader_cards}
-use Rattle.st_run.specs.Scenes.{IsCard, IsScene}
+use Rattle.st_run.specs.Reached.{IsCard}
+use Rattle.st_run.specs.Scenes.{IsScene}
 use Rattle.st_run.specs.TimedRun.{timed_run}
 use Rattle.st_run.specs.Told.{Told, told}
 use Rattle.st_top.specs.StepsBack.{timed}

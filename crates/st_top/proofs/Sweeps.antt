@@ -14,7 +14,8 @@ use Rattle.st_card.specs.declared.control_cards.Signal.{Signal}
 use Rattle.st_state.specs.Machine.{opening}
 use Rattle.st_state.proofs.Kept.{is_machine-opening}
 use Rattle.st_report.specs.Line.{levels_line}
-use Rattle.st_run.specs.Scenes.{IsCard, IsScene}
+use Rattle.st_run.specs.Reached.{IsCard}
+use Rattle.st_run.specs.Scenes.{IsScene}
 use Rattle.st_sweep.specs.Sweep.{without_cards}
 use Rattle.st_sweep.specs.SideBySide.{swept}
 use Rattle.st_sweep.specs.declared.sweeping.Swept.{Swept}
