@@ -322,8 +322,8 @@ impl<const N: usize> Machine<N> {
         self.state.shape();
     }
 
-    /// Ends the segment at the end of a run, at the tick whose settle is owed. The result is the number of levels dropped. After it no call may be made but
-    /// `view`, `state`, `ring` and `index`.
+    /// Ends the segment at the end of a run, at the tick whose settle is owed. The result is the number of levels dropped.
+    /// After it no call that changes the machine may be made.
     pub fn stop(&mut self) -> u8
         requires owed { self.old.owed ≡ true }
         requires stands { self.old.stopped ≡ false }

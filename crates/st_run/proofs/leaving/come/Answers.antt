@@ -1,14 +1,9 @@
-use Rattle.std.proofs.Common.{sym, ◌∙◌, ap, inr, arith}
+use Rattle.std.proofs.Common.{sym, ◌∙◌, ap, arith}
 use Rattle.st_ahead.specs.Calls.{MayServe}
 use Rattle.st_exec.specs.Step.{rests}
 use Rattle.st_run.specs.Together.{Together}
 use Rattle.st_run.proofs.CameLemmas.{came-text, settled-going, settled-waiting, over-going, over-waiting, ended-may}
 use Rattle.st_run.proofs.leaving.come.Goals as goal
-
-pub take_due_signals-requires : goal.take_due_signals-requires
-take_due_signals-requires g c =
-    let may = c.requires in
-    (omega arith, (inr (may.0, may.1), may.2))
 
 pub returns-then-not-is_at_rest-clause-came : goal.returns-then-not-is_at_rest-clause-came
 returns-then-not-is_at_rest-clause-came g c =
