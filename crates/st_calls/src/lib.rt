@@ -5,6 +5,8 @@
 #[cfg(test)]
 mod blank;
 #[cfg(test)]
+mod devices;
+#[cfg(test)]
 mod overlapped;
 #[cfg(test)]
 mod reads;

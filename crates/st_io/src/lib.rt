@@ -12,8 +12,6 @@ mod sink;
 mod source;
 mod standard;
 mod sure;
-#[cfg(test)]
-mod tests;
 
 pub use lines::write_line;
 pub use mem::{MemSink, MemSource};
