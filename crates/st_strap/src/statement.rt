@@ -4,7 +4,7 @@ use st_bits::{BranchOp, ConnKind, HalfOp, VflOp};
 use st_expr::{Expr, ExprText};
 
 /// An address, and the index word that changes it. The address is kept in the form `E`: as its terms, or as its text.
-#[derive(Drop, Debug)]
+#[derive(Drop, Debug, PartialEq)]
 pub struct Spot<E = Expr> {
     /// The address, a bit address.
     pub expr: E,
@@ -31,7 +31,7 @@ pub struct Form {
 /// A statement: an instruction, or an order to the assembler. `at` is its first address, and `second` is another one, in bits,
 /// without an index part. Numbers (`offset`, `count`, `number`, `flags`) are as they were read, below 2^64; only the
 /// assembler tries them against what has room. Addresses are kept in the form `E`: as their terms, or as their texts.
-#[derive(Drop, Debug)]
+#[derive(Drop, Debug, PartialEq)]
 pub enum Statement<E = Expr> {
     /// An operation on the index word `j`, 0 to 15; EX has `j` 0.
     Half {
