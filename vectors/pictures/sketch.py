@@ -4,6 +4,7 @@
     python3 sketch.py [svg|text|kanata] [FROM TO] < REPORT
 
 The pictures beside it were made with it."""
+import os
 import sys
 from collections import namedtuple
 
@@ -265,6 +266,8 @@ def main(words):
         if len(words) != 2 or not bounds or not 1 <= bounds[0] <= bounds[1]:
             return 2
         low, high = bounds[0], min(bounds[1], bounds[0] + 199)
+    if sys.stdin is None:
+        return 4
     report = sys.stdin.buffer.read()
     entries, later = timetable(report, low, high)
     rows = sum(e.kind == "row" for e in entries)
@@ -272,7 +275,11 @@ def main(words):
         entries = []
     cards = listing(report)
     made = log(entries, cards) if kind == "kanata" else (svg if kind == "svg" else lines)(entries, cards, rows, later)
-    sys.stdout.buffer.write(made)
+    try:
+        sys.stdout.buffer.write(made)
+        sys.stdout.buffer.flush()
+    except OSError:
+        os._exit(5)
     return 0 if rows else 1
 
 

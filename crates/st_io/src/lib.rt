@@ -13,8 +13,6 @@ mod sink;
 mod source;
 mod standard;
 mod sure;
-#[cfg(test)]
-mod tests;
 
 pub use command_line::{NoWords, words};
 pub use lines::write_line;

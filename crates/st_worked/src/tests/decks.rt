@@ -1,15 +1,156 @@
 //! Jobs and the reports on them, worked out by hand or by an independent model of the machine.
 
-pub mod cards;
-pub mod operations;
-pub mod refused;
-pub mod runs;
+/// A load and a wait.
+pub const LOAD: &str = "         LVI,$X1,100.0
+         BEW
+         END,32.0
+";
 
-/// A job and its report, or the line that refuses it.
-#[derive(Clone, Copy)]
-pub struct Case {
-    /// What it shows.
-    pub shows: &'static str,
-    pub job: &'static str,
-    pub report: &'static str,
-}
+/// The report on a load and a wait.
+pub const LOADED: &str = "END WAIT
+DONE 2
+IC 33.0
+EN 1
+REG 11 0000000000009000
+REG 12 FFFFF00000000000
+REG 17 0019000000000000
+";
+
+/// A load and a wait, with names and a listing.
+pub const LISTED: &str = " A       LVI,$X1,B
+         BEW
+ B       SYN,100.0
+         END,A
+/LIST
+";
+
+/// Its report: five lines of cards, two of symbols, and the end.
+pub const LISTING: &str = "    1      32.0 00190300          A       LVI,$X1,B
+    2     32.32 00000970                  BEW
+    3     100.0                   B       SYN,100.0
+    4                                     END,A
+    5                            /LIST
+SYM A 32.0
+SYM B 100.0
+END WAIT
+DONE 2
+IC 33.0
+EN 1
+REG 11 0000000000009000
+REG 12 FFFFF00000000000
+REG 17 0019000000000000
+";
+
+/// A counting loop that is traced.
+pub const TRACED: &str = "         LCI,$X1,2
+         CB,$X1,32.32
+         BEW
+         END,32.0
+/TRACE
+";
+
+/// Its report: four lines of trace, and the end.
+pub const TRACE: &str = "TRC 1 32.0
+TRC 2 32.32
+TRC 3 32.32
+TRC 4 33.0
+END WAIT
+DONE 4
+IC 33.32
+EN 1
+REG 11 000000000000A000
+REG 12 FFFFF00000000000
+";
+
+/// The sum of a table, with an interrupt routine.
+pub const TABLE_SUM: &str = "* SUM OF A TABLE
+ START   LVI,$X2,TABLE
+         SX,$X2,$IA
+         LX,$X1,CTL
+         BE,LOOP
+ LOOP    +(DU,32,8)(V+IC),0.32($X1)
+         BI0,$XCZ,LOOP
+         ST(DU,32),SUM
+         BEW
+ ROUT    M+1(BU,64),TALLY
+ BACK    BE,0.0
+ CTL     XW,DATA,3,0
+ DATA    DD(DU,32,8),1234
+         DD(DU,32,8),5678
+         DD(DU,32,8),90
+ SUM     DD(DU,32),0
+ TALLY   DD(BU,64),0
+ TABLE   SYN,200
+         SLC,TABLE+13
+         SIC,BACK,ROUT
+         END,START
+/SIGNAL 6 13
+/DUMP 41 42
+";
+
+/// Its report: eleven lines of the interrupt, and thirteen of the end.
+pub const TABLE_SUMMED: &str = "INT 13 AFTER 6
+IC 34.0
+EN 1
+REG 02 0032000000000000
+REG 09 0000000000001234
+REG 11 0004000000001020
+REG 12 FFFFF00000000000
+REG 17 000A200000080000
+REG 18 0032000000000000
+DUMP 41 42
+MEM 41 0000090000000000
+END WAIT
+DONE 15
+IC 37.32
+EN 1
+REG 02 0032000000000000
+REG 09 0000000000007002
+REG 11 0000000000009120
+REG 12 FFFFF00000000000
+REG 17 000A600000000000
+REG 18 0032000000000000
+DUMP 41 42
+MEM 41 0000090000007002
+MEM 42 0000000000000001
+";
+
+/// A line for the printer.
+pub const PRINTS: &str = "         WR,50.0,1
+         BI0Z,$EOP,33.0
+         BEW
+         SLC,50.0
+         DD(BU,16),18505
+         END,32.0
+";
+
+/// Its report: the printed line, and the end.
+pub const PRINTED: &str = "PRT HI
+END WAIT
+DONE 4
+IC 34.32
+EN 1
+REG 12 FFFFF00000000000
+";
+
+/// Four early index changes, one behind the other.
+pub const CALM: &str = "         *(BU,64),100.0
+         V+I,$X1,1.0
+         V+I,$X1,1.0
+         V+I,$X1,1.0
+         V+I,$X1,1.0
+         BEW
+         END,32.0
+";
+
+/// Their ticks on machines of one to eight levels.
+pub const CALM_LINES: &str = "LEVELS 1 TICKS 27
+LEVELS 2 TICKS 25
+LEVELS 3 TICKS 23
+LEVELS 4 TICKS 23
+LEVELS 5 TICKS 23
+LEVELS 6 TICKS 23
+LEVELS 7 TICKS 23
+LEVELS 8 TICKS 23
+CALM 1
+";
