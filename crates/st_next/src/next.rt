@@ -260,8 +260,7 @@ impl Next {
         true
     }
 
-    // Prepares it as far as it goes without its index-side word. What is frequent is straight code: nothing is asked for yet, and the first word tells the
-    // whole instruction.
+    // Prepares it as far as it goes without its index-side word. Mostly nothing is asked for yet: asking for the first word is straight code.
     #[inline(always)]
     fn prepare_own_before(
         &mut self,
@@ -283,16 +282,11 @@ impl Next {
         ensures unplanned { self.new.planned ≡ false }
         ensures prepared { result ≡ true → IsPreparedBy (due - 1) x.now state.now self.new }
     {
-        if self.begin(due, levels, front, x, state, delays, log) && self.words.awaited < due {
-            if let Some(spelled) = self.spelled(state) {
-                self.prepare_spelled(spelled, x, state);
-                return true;
-            }
-        }
+        self.begin(due, levels, front, x, state, delays, log);
         self.prepare_before(due, levels, front, x, state, delays, log)
     }
 
-    // Asks for its first word, where none is asked for yet and it is one of its own. The result says whether it does.
+    // Asks for its first word, where none is asked for yet and it is one of its own.
     #[inline(always)]
     fn begin(
         &mut self,
@@ -303,7 +297,7 @@ impl Next {
         state: &State,
         delays: &Delays,
         log: &mut Log,
-    ) -> bool
+    )
         requires known { IsKnown delays.now levels (due - 1) front.now x.now state.now self.old }
         requires front { IsFront levels front.now }
         requires unplanned { self.old.planned ≡ false }
@@ -315,21 +309,19 @@ impl Next {
         delays.shape();
         let _ = (due, levels);
         if self.own.len != 0 || self.target.len != 0 {
-            return false;
+            return;
         }
         match self.given(x, state) {
             Given::Next {
                 word,
                 target: false,
-            } => {
-                self.ask_own(word, front, delays, log);
-                true
-            }
-            _ => false,
+            } => self.ask_own(word, front, delays, log),
+            _ => {}
         }
     }
 
-    // Prepares it as far as it goes without its index-side word, however far its words are asked for, and whatever they are.
+    // Prepares it as far as it goes without its index-side word, however far its words are asked for, and whatever they are. It stands once, and what it
+    // calls alone is inlined here.
     #[inline(never)]
     fn prepare_before(
         &mut self,
@@ -416,7 +408,6 @@ impl Next {
     }
 
     // The instruction with its format, where its words tell all of it and it is not EX. Its words are its own.
-    #[inline(always)]
     fn spelled(&self, state: &State) -> Option<Spelled>
         requires place { IsPlace self.now.place }
         requires words { IsEntry (words_alone self.now.own self.now.target) }
@@ -470,7 +461,6 @@ impl Next {
 
     // Prepares the entry, which is this instruction, as far as it goes without its index-side word. What follows knows the format of
     // a frequent instruction, so that it is told apart once.
-    #[inline(always)]
     fn prepare_spelled(&mut self, spelled: Spelled, x: &[u64; 16], state: &State)
         requires place { IsPlace self.old.place }
         requires format { spelled_as spelled.format spelled.first spelled.second

@@ -27,8 +27,8 @@ pub returns-in-Next-default-false-clause-further : goal.returns-in-Next-default-
 returns-in-Next-default-false-clause-further c =
     own-asks _ _ _ _ _ _ _ c.requires.unplanned c.requires.known (omega (arith, c.requires.soon)) _ refl _ _ _ _ (sym c.in-Next-default-false.ensures.value ∙ ap (λ t. Next c.in-Next-default-false.word t) c.in-Next-default-false.target-test) c.ask_own.ensures.next c.ask_own.ensures.log
 
-pub returns-in_default-clause-further : goal.returns-in_default-clause-further
-returns-in_default-clause-further c = further-nothing _ _ _ _
+pub returns-then-given-clause-further : goal.returns-then-given-clause-further
+returns-then-given-clause-further c = further-nothing _ _ _ _
 
-pub returns-in_default-2-clause-further : goal.returns-in_default-2-clause-further
-returns-in_default-2-clause-further c = further-nothing _ _ _ _
+pub returns-else-self-ne0-2-clause-further : goal.returns-else-self-ne0-2-clause-further
+returns-else-self-ne0-2-clause-further c = further-nothing _ _ _ _
