@@ -78,7 +78,7 @@ levels_of m = prepared_before m.now (entries_ahead m.levels m)
 -- that are accepted before that tick are made
 unfoldable pub banks_at_its_end : Overlap → LastAnswers
 banks_at_its_end m =
-    banks_at_end m.delays m.now (reads_to_end m.delays m.levels m.now m.taken m.state m.front) m.front.bus
+    banks_at_end m.delays m.now (reads_to_end m.delays m.levels m.now m.taken m.state m.front (oldest m)) m.front.bus
 
 -- the interrupt that is taken before the next entry
 abbrev pub interrupt_due : Overlap → Option ℕ

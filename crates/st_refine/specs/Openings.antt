@@ -87,8 +87,9 @@ banks_behind ds n o changes (suc j) =
     let s = state_after o changes j in
     let t = table_behind j o.table in
     let f = front_after ds n o changes j in
-    let c = (row ds n f (entry t s)).c in
-    banks_at_end ds c (reads_after ds n o changes j ++ reads_to_end ds n c t s f) o.front.bus
+    let e = entry t s in
+    let c = (row ds n f e).c in
+    banks_at_end ds c (reads_after ds n o changes j ++ reads_to_end ds n c t s f e) o.front.bus
 
 -- the opening of the next segment, where that one ends there and so many entries are dropped
 unfoldable pub opening_behind : List ℕ → ℕ → ℕ → Opening → List Outside → ℕ → Opening

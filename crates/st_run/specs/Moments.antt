@@ -114,7 +114,7 @@ entries_behind ds n k p = ahead ds n k None (guess (taken p) p.scene.machine) (f
 
 -- its reads, those of the entries behind it that are prepared before the tick, and of the one behind these
 abbrev pub reads_until : List ℕ → ℕ → ℕ → Standing → List Read
-reads_until ds n tick p = reads_to_end ds n tick (taken p) p.scene.machine p.front
+reads_until ds n tick p = reads_to_end ds n tick (taken p) p.scene.machine p.front (oldest p)
 
 -- the moment at which it is done: of the reads those are made that are accepted before
 unfoldable pub next_moment : List ℕ → ℕ → Standing → Moment

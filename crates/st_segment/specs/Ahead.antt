@@ -62,11 +62,10 @@ reads_before ds n t (a ∷ rest) =
 
 -- ---- the end of a segment
 
--- the reads that may be made by then, where it ends at a tick: those of the next entry of a state, and of those behind it
-abbrev pub reads_to_end : List ℕ → ℕ → ℕ → Option ℕ → Machine → Front → List Read
-reads_to_end ds n tick table s f =
-    asked ds n f (entry table s)
-    ++ reads_before ds n tick (ahead ds n (suc n) None (guess table s) (after ds n f (entry table s)))
+-- the reads that may be made by then, where it ends at a tick: those of the next entry, and of those behind the guess of it
+abbrev pub reads_to_end : List ℕ → ℕ → ℕ → Option ℕ → Machine → Front → Entry → List Read
+reads_to_end ds n tick table s f e =
+    asked ds n f e ++ reads_before ds n tick (ahead ds n (suc n) None (guess table s) (after ds n f e))
 
 -- the last answers of the banks, where it ends at a tick: those of the reads are made that are accepted before
 abbrev pub banks_at_end : List ℕ → ℕ → List Read → Bus → LastAnswers
