@@ -4,26 +4,17 @@ ghost use Rattle.std.specs.Prelude.{◌≡◌, ◌+◌, ◌-◌, ◌<◌, ◌≤
 use crate::blank;
 use st_ahead::{Event, Machine, Settled};
 use st_banks::Delays;
-use st_bits::WORDS;
 use st_state::State;
 use std::alloc::{AllocError, Global};
 use std::process::Abort;
 use std::test::Fail;
 
-// A multiplication, which takes 12 ticks, an addition to index word 1, and a wait; they start at word 32.
-const CARDS: [(u32, u64); 3] = [
-    (32, 0x000A_00F0_0000_0520),
-    (33, 0x0000_4330_0000_0970),
-    (40, 7),
-];
-
-// The state before them.
-fn opened(rt: &impl Abort, alloc: Global) -> Result<State, Fail> {
+// The state before a multiplication, which takes 12 ticks, an addition to index word 1, and a wait; they start at word 32.
+fn opened(alloc: Global) -> Result<State, Fail> {
     let mut state = blank::opened(alloc)?;
-    for (w, word) in &CARDS {
-        assert!(rt; *w < WORDS);
-        state.store(*w, *word);
-    }
+    state.store(32, 0x000A_00F0_0000_0520);
+    state.store(33, 0x0000_4330_0000_0970);
+    state.store(40, 7);
     Ok(state)
 }
 
@@ -94,7 +85,7 @@ fn a_machine_that_is_stopped_between_two_entries_drops_its_levels(
     rt: HostRuntime,
 ) -> Result<(), Fail> {
     let alloc = rt.alloc();
-    let state = opened(&rt, alloc)?;
+    let state = opened(alloc)?;
     let mut machine = begun(&rt, alloc, state)?;
     make_ticks(&rt, &mut machine, 10);
     make_tick(&rt, &mut machine);
