@@ -53,10 +53,11 @@ fn is_timed(controls: &Controls) -> bool
     controls.time
 }
 
-// Writes the line of an instruction that is done, where a trace is asked for.
+// Writes the line of an instruction that is done, where a trace is asked for. It is put together in `line`.
 #[tactic(auto, using(st_io::proofs::Progress::wrote_nothing))]
 fn write_trace<K: Sink>(
     out: &mut K,
+    line: &mut LineFromEnd,
     done: u64,
     address: u32,
     controls: &Controls,
@@ -67,32 +68,40 @@ fn write_trace<K: Sink>(
     if !is_traced(controls) {
         return Ok(());
     }
-    let mut line = LineFromEnd::new();
-    fill_trc(&mut line, done, address);
+    fill_trc(line, done, address);
     write_line(out, line.as_bytes())
 }
 
-// Writes the line of a row, where the timetable is asked for.
+// Writes the line of a row, where the timetable is asked for. It is put together in `line`.
 #[tactic(auto, using(st_io::proofs::Progress::wrote_nothing))]
-fn write_row<K: Sink>(out: &mut K, row: Row, controls: &Controls) -> Result<(), Failed>
+fn write_row<K: Sink>(
+    out: &mut K,
+    line: &mut LineFromEnd,
+    row: Row,
+    controls: &Controls,
+) -> Result<(), Failed>
     ensures { WritesLines (K.output out.old) (K.output out.new)
         (line_if controls.now.chart (row_line row.number row.address row.p row.r row.c)) result }
 {
     if !is_charted(controls) {
         return Ok(());
     }
-    let mut line = LineFromEnd::new();
-    fill_chart(&mut line, &row);
+    fill_chart(line, &row);
     write_line(out, line.as_bytes())
 }
 
-// Writes the lines of an entry that is done.
-fn write_done<K: Sink>(out: &mut K, row: Row, controls: &Controls) -> Result<(), Failed>
+// Writes the lines of an entry that is done, each put together in `line`.
+fn write_done<K: Sink>(
+    out: &mut K,
+    line: &mut LineFromEnd,
+    row: Row,
+    controls: &Controls,
+) -> Result<(), Failed>
     ensures { WritesLines (K.output out.old) (K.output out.new)
         (done_lines controls.now row.number row.address row.p row.r row.c) result }
 {
-    write_trace(out, row.number, row.address, controls)?;
-    write_row(out, row, controls)
+    write_trace(out, line, row.number, row.address, controls)?;
+    write_row(out, line, row, controls)
 }
 
 // Writes the line of an entry that is dropped, where the timetable is asked for.
@@ -283,10 +292,11 @@ fn moment_of(told: &Told) -> Moment
     }
 }
 
-// Writes the lines of what a run has just told.
+// Writes the lines of what a run has just told. Those of an entry that is done are put together in `line`.
 #[tactic(auto, using(st_io::proofs::Progress::wrote_nothing))]
 fn write_told<K: Sink, const N: usize>(
     out: &mut K,
+    line: &mut LineFromEnd,
     run: &Run<'_, N>,
     moment: Moment,
     what: What,
@@ -317,7 +327,7 @@ fn write_told<K: Sink, const N: usize>(
                 r,
                 c: moment.tick,
             };
-            write_done(out, row, controls)
+            write_done(out, line, row, controls)
         }
         What::Dropped { address, p } => write_dropped(out, address, p, controls),
         What::Printed => write_printed(out, run.printed()),
@@ -371,9 +381,11 @@ pub fn write_run<K: Sink, const N: usize>(
     ensures { WritesEvents (K.output out.old) (K.output out.new) (report controls.now run.old.rest)
         (last_moment moment.old run.old.rest) moment.new result }
 {
+    // One line for all, since a new one is cleared first.
+    let mut line = LineFromEnd::new();
     'telling: while let Some(told) = next_told(run, moment, controls) {
         *moment = moment_of(&told);
-        write_told(out, run, *moment, told.what, controls)?;
+        write_told(out, &mut line, run, *moment, told.what, controls)?;
     }
     Ok(())
 }
