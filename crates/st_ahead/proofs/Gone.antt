@@ -206,3 +206,23 @@ oldest-by ds n tick now (suc k) t s f v one some are soon is levels =
 pub oldest-late : (ds : List ℕ) (n tick now : ℕ) (t : Option ℕ) (s : Machine) (f : Front) (v : LookView) → 1 ≤ n → AreDelays 255 ds → tick ≤ now
     → IsLook ds n tick now t s f v → prepared_before now (ahead ds n n t s f) ≡ ahead ds n (count v) t s f → tick < (row ds n f (entry t s)).c
 oldest-late ds n tick now t s f v some are soon is levels = oldest-by ds n tick now (count v) t s f v refl some are soon is levels
+
+-- ---- no entry becomes a level at a tick
+
+pub look-rests : (ds : List ℕ) (n now : ℕ) (t : Option ℕ) (s : Machine) (f : Front) (v : LookView) → v.next.planned ≡ true → now < v.next.formed.p
+    → IsLook ds n now now t s f v → IsLook ds n now (now + 1) t s f v
+look-rests ds n now t s f v planned late is = record {
+  machine = is.machine;
+  indicator = is.indicator;
+  ahead = is.ahead;
+  prepared = All-weaker (λ (x : Level). x.p < now) (λ x. x.p < now + 1) (λ x h. omega (arith, h)) v.levels.ring is.prepared;
+  full = is.full;
+  not_done = is.not_done;
+  oldest = is.oldest;
+  tight = is.tight;
+  start = omega (arith, is.start);
+  early = omega (arith, is.early);
+  next = next-planned (is_open v) ds n now (now + 1) t s v planned is.next;
+  late = λ yes. omega (arith, late);
+  logged = is.logged;
+}

@@ -1,5 +1,5 @@
 //! What runs ahead goes on to the next tick.
-ghost use Rattle.std.specs.Prelude.{◌≡◌, ℕ, ◌+◌, ◌<◌, ◌≤◌, ◌^◌, Option};
+ghost use Rattle.std.specs.Prelude.{◌≡◌, ℕ, ◌+◌, ◌<◌, ◌≤◌, ◌^◌, true, Option};
 ghost use Rattle.st_rows.specs.declared.front.Front.{Front as FrontOf};
 
 use crate::look::Look;
@@ -13,6 +13,31 @@ impl<const N: usize> Look<N> {
     /// Goes on at the tick `now`, below 2^63, once the entry that is done at it, if there is one, is executed: entries that are prepared by now become
     /// levels.
     pub fn go_on(&mut self, now: u64, state: &State, delays: &Delays)
+        requires some { 1 ≤ N }
+        requires few { N ≤ 8 }
+        requires early { now < 2 ^ 63 }
+        requires going { Reaches delays.now N now state.now self.old }
+        ensures { (t : Option ℕ) (f : FrontOf) →
+            IsLook delays.now N now now t state.now f self.old →
+            IsLook delays.now N now (now + 1) t state.now f self.new }
+    {
+        if self.is_prepared_behind(now) {
+            return;
+        }
+        self.go_further(now, state, delays);
+    }
+
+    // Whether the next entry is planned, and prepared behind the tick `now`.
+    #[inline(always)]
+    fn is_prepared_behind(&self, now: u64) -> bool
+        ensures { result ≡ true → (self.now.next.planned ≡ true) × (now < self.now.next.formed.p) }
+    {
+        self.next.planned && now < self.next.formed.p
+    }
+
+    // The same, whatever is known of the next entry.
+    #[inline(never)]
+    fn go_further(&mut self, now: u64, state: &State, delays: &Delays)
         requires some { 1 ≤ N }
         requires few { N ≤ 8 }
         requires early { now < 2 ^ 63 }
