@@ -122,7 +122,7 @@ pub(crate) fn look_behind(
     banks
 }
 
-/// The same where it is asked for; else no entry is found, and the banks have no answers.
+/// The same where it is asked for, whatever was found before; else no entry is found, and the banks have no answers.
 pub(crate) fn look_if(
     looks: bool,
     state: &mut State,
@@ -139,7 +139,6 @@ pub(crate) fn look_if(
     requires levels { (1 ≤ levels) × (levels ≤ 8) }
     requires past { last.now.past ≡ last.now.front.past }
     requires counter { last.now.ic < 2 ^ 19 }
-    requires none { length found.old.items ≡ 0 }
     ensures state { state.new ≡ state.old }
     ensures found { looks ≡ true → found.new.items ≡ map seen_of (prepared_before last.now.tick
         (ahead delays.now levels levels None (guessing last.now.ic state.old) last.now.front)) }
@@ -152,6 +151,7 @@ pub(crate) fn look_if(
         All (λ t. t ≤ last.now.tick + 255) result.ticks }
     ensures few { length found.new.items ≤ 8 }
 {
+    found.clear();
     if !looks {
         return LastAnswers::new();
     }

@@ -183,9 +183,11 @@ fn row_number(state: &State) -> u32
 }
 
 // The next entry is executed, and its lines are written; its segment starts at the tick of the front, if it is the first one of that.
+// What it is stays in `p`, whatever was there.
 fn write_entry<K: Sink>(
     out: &mut K,
     state: &mut State,
+    p: &mut Prepared,
     last: &mut Last,
     delays: &Delays,
     levels: u8,
@@ -212,11 +214,10 @@ fn write_entry<K: Sink>(
     let taken = interrupt(state);
     let address = next_address(state);
     let n = row_number(state);
-    let mut p = Prepared::default();
     let before = last.tick;
     let start = last.front.c;
-    let row = count_on(state, taken, &mut p, last, delays, levels, log);
-    execute(state, taken, &p, last);
+    let row = count_on(state, taken, p, last, delays, levels, log);
+    execute(state, taken, p, last);
     sums.add_row(&row, before, start);
     write_row(out, n, address, &row, before, start)
 }
@@ -326,10 +327,11 @@ fn write_run<K: Sink>(
     let mut last = at_start(counter_of(state));
     let mut rest = signals;
     let mut log = Log::new();
+    let mut found = Aheads::new();
+    let mut p = Prepared::default();
     let mut k = 0;
     let mut left = budget;
     'entries: loop {
-        let mut found = Aheads::new();
         let still = is_still(state, last.missed, rest);
         let looks = is_end_near(left, still);
         let banks = look_if(looks, state, &last, delays, levels, &mut log, &mut found);
@@ -351,7 +353,9 @@ fn write_run<K: Sink>(
             between.waited,
             k,
         )?;
-        write_entry(out, state, &mut last, delays, levels, &mut log, sums)?;
+        write_entry(
+            out, state, &mut p, &mut last, delays, levels, &mut log, sums,
+        )?;
         left -= 1;
     }
 }
