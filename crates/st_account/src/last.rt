@@ -27,6 +27,8 @@ pub(crate) struct Last {
     pub missed: bool,
     /// The counter by that guess.
     pub ic: u32,
+    /// Whether interrupts were enabled before it.
+    pub enabled: bool,
 }
 
 // A list of eight entries as a front keeps it, the newest one first.
@@ -158,13 +160,14 @@ pub(crate) fn look_if(
     look_behind(state, last, delays, levels, log, found)
 }
 
-/// What is at hand before the first entry of a run, whose counter is given.
-pub(crate) fn at_start(ic: u32) -> Last
+/// What is at hand before the first entry of a run, whose counter is given, and whether interrupts are enabled.
+pub(crate) fn at_start(ic: u32, enabled: bool) -> Last
     ensures tick { result.tick ≡ 0 }
     ensures front { result.front ≡ opening (record { ticks = replicate BANKS 0 }) 0 }
     ensures past { result.past ≡ result.front.past }
     ensures missed { result.missed ≡ false }
     ensures counter { result.ic ≡ ic }
+    ensures enabled { result.enabled ≡ enabled }
     ensures tight { IsTight 255 result.front }
 {
     let banks = LastAnswers::new();
@@ -174,6 +177,7 @@ pub(crate) fn at_start(ic: u32) -> Last
         past: [Past::default(); 8],
         missed: false,
         ic,
+        enabled,
     }
 }
 

@@ -7,18 +7,19 @@ use Rattle.st_prep.specs.Plan.{sight, needs, plan}
 use Rattle.st_prep.specs.Reading.{words_read, own_words}
 use Rattle.st_prep.specs.declared.entries.Place.{Place}
 use Rattle.st_prep.specs.declared.entries.Prepared.{Prepared}
-use Rattle.st_rows.specs.declared.entry.Entry.{Entry}
 use Rattle.st_segment.specs.Entries.{run_of, instruction_words, own_count, entry}
+use Rattle.st_plain.specs.Looking.{side_at, executes_at}
 use Rattle.st_plain.specs.Straight.{shown, IsPlanned}
+use Rattle.st_plain.specs.declared.entries.Planned.{Planned}
 
 -- it is planned at this place, by all that it reads
-abbrev pub IsPlannedAt : Machine → List ℕ → Place → Prepared → Entry → Type 0
+abbrev pub IsPlannedAt : Machine → List ℕ → Place → Prepared → Planned → Type 0
 IsPlannedAt s x q p e =
     let r = reading_of s q in
     IsPlanned s x q (fetched s q) (run_of (take (own_words r (word s)) (words_read r (word s))))
     (run_of (drop (own_words r (word s)) (words_read r (word s)))) p e
 
-module _ (s : Machine) (table : Option ℕ) (q : Place) (x : List ℕ) (p : Prepared) (e : Entry) (at : q ≡ place_of s table)
+module _ (s : Machine) (table : Option ℕ) (q : Place) (x : List ℕ) (p : Prepared) (e : Planned) (at : q ≡ place_of s table)
     (words : x ≡ index_words s) (h : IsPlannedAt s x q p e) where
   there : IsPlannedAt s (index_words s) (place_of s table) p e
   there = subst (λ q. IsPlannedAt s (index_words s) q p e) at (subst (λ x. IsPlannedAt s x q p e) words h)
@@ -27,7 +28,15 @@ module _ (s : Machine) (table : Option ℕ) (q : Place) (x : List ℕ) (p : Prep
   unfolding plan sight place_of
   plan-planned = there.plan
 
-  pub entry-planned : e ≡ entry table s
+  pub side-planned : e.side ≡ side_at table s
+  unfolding side_at sight
+  side-planned = there.side
+
+  pub execute-planned : e.execute ≡ executes_at table s
+  unfolding executes_at
+  execute-planned = there.execute
+
+  pub entry-planned : e.entry ≡ entry table s
   unfolding entry instruction_words own_count shown sight place_of
   entry-planned =
       let q = place_of s table in

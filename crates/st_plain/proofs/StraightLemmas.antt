@@ -9,7 +9,7 @@ use Rattle.st_prep.specs.Reading.{Reading, Reads, Use, Finds, outcome, words_rea
 use Rattle.st_prep.specs.declared.entries.Place.{Place}
 use Rattle.st_prep.specs.declared.entries.Fetched.{Fetched}
 use Rattle.st_prep.specs.declared.entries.Prepared.{Prepared}
-use Rattle.st_rows.specs.declared.entry.Entry.{Entry}
+use Rattle.st_plain.specs.declared.entries.Planned.{Planned}
 use Rattle.st_rows.specs.declared.entry.Run.{Run}
 use Rattle.st_segment.specs.Entries.{run_of}
 use Rattle.st_plain.specs.Straight.{Leads, IsPlanned}
@@ -93,7 +93,7 @@ module _ (c : ℕ → ℕ) (r : Reading) (f : Fetched) (ws : List ℕ) (lead : L
   lead-target = ap (λ k. drop k (words_read r c)) all-own ∙ ap (drop (length ws)) all-words ∙ drop_all (length ws) ws (omega arith)
 
 -- an entry that is planned by its half-words, and the words that they come from, is planned by what is fetched
-module _ (s : Machine) (x : List ℕ) (q : Place) (first second : ℕ) (ws : List ℕ) (own target : Run) (p : Prepared) (e : Entry)
+module _ (s : Machine) (x : List ℕ) (q : Place) (first second : ℕ) (ws : List ℕ) (own target : Run) (p : Prepared) (e : Planned)
     (lead : (k : Use) → Leads (word s) (instruction_at false (word s 3) s.enabled q.address k) (k (allowed_found first second)) ws)
     (other : is_execute (instruction_of first second) ≡ false) (o : own ≡ run_of ws) (t : target ≡ run_of []) where
   here : Leads (word s) (reading_of s q) (Finds (plain (decoded first second))) ws

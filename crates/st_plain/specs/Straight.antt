@@ -2,7 +2,7 @@
 use Rattle.std.specs.Prelude.{ℕ, ◌+◌, ◌≡◌, Bool, true, false, ◌&&◌, is_none, List, [], ◌∷◌, ◌++◌, length}
 use Rattle.st_state.specs.Machine.{Machine}
 use Rattle.st_prep.specs.Plan.{seen, needs, prepared, side_of}
-use Rattle.st_prep.specs.Reading.{Reading, outcome, words_read, own_words}
+use Rattle.st_prep.specs.Reading.{Reading, outcome, words_read, own_words, is_execute}
 use Rattle.st_prep.specs.declared.entries.Place.{Place}
 use Rattle.st_prep.specs.declared.entries.Fetched.{Fetched}
 use Rattle.st_prep.specs.declared.entries.Needs.{Needs}
@@ -10,6 +10,7 @@ use Rattle.st_prep.specs.declared.entries.Prepared.{Prepared}
 use Rattle.st_segment.specs.Entries.{words_to_read, words_to_write, side_to_read}
 use Rattle.st_rows.specs.declared.entry.Run.{Run}
 use Rattle.st_rows.specs.declared.entry.Entry.{Entry}
+use Rattle.st_plain.specs.declared.entries.Planned.{Planned}
 
 -- ---- words
 
@@ -40,6 +41,8 @@ shown own target n p follows = record {
 }
 
 -- the entry at a place of a state is planned, by what is fetched there, by its runs of instruction words and by the index words
-pub record IsPlanned (s : Machine) (x : List ℕ) (q : Place) (f : Fetched) (own target : Run) (p : Prepared) (e : Entry) : Type 0 where
+pub record IsPlanned (s : Machine) (x : List ℕ) (q : Place) (f : Fetched) (own target : Run) (p : Prepared) (e : Planned) : Type 0 where
   pub plan : let v = seen q f x s in p ≡ prepared v (side_of s v)
-  pub entry : e ≡ shown own target (needs (seen q f x s)) p (is_none q.table && is_none f.fault)
+  pub entry : e.entry ≡ shown own target (needs (seen q f x s)) p (is_none q.table && is_none f.fault)
+  pub side : e.side ≡ (needs (seen q f x s)).index_read
+  pub execute : e.execute ≡ is_execute f.instr.instr

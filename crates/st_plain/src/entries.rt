@@ -8,12 +8,13 @@ ghost use Rattle.st_prep.specs.Fetch.{index_words as index_words_of, reading_of,
 ghost use Rattle.st_prep.specs.Plan.{needs as needs_of, plan as plan_of, prepared as prepared_of, seen, side_of};
 ghost use Rattle.st_prep.specs.Ranges.{HasFields, IsPlace, IsFetched, IsNeeds, IsPrepared};
 ghost use Rattle.st_prep.specs.Reading.{Use, words_read, own_words, half_of as half_by, with_second as with_second_of, with_first as with_first_of, instruction_at, is_execute as is_execute_of, plain, allowed_found};
+ghost use Rattle.st_plain.specs.Looking.{side_at, executes_at};
 ghost use Rattle.st_plain.specs.Straight.{Leads, if_more, shown, IsPlanned};
 ghost use Rattle.st_segment.specs.Entries.{run_of as run_by, above_registers as above_registers_of, words_to_read as words_to_read_of, words_to_write as words_to_write_of, side_to_read as side_to_read_of, entry as entry_of};
 
-use st_bits::part;
 use st_bits::register::FIRST_STORAGE_WORD;
-use st_format::{Decoded, Format, FullOp, decode_as, format_of, length_in_halves};
+use st_bits::{HalfOp, part};
+use st_format::{Decoded, Format, FullOp, Instr, decode_as, format_of, length_in_halves};
 use st_prep::{
     Fetched, Fetching, Needs, Place, Prepared, Words, fetch_on, index_words, is_execute_format,
     place_of, prepare_in, prepare_without_side, side_word,
@@ -296,27 +297,53 @@ fn words_at(h: u32, more: bool) -> Run
     }
 }
 
-// What the timetable sees of an entry.
+/// What is known of an entry that is planned, besides what it is.
+#[derive(Clone, Copy, Debug, Default, PartialEq, Eq)]
+pub struct Planned {
+    /// What the timetable sees of it.
+    pub entry: Entry,
+    /// Its index-side word, a register or a word that is read from storage.
+    pub side: Option<u32>,
+    /// Whether it is EX.
+    pub execute: bool,
+}
+
+// Whether an instruction is EX.
+#[inline(always)]
+#[tactic(auto, unfolding(st_prep::specs::Reading::is_execute))]
+fn is_execute(instr: &Instr) -> bool
+    ensures { result ≡ is_execute_of instr.now }
+{
+    matches!(*instr, Instr::Half { op: HalfOp::Ex, .. })
+}
+
+// What is known of an entry.
 #[inline(always)]
 #[tactic(auto, unfolding(crate::specs::Straight::shown))]
-fn show(own: Run, target: Run, needs: Needs, p: &Prepared, follows: bool) -> Entry
-    ensures { result ≡ shown own target needs p.now follows }
+fn show(own: Run, target: Run, needs: Needs, p: &Prepared, follows: bool, execute: bool) -> Planned
+    ensures entry { result.entry ≡ shown own target needs p.now follows }
+    ensures side { result.side ≡ needs.index_read }
+    ensures execute { result.execute ≡ execute }
 {
-    Entry {
-        own,
-        target,
-        side: side_to_read(needs.index_read),
-        reads: words_to_read(p.reads),
-        writes: words_to_write(p.writes),
-        cost: p.cost,
-        serial: p.serial,
-        follows,
+    Planned {
+        entry: Entry {
+            own,
+            target,
+            side: side_to_read(needs.index_read),
+            reads: words_to_read(p.reads),
+            writes: words_to_write(p.writes),
+            cost: p.cost,
+            serial: p.serial,
+            follows,
+        },
+        side: needs.index_read,
+        execute,
     }
 }
 
 // Plans the entry at `p.place`, an own instruction that is not EX and whose words may be fetched.
 #[inline(always)]
-fn plan_own(own: Decoded, words: Run, x: &[u64; 16], state: &State, p: &mut Prepared) -> Entry
+fn plan_own(own: Decoded, words: Run, x: &[u64; 16], state: &State, p: &mut Prepared) -> Planned
     requires place { IsPlace p.old.place }
     requires fields { HasFields own.instr }
     ensures planned { IsPlanned state.now x.now p.old.place (plain own) words (record { first = 0; len = 0 }) p.new result }
@@ -329,13 +356,9 @@ fn plan_own(own: Decoded, words: Run, x: &[u64; 16], state: &State, p: &mut Prep
     };
     let table = p.place.table;
     let needs = prepare_found(p, &fetched, x, state);
-    show(
-        words,
-        Run::default(),
-        needs,
-        p,
-        asks_for_following(table, None),
-    )
+    let follows = asks_for_following(table, None);
+    let execute = is_execute(&fetched.instr.instr);
+    show(words, Run::default(), needs, p, follows, execute)
 }
 
 // The same of half-words whose format is known.
@@ -347,7 +370,7 @@ fn plan_as(
     x: &[u64; 16],
     state: &State,
     p: &mut Prepared,
-) -> Entry
+) -> Planned
     requires place { IsPlace p.old.place }
     requires format { spelled_as format halves.0 halves.1 ≡ instruction_of halves.0 halves.1 }
     ensures planned { IsPlanned state.now x.now p.old.place (plain (decoded halves.0 halves.1)) words (record { first = 0; len = 0 })
@@ -366,7 +389,7 @@ fn plan_seldom(
     x: &[u64; 16],
     state: &State,
     p: &mut Prepared,
-) -> Entry
+) -> Planned
     requires place { IsPlace p.old.place }
     requires format { spelled_as format halves.0 halves.1 ≡ instruction_of halves.0 halves.1 }
     ensures planned { IsPlanned state.now x.now p.old.place (plain (decoded halves.0 halves.1)) words (record { first = 0; len = 0 })
@@ -385,7 +408,7 @@ fn plan_known(
     x: &[u64; 16],
     state: &State,
     p: &mut Prepared,
-) -> Entry
+) -> Planned
     requires place { IsPlace p.old.place }
     requires format { spelled_as format halves.0 halves.1 ≡ instruction_of halves.0 halves.1 }
     ensures planned { IsPlanned state.now x.now p.old.place (plain (decoded halves.0 halves.1)) words (record { first = 0; len = 0 })
@@ -405,7 +428,7 @@ fn plan_known(
 
 // Plans the entry at `p.place`, which may be EX, or of which a word may not be fetched.
 #[inline(never)]
-fn plan_other(x: &[u64; 16], state: &State, p: &mut Prepared) -> Entry
+fn plan_other(x: &[u64; 16], state: &State, p: &mut Prepared) -> Planned
     requires place { IsPlace p.old.place }
     requires words { x.now ≡ index_words_of state.now }
     ensures planned { let r = reading_of state.now p.old.place in
@@ -417,18 +440,14 @@ fn plan_other(x: &[u64; 16], state: &State, p: &mut Prepared) -> Entry
     let table = p.place.table;
     let found = find(&p.place, x, state);
     let needs = prepare_found(p, &found.fetched, x, state);
-    show(
-        found.own,
-        found.target,
-        needs,
-        p,
-        asks_for_following(table, found.fetched.fault),
-    )
+    let follows = asks_for_following(table, found.fetched.fault);
+    let execute = is_execute(&found.fetched.instr.instr);
+    show(found.own, found.target, needs, p, follows, execute)
 }
 
 // Plans the entry at `p.place`, of which these are the half-words.
 #[inline(always)]
-fn plan_spelled(spelled: Spelled, x: &[u64; 16], state: &State, p: &mut Prepared) -> Entry
+fn plan_spelled(spelled: Spelled, x: &[u64; 16], state: &State, p: &mut Prepared) -> Planned
     requires place { IsPlace p.old.place }
     requires words { x.now ≡ index_words_of state.now }
     requires spelled { (k : Use) → Leads (word state.now) (instruction_at false (word state.now 3) state.now.enabled
@@ -450,12 +469,14 @@ fn plan_spelled(spelled: Spelled, x: &[u64; 16], state: &State, p: &mut Prepared
 }
 
 /// Plans the next entry of a state, or the table instruction of an interrupt by the indicator in `table`, in place. The result is
-/// what the timetable sees of it.
-pub fn plan_entry(table: Option<u8>, state: &State, p: &mut Prepared) -> Entry
+/// what else is known of it.
+pub fn plan_entry(table: Option<u8>, state: &State, p: &mut Prepared) -> Planned
     requires indicator { IfSome table (λ i. i < 64) }
     ensures plan { p.new ≡ plan_of state.now table }
     ensures ranges { IsPrepared p.new }
-    ensures entry { result ≡ entry_of table state.now }
+    ensures entry { result.entry ≡ entry_of table state.now }
+    ensures side { result.side ≡ side_at table state.now }
+    ensures execute { result.execute ≡ executes_at table state.now }
 {
     p.place = place_of(state, table);
     let x = index_words(state);
