@@ -8,7 +8,9 @@ from .lines import Off, place
 # What the program `ledger` of crates/ writes: None as long as there is none, the kinds of its lines, or ALL of them.
 # All other lines are those of model/ledger.
 ALL = "all"
-WRITES = set("LEVELS DELAYS SEGMENT ROW CHARGE DROP END DONE TICKS SUM".split())
+WRITES = set("LEVELS DELAYS PRT IC EN WORD SEGMENT ROW MISSED ALONE SUPPRESSED WRITES INDEX CHARGE DROP INT END DONE TICKS SUM".split())
+# What is told of an entry by itself. Of one that is begun the program tells nothing.
+FACTS = set("ALONE SUPPRESSED LAID CODE USE WRITES INDEX".split())
 HOME = os.path.join(os.path.dirname(os.path.realpath(__file__)), "..", "..")
 MOST_LEVELS = 8
 OWN = 4             # the levels of the machine of `run`
@@ -95,8 +97,11 @@ def told(process, first=b""):
 
 def compared(lines, others, kinds):
     """Lines; those of some kinds have to be the lines of another program, one after another."""
+    begun = False
     for line in lines:
-        if kind_of(line) in kinds:
+        kind = kind_of(line)
+        begun = kind == "BEGUN" or begun and kind in FACTS
+        if kind in kinds and not begun:
             other = next(others, "nothing")
             if line != other:
                 raise Off("model/ledger says '%s' where the program says '%s'" % (line, other))
@@ -106,9 +111,11 @@ def compared(lines, others, kinds):
 
 
 def kind_of(line):
-    """The first word; of sums of waits two."""
+    """The first word; of sums of waits, and of words that changed, two."""
     words = line.split(" ")
-    return "SUM WAIT" if words[0] == "SUM" and len(words) == 4 else words[0]
+    if words[0] == "SUM" and len(words) == 4:
+        return "SUM WAIT"
+    return "WORD WAS" if words[0] == "WORD" and len(words) == 6 else words[0]
 
 
 def output(process):

@@ -17,7 +17,7 @@ use Rattle.st_account.specs.declared.lines.Why.{Why}
 use Rattle.st_account.specs.declared.lines.Why.TheVariants.{Run}
 use Rattle.st_account.specs.Lines.{start_line}
 use Rattle.st_account.specs.Standing.{IsBehind}
-use Rattle.st_account.specs.Text.{end_lines, why_by, why, segment_lines, segment_after, last_lines}
+use Rattle.st_account.specs.Text.{end_lines, marks_lines, state_lines, state_lines_at, words_behind, why_by, why, segment_lines, segment_after, last_lines}
 
 choice-lines : (b : Bool) (xs ys : List (List ℕ)) → (b ≡ true → xs ≡ ys) → (if b then xs else []) ≡ (if b then ys else [])
 choice-lines true xs ys same = same refl
@@ -59,43 +59,56 @@ module _ (m : Moment) (s : Machine) (l : Last) (found : List Ahead) (banks : Las
     pub after-is : (k : ℕ) (begins : Bool) → begins ≡ (nat_eq k 0 || ends) → (if begins then k + 1 else k) ≡ segment_after k m
     after-is k begins is_begins = ap (λ b. if b then k + 1 else k) (is_begins ∙ ap (λ b. nat_eq k 0 || b) e)
 
-    pub border-lines : (k n start : ℕ) (begins : Bool) (y : Why) → begins ≡ (nat_eq k 0 || ends) → n ≡ s.done + 1 → start ≡ (next_front m).c
+    pub border-lines : (b : Machine) (was : Bool) (ws : List (List ℕ)) → b.enabled ≡ was → ws ≡ words_behind m
+        → (k n start : ℕ) (begins : Bool) (y : Why) → begins ≡ (nat_eq k 0 || ends) → n ≡ s.done + 1 → start ≡ (next_front m).c
         → y ≡ (if nat_eq k 0 then Run else why_by taken l.missed)
-        → ((if ends then end_lines k l.tick n found else []) ++ (if begins then start_line (k + 1) start waited y ∷ [] else [])) ≡ segment_lines k m
+        → (((if ends then end_lines k l.tick n found else []) ++ state_lines ws k was s taken s.done)
+        ++ (if begins then start_line (k + 1) start waited y ∷ [] else [])) ≡ segment_lines k b m
     unfolding segment_lines why
-    border-lines k n start begins y is_begins is_n is_start is_why =
+    border-lines b was ws is_was is_printed k n start begins y is_begins is_n is_start is_why =
         let all = is_begins ∙ ap (λ b. nat_eq k 0 || b) e in
         let number : n ≡ m.scene.machine.done + 1 = is_n ∙ ap (λ d. d + 1) (same-done m s is.state) in
         let name : y ≡ (if nat_eq k 0 then Run else why_by (interrupt (next_state m)) m.missed) =
         is_why
         ∙ ap (λ o. if nat_eq k 0 then Run else why_by o l.missed) (is_taken ∙ ap interrupt (sym is.state))
         ∙ ap (λ b. if nat_eq k 0 then Run else why_by (interrupt (next_state m)) b) (sym is.missed) in
-        ap (λ b. (if b then end_lines k l.tick n found else []) ++ (if begins then start_line (k + 1) start waited y ∷ [] else [])) e
-        ∙ ap (λ xs. xs ++ (if begins then start_line (k + 1) start waited y ∷ [] else []))
+        let state : state_lines ws k was s taken s.done ≡ state_lines_at (words_behind m) k b (next_state m) =
+        ap (λ xs. state_lines xs k was s taken s.done) is_printed
+        ∙ ap (λ w. state_lines (words_behind m) k w s taken s.done) (sym is_was)
+        ∙ ap (λ o. state_lines (words_behind m) k b.enabled s o s.done) is_taken
+        ∙ ap (state_lines_at (words_behind m) k b) (sym is.state) in
+        ap (λ b. ((if b then end_lines k l.tick n found else []) ++ state_lines ws k was s taken s.done)
+        ++ (if begins then start_line (k + 1) start waited y ∷ [] else [])) e
+        ∙ ap (λ xs. (xs ++ state_lines ws k was s taken s.done) ++ (if begins then start_line (k + 1) start waited y ∷ [] else []))
         (choice-lines (ends_segment m) (end_lines k l.tick n found) (end_lines k m.tick (m.scene.machine.done + 1) (map seen_of m.dropped)) (λ yes.
         ap (λ xs. end_lines k l.tick n xs) (is.dropped yes)
         ∙ ap (λ t. end_lines k t n (map seen_of m.dropped)) (sym is.tick)
         ∙ ap (λ j. end_lines k m.tick j (map seen_of m.dropped)) number))
-        ∙ ap (λ b. (if ends_segment m then end_lines k m.tick (m.scene.machine.done + 1) (map seen_of m.dropped) else [])
-        ++ (if b then start_line (k + 1) start waited y ∷ [] else [])) all
-        ∙ ap (λ t. (if ends_segment m then end_lines k m.tick (m.scene.machine.done + 1) (map seen_of m.dropped) else [])
+        ∙ ap (λ xs. ((if ends_segment m then end_lines k m.tick (m.scene.machine.done + 1) (map seen_of m.dropped) else []) ++ xs)
+        ++ (if begins then start_line (k + 1) start waited y ∷ [] else [])) state
+        ∙ ap (λ q. ((if ends_segment m then end_lines k m.tick (m.scene.machine.done + 1) (map seen_of m.dropped) else []) ++ state_lines_at (words_behind m) k b (next_state m))
+        ++ (if q then start_line (k + 1) start waited y ∷ [] else [])) all
+        ∙ ap (λ t. ((if ends_segment m then end_lines k m.tick (m.scene.machine.done + 1) (map seen_of m.dropped) else []) ++ state_lines_at (words_behind m) k b (next_state m))
         ++ (if nat_eq k 0 || ends_segment m then start_line (k + 1) t waited y ∷ [] else [])) is_start
-        ∙ ap (λ w. (if ends_segment m then end_lines k m.tick (m.scene.machine.done + 1) (map seen_of m.dropped) else [])
+        ∙ ap (λ w. ((if ends_segment m then end_lines k m.tick (m.scene.machine.done + 1) (map seen_of m.dropped) else []) ++ state_lines_at (words_behind m) k b (next_state m))
         ++ (if nat_eq k 0 || ends_segment m then start_line (k + 1) (next_front m).c w y ∷ [] else [])) is.waited
-        ∙ ap (λ z. (if ends_segment m then end_lines k m.tick (m.scene.machine.done + 1) (map seen_of m.dropped) else [])
+        ∙ ap (λ z. ((if ends_segment m then end_lines k m.tick (m.scene.machine.done + 1) (map seen_of m.dropped) else []) ++ state_lines_at (words_behind m) k b (next_state m))
         ++ (if nat_eq k 0 || ends_segment m then start_line (k + 1) (next_front m).c (has_waited m) z ∷ [] else [])) name
 
-pub last-is : (m : Moment) (s : Machine) (k tick n : ℕ) (found : List Ahead) → m.tick ≡ tick → next_state m ≡ s
-    → found ≡ map seen_of m.dropped → n ≡ s.done + 1
-    → (end_lines k tick n found ++ run_end_line (rests s) ∷ done_line s.done ∷ ticks_line tick ∷ []) ≡ last_lines k m
+pub last-is : (b : Machine) (was : Bool) → b.enabled ≡ was → (m : Moment) (ws : List (List ℕ)) → ws ≡ words_behind m → (s : Machine) (k tick n : ℕ) (found : List Ahead) → m.tick ≡ tick
+    → next_state m ≡ s → found ≡ map seen_of m.dropped → n ≡ s.done + 1
+    → ((end_lines k tick n found ++ marks_lines ws k was s) ++ run_end_line (rests s) ∷ done_line s.done ∷ ticks_line tick ∷ []) ≡ last_lines k b m
 unfolding last_lines
-last-is m s k tick n found is_tick state seen is_n =
+last-is b was is_was m ws is_printed s k tick n found is_tick state seen is_n =
     let number : n ≡ m.scene.machine.done + 1 = is_n ∙ ap (λ d. d + 1) (same-done m s state) in
     let rest : Machine → ℕ → List (List ℕ) = λ t i. run_end_line (rests t) ∷ done_line t.done ∷ ticks_line i ∷ [] in
-    ap (λ xs. end_lines k tick n xs ++ rest s tick) seen
-    ∙ ap (λ j. end_lines k tick j (map seen_of m.dropped) ++ rest s tick) number
-    ∙ ap (λ t. end_lines k tick (m.scene.machine.done + 1) (map seen_of m.dropped) ++ rest t tick) (sym state)
-    ∙ ap (λ i. end_lines k i (m.scene.machine.done + 1) (map seen_of m.dropped) ++ rest (next_state m) i) (sym is_tick)
+    ap (λ xs. (end_lines k tick n found ++ marks_lines xs k was s) ++ rest s tick) is_printed
+    ∙ ap (λ xs. (end_lines k tick n xs ++ marks_lines (words_behind m) k was s) ++ rest s tick) seen
+    ∙ ap (λ j. (end_lines k tick j (map seen_of m.dropped) ++ marks_lines (words_behind m) k was s) ++ rest s tick) number
+    ∙ ap (λ w. (end_lines k tick (m.scene.machine.done + 1) (map seen_of m.dropped) ++ marks_lines (words_behind m) k w s) ++ rest s tick) (sym is_was)
+    ∙ ap (λ t. (end_lines k tick (m.scene.machine.done + 1) (map seen_of m.dropped) ++ marks_lines (words_behind m) k b.enabled t) ++ rest t tick) (sym state)
+    ∙ ap (λ i. (end_lines k i (m.scene.machine.done + 1) (map seen_of m.dropped) ++ marks_lines (words_behind m) k b.enabled (next_state m))
+    ++ rest (next_state m) i) (sym is_tick)
 
 pub totals-is : (s : Machine) (resting : Bool) (done tick : ℕ) → resting ≡ rests s → done ≡ s.done
     → (run_end_line resting ∷ done_line done ∷ ticks_line tick ∷ []) ≡ (run_end_line (rests s) ∷ done_line s.done ∷ ticks_line tick ∷ [])

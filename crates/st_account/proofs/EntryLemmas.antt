@@ -1,8 +1,9 @@
 -- An entry that is done, and its lines.
-use Rattle.std.specs.Prelude.{Result}
+use Rattle.std.specs.Prelude.{Bool, Result}
 use Rattle.std.proofs.Common.{◌≡◌, ℕ, ◌+◌, ◌<◌, ◌≤◌, ◌^◌, List, [], Option, sym, ◌∙◌, ap, subst}
 use Rattle.st_state.specs.Machine.{Machine}
 use Rattle.st_prep.specs.Plan.{plan}
+use Rattle.st_prep.specs.declared.entries.Prepared.{Prepared}
 use Rattle.st_exec.specs.Completion.{executed, guess, is_missed}
 use Rattle.st_exec.specs.Step.{interrupt, step, address}
 use Rattle.st_io.specs.Output.{OutputState}
@@ -20,12 +21,12 @@ use Rattle.st_ledger.specs.declared.charges.Stage.{Stage}
 use Rattle.st_ledger.specs.declared.totals.Totals.{Totals}
 use Rattle.st_ledger.specs.Charges.{parts, charged, ticks_for, all_ticks}
 use Rattle.st_ledger.specs.Ledger.{charges_at}
-use Rattle.st_ledger.specs.Lines.{row_lines}
 use Rattle.st_ledger.specs.Totals.{AreWithin}
 use Rattle.st_ledger.proofs.Rows.{row-sum}
+use Rattle.st_plain.specs.Looking.{side_at, executes_at}
 use Rattle.st_account.specs.declared.last.Last.{Last}
 use Rattle.st_account.specs.Standing.{guessing, IsLast, IsStanding}
-use Rattle.st_account.specs.Text.{entry_lines}
+use Rattle.st_account.specs.Text.{done_lines, entry_lines}
 use Rattle.st_account.proofs.LastLemmas.{next-last}
 
 pub entry-step : (s u : Machine) (taken : Option ℕ) → taken ≡ interrupt s → u ≡ executed taken s → u ≡ step s
@@ -42,17 +43,31 @@ row-is ds n p s l taken r is is_taken is_row =
     ∙ ap (λ f. row ds n f (entry (interrupt p.scene.machine) p.scene.machine)) (sym is.front)
 
 pub entry-written : (before after : OutputState) (ds : List ℕ) (n : ℕ) (p : Standing) (s : Machine) (l : Last) (taken : Option ℕ) (a : ℕ) (r : Row) (i : ℕ)
-    (answer : Result (Unit {0}) Failed) → IsStanding p s l → taken ≡ interrupt s → a ≡ address s → r ≡ row ds n l.front (entry taken s) → i ≡ s.done + 1
-    → WritesLines before after (row_lines i a r l.tick l.front.c) answer → WritesLines before after (entry_lines ds n p) answer
+    (missed : Bool) (q : Prepared) (side : Option ℕ) (execute : Bool) (answer : Result (Unit {0}) Failed) → IsStanding p s l → taken ≡ interrupt s → a ≡ address s
+    → r ≡ row ds n l.front (entry taken s) → i ≡ s.done + 1 → missed ≡ is_missed (plan s taken) s → q ≡ plan s taken
+    → side ≡ side_at taken s → execute ≡ executes_at taken s
+    → WritesLines before after (done_lines i a r missed q side execute l.tick l.front.c) answer → WritesLines before after (entry_lines ds n p) answer
 unfolding entry_lines
-entry-written before after ds n p s l taken a r i answer is is_taken is_address is_row number h =
-    let same : row_lines i a r l.tick l.front.c
-    ≡ row_lines (p.scene.machine.done + 1) (address p.scene.machine) (next_row ds n p) p.tick p.front.c =
-    ap (λ x. row_lines i a x l.tick l.front.c) (row-is ds n p s l taken r is is_taken is_row)
-    ∙ ap (λ x. row_lines x a (next_row ds n p) l.tick l.front.c) (number ∙ ap (λ (m : Machine). m.done + 1) (sym is.machine))
-    ∙ ap (λ x. row_lines (p.scene.machine.done + 1) x (next_row ds n p) l.tick l.front.c) (is_address ∙ ap address (sym is.machine))
-    ∙ ap (λ x. row_lines (p.scene.machine.done + 1) (address p.scene.machine) (next_row ds n p) x l.front.c) (sym is.tick)
-    ∙ ap (λ f. row_lines (p.scene.machine.done + 1) (address p.scene.machine) (next_row ds n p) p.tick f.c) (sym is.front) in
+entry-written before after ds n p s l taken a r i missed q side execute answer is is_taken is_address is_row number guessed planned is_side is_execute h =
+    let m = p.scene.machine in
+    let e = plan m (interrupt m) in
+    let w = side_at (interrupt m) m in
+    let x = executes_at (interrupt m) m in
+    let same : done_lines i a r missed q side execute l.tick l.front.c
+    ≡ done_lines (m.done + 1) (address m) (next_row ds n p) (is_missed e m) e w x p.tick p.front.c =
+    ap (λ y. done_lines i a y missed q side execute l.tick l.front.c) (row-is ds n p s l taken r is is_taken is_row)
+    ∙ ap (λ y. done_lines y a (next_row ds n p) missed q side execute l.tick l.front.c) (number ∙ ap (λ (m : Machine). m.done + 1) (sym is.machine))
+    ∙ ap (λ y. done_lines (m.done + 1) y (next_row ds n p) missed q side execute l.tick l.front.c) (is_address ∙ ap address (sym is.machine))
+    ∙ ap (λ b. done_lines (m.done + 1) (address m) (next_row ds n p) b q side execute l.tick l.front.c)
+    (guessed ∙ ap (λ t. is_missed (plan s t) s) is_taken ∙ ap (λ u. is_missed (plan u (interrupt u)) u) (sym is.machine))
+    ∙ ap (λ y. done_lines (m.done + 1) (address m) (next_row ds n p) (is_missed e m) y side execute l.tick l.front.c)
+    (planned ∙ ap (plan s) is_taken ∙ ap (λ u. plan u (interrupt u)) (sym is.machine))
+    ∙ ap (λ y. done_lines (m.done + 1) (address m) (next_row ds n p) (is_missed e m) e y execute l.tick l.front.c)
+    (is_side ∙ ap (λ t. side_at t s) is_taken ∙ ap (λ u. side_at (interrupt u) u) (sym is.machine))
+    ∙ ap (λ y. done_lines (m.done + 1) (address m) (next_row ds n p) (is_missed e m) e w y l.tick l.front.c)
+    (is_execute ∙ ap (λ t. executes_at t s) is_taken ∙ ap (λ u. executes_at (interrupt u) u) (sym is.machine))
+    ∙ ap (λ y. done_lines (m.done + 1) (address m) (next_row ds n p) (is_missed e m) e w x y l.front.c) (sym is.tick)
+    ∙ ap (λ f. done_lines (m.done + 1) (address m) (next_row ds n p) (is_missed e m) e w x p.tick f.c) (sym is.front) in
     subst (λ ls. WritesLines before after ls answer) same h
 
 pub entry-sums : (ds : List ℕ) (n : ℕ) (p : Standing) (s : Machine) (l : Last) (taken : Option ℕ) (r : Row) (stage : Stage) (old new : ℕ)
@@ -79,7 +94,7 @@ pub entry-last : (ds : List ℕ) → AreDelays 255 ds → (n : ℕ) (p : Standin
     → taken ≡ interrupt s → IsEntry (entry taken s) → u ≡ executed taken s → guessing j.ic u ≡ guess taken s → j.ic < 2 ^ 19
     → r ≡ row ds n l.front (entry taken s) → k.tick ≡ r.c → k.front ≡ after ds n l.front (entry taken s)
     → log ≡ noted ds (asked ds n l.front (entry taken s)) l.front.bus [] → k.past ≡ k.front.past
-    → j ≡ record k { missed = is_missed (plan s taken) s; ic = j.ic } → IsLast ds n (next_moment ds n p) j log
+    → j ≡ record k { missed = is_missed (plan s taken) s; ic = j.ic; enabled = s.enabled } → IsLast ds n (next_moment ds n p) j log
 entry-last ds are n p s u l k j log taken r is tight is_taken fits made guess_is counter is_row tick front reads past rest =
     let t = interrupt s in
     next-last ds are n p s u l j log is tight (subst (λ o. IsEntry (entry o s)) is_taken fits) (entry-step s u taken is_taken made)

@@ -9,3 +9,5 @@ pub mod LoopLemmas
 pub mod TurnLemmas
 pub mod LedgerLemmas
 pub mod Stages
+pub mod FactLemmas
+pub mod PrintLemmas

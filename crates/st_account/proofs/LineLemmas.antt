@@ -12,7 +12,9 @@ use Rattle.st_io.proofs.Progress.{lines_then, lines_cut, wrote_nothing}
 use Rattle.st_plain.specs.declared.looking.Ahead.{Ahead}
 use Rattle.st_account.specs.Lines.{numbers, delays_line, delays_by, drop_line, end_line}
 use Rattle.st_account.specs.Standing.{without}
-use Rattle.st_account.specs.Text.{drop_lines, end_lines}
+use Rattle.st_exch.specs.Printer.{printed}
+use Rattle.st_report.specs.Line.{prt_line}
+use Rattle.st_account.specs.Text.{facts_lines, drop_lines, end_lines, prints_lines}
 
 pub no_lines : (s : OutputState) (o : Unit {0}) → WritesLines s s [] (Ok o)
 no_lines s o = record { ok = wrote_nothing s; err = tt }
@@ -20,22 +22,22 @@ no_lines s o = record { ok = wrote_nothing s; err = tt }
 -- ---- entries that are dropped
 
 drops-first : (n : ℕ) (found xs : List Ahead) (x : Ahead) → found ≡ x ∷ xs
-    → drop_lines n found ≡ (drop_line n x.address x.row ∷ []) ++ drop_lines (n + 1) xs
+    → drop_lines n found ≡ (drop_line n x.plan.place.address x.row ∷ facts_lines x.plan x.side x.execute) ++ drop_lines (n + 1) xs
 unfolding drop_lines
 drops-first n found xs x is = rw is refl
 
-pub drops_cut : (s u : OutputState) (n : ℕ) (found xs : List Ahead) (x : Ahead) (line : List ℕ) (e : Failed) (r : Result (Unit {0}) Failed) → IsErr r
-    → found ≡ x ∷ xs → line ≡ drop_line n x.address x.row → WritesLines s u (line ∷ []) (Err e) → WritesLines s u (drop_lines n found) r
-drops_cut s u n found xs x line e r f is same h =
+pub drops_cut : (s u : OutputState) (n : ℕ) (found xs : List Ahead) (x : Ahead) (e : Failed) (r : Result (Unit {0}) Failed) → IsErr r
+    → found ≡ x ∷ xs → WritesLines s u (drop_line n x.plan.place.address x.row ∷ facts_lines x.plan x.side x.execute) (Err e) → WritesLines s u (drop_lines n found) r
+drops_cut s u n found xs x e r f is h =
     subst (λ ls. WritesLines s u ls r) (sym (drops-first n found xs x is))
-    (lines_cut s u (drop_line n x.address x.row ∷ []) (drop_lines (n + 1) xs) e r f (subst (λ l. WritesLines s u (l ∷ []) (Err e)) same h))
+    (lines_cut s u (drop_line n x.plan.place.address x.row ∷ facts_lines x.plan x.side x.execute) (drop_lines (n + 1) xs) e r f h)
 
-pub drops_then : (s v u : OutputState) (n : ℕ) (found xs : List Ahead) (x : Ahead) (line : List ℕ) (o : Unit {0}) (r : Result (Unit {0}) Failed)
-    → found ≡ x ∷ xs → line ≡ drop_line n x.address x.row → WritesLines s v (line ∷ []) (Ok o)
+pub drops_then : (s v u : OutputState) (n : ℕ) (found xs : List Ahead) (x : Ahead) (o : Unit {0}) (r : Result (Unit {0}) Failed)
+    → found ≡ x ∷ xs → WritesLines s v (drop_line n x.plan.place.address x.row ∷ facts_lines x.plan x.side x.execute) (Ok o)
     → WritesLines v u (drop_lines (n + 1) xs) r → WritesLines s u (drop_lines n found) r
-drops_then s v u n found xs x line o r is same h k =
+drops_then s v u n found xs x o r is h k =
     subst (λ ls. WritesLines s u ls r) (sym (drops-first n found xs x is))
-    (lines_then s v u (drop_line n x.address x.row ∷ []) (drop_lines (n + 1) xs) o r (subst (λ l. WritesLines s v (l ∷ []) (Ok o)) same h) k)
+    (lines_then s v u (drop_line n x.plan.place.address x.row ∷ facts_lines x.plan x.side x.execute) (drop_lines (n + 1) xs) o r h k)
 
 pub drops_none : (s : OutputState) (n : ℕ) (found : List Ahead) (o : Unit {0}) → found ≡ [] → WritesLines s s (drop_lines n found) (Ok o)
 unfolding drop_lines
@@ -171,3 +173,46 @@ not_both-by (Err x) f g = absurd (cc)
 -- no answer is both
 pub not_both : {A : Type 0} (r : Result (Unit {0}) Failed) → IsErr r → IsOk r → A
 not_both r f g = not_both-by r f g
+
+-- a line, and what stands in place of those behind it
+pub line_then : (s v u : OutputState) (x : List ℕ) (xs ys : List (List ℕ)) (o : Unit {0}) (r : Result (Unit {0}) Failed) → xs ≡ ys
+    → WritesLines s v (x ∷ []) (Ok o) → WritesLines v u xs r → WritesLines s u (x ∷ ys) r
+line_then s v u x xs ys o r same h k = lines_then s v u (x ∷ []) ys o r h (same_lines v u xs ys r same k)
+
+-- the same of lines
+pub both_then : (s v u : OutputState) (ws xs ys zs : List (List ℕ)) (o : Unit {0}) (r : Result (Unit {0}) Failed) → ws ≡ xs → ys ≡ zs
+    → WritesLines s v ws (Ok o) → WritesLines v u ys r → WritesLines s u (xs ++ zs) r
+both_then s v u ws xs ys zs o r one two h k = lines_then s v u xs zs o r (same_lines s v ws xs (Ok o) one h) (same_lines v u ys zs r two k)
+
+pub both_cut : (s u : OutputState) (ws xs zs : List (List ℕ)) (e : Failed) (r : Result (Unit {0}) Failed) → IsErr r → ws ≡ xs
+    → WritesLines s u ws (Err e) → WritesLines s u (xs ++ zs) r
+both_cut s u ws xs zs e r f one h = lines_cut s u xs zs e r f (same_lines s u ws xs (Err e) one h)
+
+-- three parts
+pub first_cut : (s u : OutputState) (xs ys zs : List (List ℕ)) (e : Failed) (r : Result (Unit {0}) Failed) → IsErr r → WritesLines s u xs (Err e)
+    → WritesLines s u ((xs ++ ys) ++ zs) r
+first_cut s u xs ys zs e r f h = lines_cut s u (xs ++ ys) zs e r f (lines_cut s u xs ys e (Err e) refl h)
+
+pub second_cut : (s v u : OutputState) (xs ys zs : List (List ℕ)) (o : Unit {0}) (e : Failed) (r : Result (Unit {0}) Failed) → IsErr r
+    → WritesLines s v xs (Ok o) → WritesLines v u ys (Err e) → WritesLines s u ((xs ++ ys) ++ zs) r
+second_cut s v u xs ys zs o e r f h k = lines_cut s u (xs ++ ys) zs e r f (lines_then s v u xs ys o (Err e) h k)
+
+-- ---- what is printed
+
+prints-first : (all more : List (List ℕ)) (x : List ℕ) → all ≡ x ∷ more → prints_lines all ≡ (prt_line (printed x) ∷ []) ++ prints_lines more
+unfolding prints_lines
+prints-first all more x is = rw is refl
+
+pub prints_cut : (s u : OutputState) (all more : List (List ℕ)) (x : List ℕ) (e : Failed) (r : Result (Unit {0}) Failed) → IsErr r → all ≡ x ∷ more
+    → WritesLines s u (prt_line (printed x) ∷ []) (Err e) → WritesLines s u (prints_lines all) r
+prints_cut s u all more x e r f is h =
+    subst (λ ls. WritesLines s u ls r) (sym (prints-first all more x is)) (lines_cut s u (prt_line (printed x) ∷ []) (prints_lines more) e r f h)
+
+pub prints_then : (s v u : OutputState) (all more : List (List ℕ)) (x : List ℕ) (o : Unit {0}) (r : Result (Unit {0}) Failed) → all ≡ x ∷ more
+    → WritesLines s v (prt_line (printed x) ∷ []) (Ok o) → WritesLines v u (prints_lines more) r → WritesLines s u (prints_lines all) r
+prints_then s v u all more x o r is h k =
+    subst (λ ls. WritesLines s u ls r) (sym (prints-first all more x is)) (lines_then s v u (prt_line (printed x) ∷ []) (prints_lines more) o r h k)
+
+pub prints_none : (s : OutputState) (all : List (List ℕ)) (o : Unit {0}) → all ≡ [] → WritesLines s s (prints_lines all) (Ok o)
+unfolding prints_lines
+prints_none s all o is = rw is (no_lines s o)

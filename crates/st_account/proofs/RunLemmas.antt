@@ -52,22 +52,22 @@ rest-none s (x ∷ xs) cards awake = rw awake refl
 module _ (ds : List ℕ) (n : ℕ) where
   -- ---- the lines
 
-  pub lines-end : (left k : ℕ) (m : Moment) → (left ≡ 0) ⊎ (rests (next_state m) ≡ true) → lines_from ds n left k m ≡ last_lines k m
+  pub lines-end : (left k : ℕ) (b : Machine) (m : Moment) → (left ≡ 0) ⊎ (rests (next_state m) ≡ true) → lines_from ds n left k b m ≡ last_lines k b m
   unfolding lines_from
-  lines-end zero k m end = refl
-  lines-end (suc left) k m (inl none) = let no : ⊥ = omega arith in absurd no
-  lines-end (suc left) k m (inr resting) = rw resting refl
+  lines-end zero k b m end = refl
+  lines-end (suc left) k b m (inl none) = let no : ⊥ = omega arith in absurd no
+  lines-end (suc left) k b m (inr resting) = rw resting refl
 
-  pub lines-on : (left k : ℕ) (m : Moment) → left ≢ 0 → rests (next_state m) ≡ false
-      → lines_from ds n left k m
-      ≡ (segment_lines k m ++ entry_lines ds n (standing m))
-      ++ lines_from ds n (left - 1) (segment_after k m) (next_moment ds n (standing m))
+  pub lines-on : (left k : ℕ) (b : Machine) (m : Moment) → left ≢ 0 → rests (next_state m) ≡ false
+      → lines_from ds n left k b m
+      ≡ (segment_lines k b m ++ entry_lines ds n (standing m))
+      ++ lines_from ds n (left - 1) (segment_after k m) (next_state m) (next_moment ds n (standing m))
   unfolding lines_from
-  lines-on zero k m some going = absurd (some refl)
-  lines-on (suc left) k m some going =
+  lines-on zero k b m some going = absurd (some refl)
+  lines-on (suc left) k b m some going =
       let one : left ≡ suc left - 1 = omega arith in
       rw going
-      (ap (λ j. (segment_lines k m ++ entry_lines ds n (standing m)) ++ lines_from ds n j (segment_after k m) (next_moment ds n (standing m))) one)
+      (ap (λ j. (segment_lines k b m ++ entry_lines ds n (standing m)) ++ lines_from ds n j (segment_after k m) (next_state m) (next_moment ds n (standing m))) one)
 
   -- ---- the charges
 

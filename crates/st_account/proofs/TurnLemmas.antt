@@ -32,9 +32,9 @@ use Rattle.st_ledger.specs.Totals.{sum_at, AreWithin}
 use Rattle.st_plain.specs.Looking.{seen_of}
 use Rattle.st_plain.specs.declared.looking.Ahead.{Ahead as Seen}
 use Rattle.st_account.specs.declared.last.Last.{Last}
-use Rattle.st_account.specs.Settling.{at_hand}
+use Rattle.st_account.specs.Settling.{at_hand, words_printed}
 use Rattle.st_account.specs.Standing.{guessing, still_by, IsLast, IsStanding, IsBehind}
-use Rattle.st_account.specs.Text.{segment_lines, segment_after, entry_lines, last_lines, lines_from}
+use Rattle.st_account.specs.Text.{words_behind, segment_lines, segment_after, entry_lines, last_lines, lines_from}
 use Rattle.st_account.proofs.LastLemmas.{start-last}
 use Rattle.st_account.proofs.RunLemmas.{next-scene, next-machine, same-done, seen-dropped, behind-is, end-looks, rest-looks, next-stepped, next-at, early-tick}
 use Rattle.st_account.proofs.LoopLemmas.{run-ends, border-fails, entry-fails, turn-made, sums-none, number-next, sums-next, sums-end}
@@ -43,12 +43,14 @@ use Rattle.st_account.proofs.LoopLemmas.{run-ends, border-fails, entry-fails, tu
 pub record IsRunning (s t : OutputState) (all : List (List ℕ)) (ds : List ℕ) (n : ℕ) (total : Stage → ℕ) (state : Machine) (rest : List Signal)
     (cards : List (List ℕ)) (last : Last) (log : List Made) (k left : ℕ) (sums : Totals) : Type 0 where
   pub m : Moment
+  pub b : Machine
+  pub was : b.enabled ≡ last.enabled
   pub scene : m.scene ≡ at_hand state rest cards
   pub hand : IsLast ds n m last log
   pub bounds : IsMoment 255 n m
   pub at : m.front.c ≡ m.tick
   pub time : HasTime (64 * (255 + 4)) m.tick m.scene.machine
-  pub so_far : LinesSoFar s t all (lines_from ds n left k m)
+  pub so_far : LinesSoFar s t all (lines_from ds n left k b m)
   pub number : k ≤ m.scene.machine.done
   pub few : m.scene.machine.done + left ≤ MOST_INSTRUCTIONS
   pub within : AreWithin last.tick sums
@@ -64,19 +66,21 @@ next-done ds n m = step-done (next_state m) ∙ ap (λ d. d + 1) (settled-done m
 pub run-starts : (s : OutputState) (ds : List ℕ) (n budget : ℕ) (state : Machine) (signals : List Signal) (cards : List (List ℕ)) (last : Last) (log : List Made)
     (sums : Totals) → AreDelays 255 ds → n ≤ 8 → IsMachine state → All IsCard cards → state.done ≡ 0 → budget ≤ MOST_INSTRUCTIONS → AreWithin 0 sums
     → AllPass is_signal signals → last.tick ≡ 0 → last.front ≡ opening unread 0 → last.past ≡ last.front.past → last.missed ≡ false
-    → last.ic ≡ state.ic → last.ic < 2 ^ 19 → log ≡ [] → IsTight 255 last.front
-    → IsRunning s s (lines_from ds n budget 0 (start (at_hand state signals cards))) ds n
+    → last.ic ≡ state.ic → last.enabled ≡ state.enabled → last.ic < 2 ^ 19 → log ≡ [] → IsTight 255 last.front
+    → IsRunning s s (lines_from ds n budget 0 state (start (at_hand state signals cards))) ds n
     (λ x. ticks_for x (all_charges ds n (entries_from ds n budget (start (at_hand state signals cards))))) state signals cards last log 0 budget sums
-run-starts s ds n budget state signals cards last log sums are few machine each fresh limit none passes tick front past missed ic counter empty tight =
+run-starts s ds n budget state signals cards last log sums are few machine each fresh limit none passes tick front past missed ic enabled counter empty tight =
     let c = at_hand state signals cards in
     record {
       m = start c;
+      b = state;
+      was = sym enabled;
       scene = refl;
       hand = start-last ds n c last log tick front past missed ic counter empty tight;
       bounds = start-is 255 n ds are few c (record { machine = machine; cards = each });
       at = refl;
       time = omega arith;
-      so_far = lines_none s (lines_from ds n budget 0 (start c));
+      so_far = lines_none s (lines_from ds n budget 0 state (start c));
       number = omega arith;
       few = omega (arith, fresh, limit);
       within = subst (λ t. AreWithin t sums) (sym tick) none;
@@ -119,16 +123,23 @@ module _ (s t : OutputState) (all : List (List ℕ)) (ds : List ℕ) (n : ℕ) (
     next : next_state h.m ≡ state'
     next = next-machine h.m state state' rest rest' cards cards' h.scene came
 
+    pub printed-is : (ws : List (List ℕ)) → ws ≡ words_printed (interlude (at_hand mid rest cards)).happened → ws ≡ words_behind h.m
+    printed-is ws is =
+        is
+        ∙ ap (λ u. words_printed (interlude (at_hand u rest cards)).happened) same
+        ∙ ap (λ c. words_printed (interlude c).happened) (sym h.scene)
+
     -- the run ends
-    pub finishes : (u : OutputState) (r : Result (Unit {0}) Failed) (found : List Seen) (still looks : Bool) → (left ≡ 0) ⊎ (rests state' ≡ true)
+    pub finishes : (ws : List (List ℕ)) → ws ≡ words_printed (interlude (at_hand mid rest cards)).happened → (u : OutputState) (r : Result (Unit {0}) Failed) (found : List Seen) (still looks : Bool) → (left ≡ 0) ⊎ (rests state' ≡ true)
         → still ≡ still_by state last.missed rest → looks ≡ (nat_eq left 0 || not still)
         → (looks ≡ true → found ≡ map seen_of (prepared_before last.tick (ahead ds n n None (guessing last.ic state) last.front)))
-        → ((m : Moment) → m.tick ≡ last.tick → next_state m ≡ state' → found ≡ map seen_of m.dropped → WritesLines t u (last_lines k m) r)
+        → ((b : Machine) (m : Moment) → b.enabled ≡ last.enabled → ws ≡ words_behind m → m.tick ≡ last.tick → next_state m ≡ state' → found ≡ map seen_of m.dropped
+        → WritesLines t u (last_lines k b m) r)
         → WritesLines s u all r
-    finishes u r found still looks end is_still is_looks seen writes =
+    finishes ws is_printed u r found still looks end is_still is_looks seen writes =
         let ending : (left ≡ 0) ⊎ (rests (next_state h.m) ≡ true) = at_end end in
-        run-ends ds n left k h.m s t all h.so_far u r ending
-        (writes h.m h.hand.tick next
+        run-ends ds n left k h.b h.m s t all h.so_far u r ending
+        (writes h.b h.m h.was (printed-is ws is_printed) h.hand.tick next
         (seen-dropped h.m state state' rest rest' cards cards' h.scene came ds n last log found h.hand
         (seen (rest-looks left state rest cards h.m last.missed still looks h.scene h.hand.missed is_still is_looks ending))))
       where
@@ -160,36 +171,38 @@ module _ (s t : OutputState) (all : List (List ℕ)) (ds : List ℕ) (n : ℕ) (
           (end-looks left state rest cards h.m last.missed still looks h.scene h.hand.missed is_still is_looks) is_card
           (is_waited ∙ ap (λ u. rests (with_due_orders (with_due_signals u rest cards)).scene.machine) same)
 
-      pub crossing-fails : (u : OutputState) (e : Failed) (r : Result (Unit {0}) Failed) → IsErr r → WritesLines t u (segment_lines k h.m) (Err e) → WritesLines s u all r
-      crossing-fails u e r f w = border-fails ds n left k h.m s t all h.so_far some on u e r f w
+      pub crossing-fails : (u : OutputState) (e : Failed) (r : Result (Unit {0}) Failed) → IsErr r → WritesLines t u (segment_lines k h.b h.m) (Err e) → WritesLines s u all r
+      crossing-fails u e r f w = border-fails ds n left k h.b h.m s t all h.so_far some on u e r f w
 
       module _ (last' : Last) (front : last'.front ≡ next_front h.m) (tick : last'.tick ≡ last.tick) where
         pub stands : IsStanding (standing h.m) state' last'
         stands = record { machine = next; tick = h.hand.tick ∙ sym tick; front = sym front }
 
-        module _ (u : OutputState) (x : Unit {0}) (segment : WritesLines t u (segment_lines k h.m) (Ok x)) where
+        module _ (u : OutputState) (x : Unit {0}) (segment : WritesLines t u (segment_lines k h.b h.m) (Ok x)) where
           pub row-fails : (v : OutputState) (e : Failed) (r : Result (Unit {0}) Failed) → IsErr r
               → ((p : Standing) → IsStanding p state' last' → WritesLines u v (entry_lines ds n p) (Err e)) → WritesLines s v all r
-          row-fails v e r f w = entry-fails ds n left k h.m s t all h.so_far some on u v x e r f segment (w (standing h.m) stands)
+          row-fails v e r f w = entry-fails ds n left k h.b h.m s t all h.so_far some on u v x e r f segment (w (standing h.m) stands)
 
           pub goes : (v : OutputState) (y : Unit {0}) (k' : ℕ) (state'' : Machine) (last'' : Last) (log' : List Made) (sums' : Totals)
               → AreDelays 255 ds → n ≤ 8 → k' ≡ segment_after k h.m → state'' ≡ step state'
               → ((p : Standing) → IsStanding p state' last' → IsLast ds n (next_moment ds n p) last'' log')
               → ((p : Standing) → IsStanding p state' last' → WritesLines u v (entry_lines ds n p) (Ok y))
               → ((p : Standing) (x : Stage) → IsStanding p state' last' → sum_at x sums' ≡ sum_at x sums + ticks_for x (charges_at ds n p))
-              → AreWithin last''.tick sums' → AllPass is_signal rest'
+              → AreWithin last''.tick sums' → last''.enabled ≡ state'.enabled → AllPass is_signal rest'
               → IsRunning s v all ds n total state'' rest' cards' last'' log' k' (left - 1) sums'
-          goes v y k' state'' last'' log' sums' are few number made hand entry added within passes =
+          goes v y k' state'' last'' log' sums' are few number made hand entry added within enabled passes =
               let more = next-done ds n h.m in
               record {
                 m = next_moment ds n (standing h.m);
+                b = next_state h.m;
+                was = ap (λ (u : Machine). u.enabled) next ∙ sym enabled;
                 scene = next-stepped ds n h.m state' state'' rest' cards' (next-scene h.m state state' rest rest' cards cards' h.scene came) made;
                 hand = hand (standing h.m) stands;
                 bounds = next-is 255 n ds are few h.m h.bounds;
                 at = next-at ds n (standing h.m);
                 time = next-time 255 n ds are few h.m h.bounds h.time;
-                so_far = subst (λ j. LinesSoFar s v all (lines_from ds n (left - 1) j (next_moment ds n (standing h.m)))) (sym number)
-                    (turn-made ds n left k h.m s t all h.so_far some on u v x y segment (entry (standing h.m) stands));
+                so_far = subst (λ j. LinesSoFar s v all (lines_from ds n (left - 1) j (next_state h.m) (next_moment ds n (standing h.m)))) (sym number)
+                    (turn-made ds n left k h.b h.m s t all h.so_far some on u v x y segment (entry (standing h.m) stands));
                 number = number-next k k' h.m h.m.scene.machine.done _ number h.number more;
                 few = omega (arith, more, h.few, some);
                 within = within;

@@ -1,8 +1,8 @@
--- A scene by its parts.
-use Rattle.std.specs.Prelude.{ℕ, List}
+-- A scene by its parts, and what is printed on the way to the next one.
+use Rattle.std.specs.Prelude.{ℕ, List, [], ◌∷◌}
 use Rattle.st_state.specs.Machine.{Machine}
 use Rattle.st_card.specs.declared.control_cards.Signal.{Signal}
-use Rattle.st_run.specs.Run.{Scene, Transition, and_then, with_order_at_rest}
+use Rattle.st_run.specs.Run.{Scene, PlainEvent, Prints, Interrupts, Executes, Ends, Transition, and_then, with_order_at_rest}
 
 -- a machine, the signals that are still to come, and the cards of its reader
 abbrev pub at_hand : Machine → List Signal → List (List ℕ) → Scene
@@ -11,3 +11,11 @@ at_hand s xs cards = record { machine = s; signals = xs; cards = cards }
 -- what ends a wait but the signals: the orders that are given, the one that is due first before the other
 abbrev pub with_orders_at_rest : Scene → Transition
 with_orders_at_rest c = and_then (with_order_at_rest c) with_order_at_rest
+
+-- the words that are printed, eight each time
+unfoldable pub words_printed : List PlainEvent → List (List ℕ)
+words_printed [] = []
+words_printed (Prints s words ∷ es) = words ∷ words_printed es
+words_printed (Interrupts s i ∷ es) = words_printed es
+words_printed (Executes s a ∷ es) = words_printed es
+words_printed (Ends s b ∷ es) = words_printed es

@@ -27,6 +27,8 @@ pub(crate) struct Last {
     pub missed: bool,
     /// The counter by that guess.
     pub ic: u32,
+    /// Whether interrupts were enabled before it.
+    pub enabled: bool,
 }
 
 // A list of eight entries as a front keeps it, the newest one first.
@@ -122,7 +124,7 @@ pub(crate) fn look_behind(
     banks
 }
 
-/// The same where it is asked for; else no entry is found, and the banks have no answers.
+/// The same where it is asked for, whatever was found before; else no entry is found, and the banks have no answers.
 pub(crate) fn look_if(
     looks: bool,
     state: &mut State,
@@ -139,7 +141,6 @@ pub(crate) fn look_if(
     requires levels { (1 ≤ levels) × (levels ≤ 8) }
     requires past { last.now.past ≡ last.now.front.past }
     requires counter { last.now.ic < 2 ^ 19 }
-    requires none { length found.old.items ≡ 0 }
     ensures state { state.new ≡ state.old }
     ensures found { looks ≡ true → found.new.items ≡ map seen_of (prepared_before last.now.tick
         (ahead delays.now levels levels None (guessing last.now.ic state.old) last.now.front)) }
@@ -152,19 +153,21 @@ pub(crate) fn look_if(
         All (λ t. t ≤ last.now.tick + 255) result.ticks }
     ensures few { length found.new.items ≤ 8 }
 {
+    found.clear();
     if !looks {
         return LastAnswers::new();
     }
     look_behind(state, last, delays, levels, log, found)
 }
 
-/// What is at hand before the first entry of a run, whose counter is given.
-pub(crate) fn at_start(ic: u32) -> Last
+/// What is at hand before the first entry of a run, whose counter is given, and whether interrupts are enabled.
+pub(crate) fn at_start(ic: u32, enabled: bool) -> Last
     ensures tick { result.tick ≡ 0 }
     ensures front { result.front ≡ opening (record { ticks = replicate BANKS 0 }) 0 }
     ensures past { result.past ≡ result.front.past }
     ensures missed { result.missed ≡ false }
     ensures counter { result.ic ≡ ic }
+    ensures enabled { result.enabled ≡ enabled }
     ensures tight { IsTight 255 result.front }
 {
     let banks = LastAnswers::new();
@@ -174,6 +177,7 @@ pub(crate) fn at_start(ic: u32) -> Last
         past: [Past::default(); 8],
         missed: false,
         ic,
+        enabled,
     }
 }
 

@@ -3,10 +3,13 @@
 ghost use Rattle.std.specs.Prelude.{◌≡◌, ◌+◌, ◌*◌, ◌<◌, ◌≤◌, ◌++◌, ◌∷◌, [], length, codes, decimal, MatchOption, IfSome};
 ghost use Rattle.arrayvec.specs.ArrayString.{array_string_len};
 ghost use Rattle.st_text.specs.Bytes.{lf};
-ghost use Rattle.st_account.specs.Lines.{levels_line, numbers, delays_line, why_text, start_line, end_line, drop_line};
+ghost use Rattle.st_account.specs.Lines.{levels_line, numbers, delays_line, why_text, start_line, end_line, word_line, missed_line, alone_text, alone_line, suppressed_line, writes_line, index_line, drop_line};
 
+use st_prep::IndexChange;
 use st_rows::Row;
-use st_text::{Line, begun, push_decimal, push_flag, push_half_address, push_short_decimal};
+use st_text::{
+    Line, begun, push_decimal, push_flag, push_half_address, push_hex, push_short_decimal,
+};
 
 /// Why a segment begins.
 #[derive(Clone, Copy, Debug, PartialEq, Eq)]
@@ -19,6 +22,19 @@ pub enum Why {
     Missed,
     /// A card came from the reader.
     Card,
+}
+
+/// Why an entry is done alone.
+#[derive(Clone, Copy, Debug, PartialEq, Eq)]
+pub enum Alone {
+    /// It is the instruction of an interrupt table, by this indicator, 0 to 63.
+    Table(u8),
+    /// It is EX.
+    Execute,
+    /// It uses or writes a register as a word.
+    Register,
+    /// Its operation is done alone.
+    Operation,
 }
 
 // The line with its line end.
@@ -124,6 +140,83 @@ pub fn line_end(k: u32, tick: u64) -> Line
     push_short_decimal(&mut line, k);
     line.push_str(" END ");
     push_decimal(&mut line, tick);
+    ended(line)
+}
+
+/// `WORD w IS h`: word w is not zero.
+pub fn line_word(w: u32, word: u64) -> Line
+    ensures { result.bytes ≡ word_line w word }
+{
+    let mut line = begun("WORD ");
+    push_short_decimal(&mut line, w);
+    line.push_str(" IS ");
+    push_hex(&mut line, 16, word);
+    ended(line)
+}
+
+/// `MISSED`: a branch on an indicator was guessed wrongly.
+pub fn line_missed() -> Line
+    ensures { result.bytes ≡ missed_line }
+{
+    ended(begun("MISSED"))
+}
+
+// Appends why an entry is done alone.
+fn push_alone(line: &mut Line, why: Alone)
+    requires { array_string_len line.old + 20 ≤ 128 }
+    ensures bytes { line.new.bytes ≡ line.old.bytes ++ alone_text why }
+    ensures room { array_string_len line.new ≤ array_string_len line.old + 20 }
+{
+    match why {
+        Alone::Table(i) => {
+            line.push_str("TABLE ");
+            push_short_decimal(line, u32::from(i));
+        }
+        Alone::Execute => line.push_str("EXECUTE"),
+        Alone::Register => line.push_str("REGISTER"),
+        Alone::Operation => line.push_str("OPERATION"),
+    }
+}
+
+/// `ALONE why`: an entry is done alone.
+pub fn line_alone(why: Alone) -> Line
+    ensures { result.bytes ≡ alone_line why }
+{
+    let mut line = begun("ALONE ");
+    push_alone(&mut line, why);
+    ended(line)
+}
+
+/// `SUPPRESSED i`: an entry is suppressed, with indicator i.
+pub fn line_suppressed(i: u8) -> Line
+    ensures { result.bytes ≡ suppressed_line i }
+{
+    let mut line = begun("SUPPRESSED ");
+    push_short_decimal(&mut line, u32::from(i));
+    ended(line)
+}
+
+/// `WRITES w n`: an entry writes n words from word w on.
+pub fn line_writes(w: u32, n: u8) -> Line
+    ensures { result.bytes ≡ writes_line w n }
+{
+    let mut line = begun("WRITES ");
+    push_short_decimal(&mut line, w);
+    line.push_str(" ");
+    push_short_decimal(&mut line, u32::from(n));
+    ended(line)
+}
+
+/// `INDEX k WAS h IS g`: an entry changes index word k early, from h to g.
+pub fn line_index(change: &IndexChange) -> Line
+    ensures { result.bytes ≡ index_line change.now }
+{
+    let mut line = begun("INDEX ");
+    push_short_decimal(&mut line, u32::from(change.number));
+    line.push_str(" WAS ");
+    push_hex(&mut line, 16, change.kept);
+    line.push_str(" IS ");
+    push_hex(&mut line, 16, change.word);
     ended(line)
 }
 

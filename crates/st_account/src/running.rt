@@ -3,6 +3,7 @@ ghost use Rattle.std.specs.Prelude.{◌≡◌, ℕ, ◌+◌, ◌*◌, ◌<◌, �
 ghost use Rattle.std.specs.List.{AllPass};
 ghost use Rattle.st_bits.specs.declared.limits.TheConstants.{MOST_INSTRUCTIONS};
 ghost use Rattle.st_card.specs.Limits.{is_signal};
+ghost use Rattle.st_state.specs.Machine.{Machine};
 ghost use Rattle.st_prep.specs.Plan.{plan as plan_of};
 ghost use Rattle.st_prep.specs.Ranges.{IsPrepared};
 ghost use Rattle.st_exec.specs.Completion.{executed, guess as guess_of, is_missed as is_missed_of};
@@ -19,22 +20,23 @@ ghost use Rattle.st_ledger.specs.Ledger.{charges_at, entries_from, all_charges};
 ghost use Rattle.st_ledger.specs.declared.charges.Stage.{Stage};
 ghost use Rattle.st_ledger.specs.Charges.{ticks_for};
 ghost use Rattle.st_ledger.specs.Totals.{sum_at, AreWithin};
-ghost use Rattle.st_plain.specs.Looking.{seen_of};
+ghost use Rattle.st_plain.specs.Looking.{side_at, executes_at, seen_of};
 ghost use Rattle.st_account.specs.Settling.{at_hand};
-ghost use Rattle.st_account.specs.Text.{why_by, segment_after, segment_lines, entry_lines, last_lines, lines_from, ledger};
+ghost use Rattle.st_account.specs.Text.{why_by, words_behind, segment_after, segment_lines, entry_lines, last_lines, lines_from, ledger};
 ghost use Rattle.st_account.specs.Standing.{guessing, has_due, still_by, without, IsLast, IsStanding, IsBehind};
 ghost use Rattle.st_account.specs.declared.lines.Why.TheVariants.{Run as RunBegins};
 
+use crate::facts::write_done;
 use crate::last::{Last, at_start, look_if, open_if, put_past};
 use crate::lines::Why;
-use crate::settling::settle;
-use crate::writing::{Border, write_border, write_end, write_machine, write_totals};
+use crate::settling::{Printed, settle};
+use crate::writing::{Border, write_border, write_end, write_machine, write_marks, write_totals};
 use st_banks::{Delays, LastAnswers};
 use st_card::Signal;
 use st_exch::Hopper;
 use st_exec::{complete_in, interrupt, is_at_rest, is_missed, next_address};
 use st_io::{Failed, Sink};
-use st_ledger::{Totals, write_row, write_sums};
+use st_ledger::{Totals, write_sums};
 use st_plain::{Aheads, next_row, plan_entry};
 use st_prep::Prepared;
 use st_rows::{Log, Past, Row};
@@ -99,7 +101,15 @@ fn is_end_near(left: u64, still: bool) -> bool
     left == 0 || !still
 }
 
-// The numbers of the next entry, which is planned as `p`: its row, and what is at hand behind it.
+// What is known of the next entry, besides what it is: its row, its index-side word, and whether it is EX.
+#[derive(Clone, Copy)]
+struct Counted {
+    row: Row,
+    side: Option<u32>,
+    execute: bool,
+}
+
+// The numbers of the next entry, which is planned as `p`, and what is at hand behind it.
 fn count_on(
     state: &State,
     taken: Option<u8>,
@@ -108,7 +118,7 @@ fn count_on(
     delays: &Delays,
     levels: u8,
     log: &mut Log,
-) -> Row
+) -> Counted
     requires indicator { IfSome taken (λ i. i < 64) }
     requires levels { (1 ≤ levels) × (levels ≤ 8) }
     requires tight { IsTight 255 last.old.front }
@@ -116,25 +126,37 @@ fn count_on(
     requires past { last.old.past ≡ last.old.front.past }
     ensures plan { p.new ≡ plan_of state.now taken }
     ensures prepared { IsPrepared p.new }
-    ensures row { result ≡ row_of delays.now levels last.old.front (entry_of taken state.now) }
+    ensures row { result.row ≡ row_of delays.now levels last.old.front (entry_of taken state.now) }
     ensures front { last.new.front ≡ after_of delays.now levels last.old.front (entry_of taken state.now) }
     ensures log { log.new ≡ noted delays.now (asked_of delays.now levels last.old.front (entry_of taken state.now)) last.old.front.bus [] }
     ensures past { last.new.past ≡ last.new.front.past }
-    ensures tick { last.new.tick ≡ result.c }
+    ensures tick { last.new.tick ≡ result.row.c }
+    ensures side { result.side ≡ side_at taken state.now }
+    ensures execute { result.execute ≡ executes_at taken state.now }
 {
     state.shape();
-    let e = plan_entry(taken, state, p);
+    let planned = plan_entry(taken, state, p);
     log.clear();
-    let row = next_row(&mut last.front, delays, levels as usize, &e, log);
+    let row = next_row(
+        &mut last.front,
+        delays,
+        levels as usize,
+        &planned.entry,
+        log,
+    );
     put_past(
         &mut last.past,
         Past {
             c: row.c,
-            writes: e.writes,
+            writes: planned.entry.writes,
         },
     );
     last.tick = row.c;
-    row
+    Counted {
+        row,
+        side: planned.side,
+        execute: planned.execute,
+    }
 }
 
 // The counter by the guess of an entry that was prepared as `p` and is now done.
@@ -158,20 +180,36 @@ fn execute(state: &mut State, taken: Option<u8>, p: &Prepared, last: &mut Last)
     ensures rest { last.new ≡ record last.old {
       missed = is_missed_of (plan_of state.old taken) state.old;
       ic = last.new.ic;
+      enabled = state.old.enabled;
     } }
 {
+    last.enabled = is_enabled(state);
     last.missed = is_missed(p, state);
     complete_in(p, state);
     last.ic = guessed_counter(p, state);
 }
 
-// The counter of a state.
-fn counter_of(state: &State) -> u32
+/// The counter of a state.
+pub(crate) fn counter_of(state: &State) -> u32
     ensures value { result ≡ state.now.ic }
     ensures below { result < 2 ^ 19 }
 {
     state.shape();
     state.ic
+}
+
+/// Whether interrupts are enabled in a state.
+pub(crate) fn is_enabled(state: &State) -> bool
+    ensures { result ≡ state.now.enabled }
+{
+    state.enabled
+}
+
+// The number of instructions that a state has done.
+fn done_of(state: &State) -> u64
+    ensures { result ≡ state.now.done }
+{
+    state.done
 }
 
 // The number of the next row.
@@ -183,9 +221,11 @@ fn row_number(state: &State) -> u32
 }
 
 // The next entry is executed, and its lines are written; its segment starts at the tick of the front, if it is the first one of that.
+// What it is stays in `p`, whatever was there.
 fn write_entry<K: Sink>(
     out: &mut K,
     state: &mut State,
+    p: &mut Prepared,
     last: &mut Last,
     delays: &Delays,
     levels: u8,
@@ -206,19 +246,31 @@ fn write_entry<K: Sink>(
     ensures sums { (p : Standing) (s : Stage) → IsStanding p state.old last.old →
         sum_at s sums.new ≡ sum_at s sums.old + ticks_for s (charges_at delays.now levels p) }
     ensures within { AreWithin last.new.tick sums.new }
+    ensures enabled { last.new.enabled ≡ state.old.enabled }
 {
     delays.shape();
     state.shape();
     let taken = interrupt(state);
     let address = next_address(state);
     let n = row_number(state);
-    let mut p = Prepared::default();
     let before = last.tick;
     let start = last.front.c;
-    let row = count_on(state, taken, &mut p, last, delays, levels, log);
-    execute(state, taken, &p, last);
+    let counted = count_on(state, taken, p, last, delays, levels, log);
+    execute(state, taken, p, last);
+    let row = counted.row;
     sums.add_row(&row, before, start);
-    write_row(out, n, address, &row, before, start)
+    write_done(
+        out,
+        n,
+        address,
+        &row,
+        last.missed,
+        p,
+        counted.side,
+        counted.execute,
+        before,
+        start,
+    )
 }
 
 // The number of the segment of the next entry.
@@ -235,6 +287,7 @@ fn write_crossing<K: Sink>(
     state: &State,
     last: &mut Last,
     found: &Aheads,
+    printed: &Printed,
     banks: LastAnswers,
     card: bool,
     waited: bool,
@@ -248,8 +301,9 @@ fn write_crossing<K: Sink>(
     requires past { last.old.past ≡ last.old.front.past }
     requires tight { IsTight 255 last.old.front }
     requires done { last.old.front.c ≡ last.old.tick }
-    ensures lines { (m : Moment) → IsBehind m state.now last.old found.now.items banks card waited →
-        WritesLines (K.output out.old) (K.output out.new) (segment_lines k m) (without result) }
+    ensures lines { (b : Machine) (m : Moment) → b.enabled ≡ last.old.enabled → printed.now.items ≡ words_behind m →
+        IsBehind m state.now last.old found.now.items banks card waited →
+        WritesLines (K.output out.old) (K.output out.new) (segment_lines k b m) (without result) }
     ensures number { (m : Moment) → IsBehind m state.now last.old found.now.items banks card waited →
         IfOk result (λ next. next ≡ segment_after k m) }
     ensures front { (m : Moment) → IsBehind m state.now last.old found.now.items banks card waited →
@@ -262,6 +316,7 @@ fn write_crossing<K: Sink>(
 {
     let taken = interrupt(state);
     let missed = last.missed;
+    let was = last.enabled;
     let tick = last.tick;
     let ends = is_end(missed, card, waited, taken);
     open_if(ends, last, banks, found.len() as u64);
@@ -276,8 +331,11 @@ fn write_crossing<K: Sink>(
         start: last.front.c,
         waited,
         why,
+        was,
+        taken,
+        done: done_of(state),
     };
-    write_border(out, border, found.as_slice())?;
+    write_border(out, border, printed, state, found.as_slice())?;
     Ok(next_number(begins, k))
 }
 
@@ -287,14 +345,16 @@ fn write_last<K: Sink>(
     state: &State,
     last: &Last,
     found: &Aheads,
+    printed: &Printed,
     k: u32,
 ) -> Result<(), Failed>
     requires few { state.now.done ≤ MOST_INSTRUCTIONS }
     requires dropped { length found.now.items ≤ 8 }
-    ensures { (m : Moment) → m.tick ≡ last.now.tick → next_state m ≡ state.now → found.now.items ≡ map seen_of m.dropped →
-        WritesLines (K.output out.old) (K.output out.new) (last_lines k m) result }
+    ensures { (b : Machine) (m : Moment) → b.enabled ≡ last.now.enabled → printed.now.items ≡ words_behind m → m.tick ≡ last.now.tick → next_state m ≡ state.now →
+        found.now.items ≡ map seen_of m.dropped → WritesLines (K.output out.old) (K.output out.new) (last_lines k b m) result }
 {
     write_end(out, k, last.tick, row_number(state), found.as_slice())?;
+    write_marks(out, printed, k, last.enabled, state)?;
     write_totals(out, is_at_rest(state), state.done, last.tick)
 }
 
@@ -317,41 +377,46 @@ fn write_run<K: Sink>(
     requires limit { budget ≤ MOST_INSTRUCTIONS }
     requires none { AreWithin 0 sums.old }
     ensures lines { WritesLines (K.output out.old) (K.output out.new)
-        (lines_from delays.now levels budget 0 (start_of (at_hand state.old signals.now cards.old))) result }
+        (lines_from delays.now levels budget 0 state.old (start_of (at_hand state.old signals.now cards.old))) result }
     ensures sums { (s : Stage) → IsOk result → sum_at s sums.new
         ≡ ticks_for s (all_charges delays.now levels (entries_from delays.now levels budget (start_of (at_hand state.old signals.now cards.old)))) }
 {
     state.shape();
     delays.shape();
-    let mut last = at_start(counter_of(state));
+    let mut last = at_start(counter_of(state), is_enabled(state));
     let mut rest = signals;
     let mut log = Log::new();
+    let mut found = Aheads::new();
+    let mut printed = Printed::new();
+    let mut p = Prepared::default();
     let mut k = 0;
     let mut left = budget;
     'entries: loop {
-        let mut found = Aheads::new();
         let still = is_still(state, last.missed, rest);
         let looks = is_end_near(left, still);
         let banks = look_if(looks, state, &last, delays, levels, &mut log, &mut found);
-        let between = settle(state, rest, cards);
+        let between = settle(state, rest, cards, &mut printed);
         rest = between.signals;
         if left == 0 {
-            return write_last(out, state, &last, &found, k);
+            return write_last(out, state, &last, &found, &printed, k);
         }
         if is_at_rest(state) {
-            return write_last(out, state, &last, &found, k);
+            return write_last(out, state, &last, &found, &printed, k);
         }
         k = write_crossing(
             out,
             state,
             &mut last,
             &found,
+            &printed,
             banks,
             between.card,
             between.waited,
             k,
         )?;
-        write_entry(out, state, &mut last, delays, levels, &mut log, sums)?;
+        write_entry(
+            out, state, &mut p, &mut last, delays, levels, &mut log, sums,
+        )?;
         left -= 1;
     }
 }

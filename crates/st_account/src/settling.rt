@@ -1,12 +1,13 @@
 //! What comes between two entries.
-ghost use Rattle.std.specs.Prelude.{◌≡◌, ℕ, ◌||◌, ◌≤◌, nat_lt, List, length};
+ghost use Rattle.std.specs.Prelude.{◌≡◌, ℕ, ◌+◌, ◌++◌, ◌||◌, ◌≤◌, nat_lt, List, length};
 ghost use Rattle.std.specs.List.{AllPass};
 ghost use Rattle.st_card.specs.Limits.{is_signal};
 ghost use Rattle.st_card.specs.declared.control_cards.Signal.{Signal as SignalOf};
 ghost use Rattle.st_exec.specs.Step.{rests};
 ghost use Rattle.st_run.specs.Run.{with_due_signals, with_reader, with_printer, if_due, with_due_orders, with_order_at_rest, interlude};
-ghost use Rattle.st_account.specs.Settling.{at_hand, with_orders_at_rest};
+ghost use Rattle.st_account.specs.Settling.{at_hand, with_orders_at_rest, words_printed};
 
+use arrayvec::ArrayVec;
 use st_card::Signal;
 use st_exch::Hopper;
 use st_exec::{is_at_rest, print_out, read_in};
@@ -30,15 +31,23 @@ fn serve_reader(state: &mut State, cards: &mut Hopper) -> bool
     card.is_some()
 }
 
+/// What is printed between two entries, eight words each time.
+pub(crate) type Printed = ArrayVec<[u64; 8], 3>;
+
 // The printer's order takes effect, if it has one.
-fn serve_printer(state: &mut State)
-    ensures { (xs : List SignalOf) (cards : List (List ℕ)) →
+fn serve_printer(state: &mut State, printed: &mut Printed)
+    requires room { length printed.old.items + 1 ≤ 3 }
+    ensures printed { (xs : List SignalOf) (cards : List (List ℕ)) → printed.new.items ≡ printed.old.items
+        ++ words_printed (with_printer state.old.printer (at_hand state.old xs cards)).happened }
+    ensures few { length printed.new.items ≤ length printed.old.items + 1 }
+    ensures scene { (xs : List SignalOf) (cards : List (List ℕ)) →
         (with_printer state.old.printer (at_hand state.old xs cards)).scene ≡ at_hand state.new xs cards }
 {
     if printer_is_free(state) {
         return;
     }
-    print_out(state);
+    let words = print_out(state);
+    printed.push(words);
 }
 
 // The reader's order takes effect, if it is due. The result says whether a card came.
@@ -55,29 +64,42 @@ fn serve_due_reader(state: &mut State, cards: &mut Hopper) -> bool
 }
 
 // The printer's order takes effect, if it is due.
-fn serve_due_printer(state: &mut State)
-    ensures { (xs : List SignalOf) (cards : List (List ℕ)) → (with_printer (if_due state.old.done state.old.printer)
+fn serve_due_printer(state: &mut State, printed: &mut Printed)
+    requires room { length printed.old.items + 1 ≤ 3 }
+    ensures printed { (xs : List SignalOf) (cards : List (List ℕ)) → printed.new.items ≡ printed.old.items
+        ++ words_printed (with_printer (if_due state.old.done state.old.printer) (at_hand state.old xs cards)).happened }
+    ensures few { length printed.new.items ≤ length printed.old.items + 1 }
+    ensures scene { (xs : List SignalOf) (cards : List (List ℕ)) → (with_printer (if_due state.old.done state.old.printer)
         (at_hand state.old xs cards)).scene ≡ at_hand state.new xs cards }
 {
-    if printer_is_due(state) {
-        serve_printer(state);
+    if !printer_is_due(state) {
+        return;
     }
+    serve_printer(state, printed);
 }
 
 // The orders that are due take effect, the reader's first. The result says whether a card came.
-fn serve_due(state: &mut State, cards: &mut Hopper) -> bool
+fn serve_due(state: &mut State, cards: &mut Hopper, printed: &mut Printed) -> bool
+    requires room { length printed.old.items + 1 ≤ 3 }
+    ensures printed { (xs : List SignalOf) → printed.new.items ≡ printed.old.items
+        ++ words_printed (with_due_orders (at_hand state.old xs cards.old)).happened }
+    ensures few { length printed.new.items ≤ length printed.old.items + 1 }
     ensures scene { (xs : List SignalOf) → (with_due_orders (at_hand state.old xs cards.old)).scene
         ≡ at_hand state.new xs cards.new }
     ensures card { result ≡ nat_lt (length cards.new) (length cards.old) }
     ensures fewer { length cards.new ≤ length cards.old }
 {
     let card = serve_due_reader(state, cards);
-    serve_due_printer(state);
+    serve_due_printer(state, printed);
     card
 }
 
 // The order that is due earliest takes effect, if the machine is at rest. The result says whether a card came.
-fn serve_at_rest(state: &mut State, cards: &mut Hopper) -> bool
+fn serve_at_rest(state: &mut State, cards: &mut Hopper, printed: &mut Printed) -> bool
+    requires room { length printed.old.items + 1 ≤ 3 }
+    ensures printed { (xs : List SignalOf) → printed.new.items ≡ printed.old.items
+        ++ words_printed (with_order_at_rest (at_hand state.old xs cards.old)).happened }
+    ensures few { length printed.new.items ≤ length printed.old.items + 1 }
     ensures scene { (xs : List SignalOf) → (with_order_at_rest (at_hand state.old xs cards.old)).scene
         ≡ at_hand state.new xs cards.new }
     ensures card { result ≡ nat_lt (length cards.new) (length cards.old) }
@@ -90,7 +112,7 @@ fn serve_at_rest(state: &mut State, cards: &mut Hopper) -> bool
         None => false,
         Some(Device::Reader) => serve_reader(state, cards),
         Some(Device::Printer) => {
-            serve_printer(state);
+            serve_printer(state, printed);
             false
         }
     }
@@ -104,14 +126,17 @@ fn either(one: bool, two: bool) -> bool
 }
 
 // The orders take effect that end a wait. The result says whether a card came.
-fn serve_wait(state: &mut State, cards: &mut Hopper) -> bool
+fn serve_wait(state: &mut State, cards: &mut Hopper, printed: &mut Printed) -> bool
+    requires room { length printed.old.items + 2 ≤ 3 }
+    ensures printed { (xs : List SignalOf) → printed.new.items ≡ printed.old.items
+        ++ words_printed (with_orders_at_rest (at_hand state.old xs cards.old)).happened }
     ensures scene { (xs : List SignalOf) → (with_orders_at_rest (at_hand state.old xs cards.old)).scene
         ≡ at_hand state.new xs cards.new }
     ensures card { result ≡ nat_lt (length cards.new) (length cards.old) }
     ensures fewer { length cards.new ≤ length cards.old }
 {
-    let first = serve_at_rest(state, cards);
-    let second = serve_at_rest(state, cards);
+    let first = serve_at_rest(state, cards, printed);
+    let second = serve_at_rest(state, cards, printed);
     either(first, second)
 }
 
@@ -126,20 +151,27 @@ pub struct Settled<'a> {
     pub waited: bool,
 }
 
-/// Signals and orders come that are due, and what ends a wait.
-pub fn settle<'a>(state: &mut State, signals: &'a [Signal], cards: &mut Hopper) -> Settled<'a>
+/// Signals and orders come that are due, and what ends a wait. `printed` is then what is printed, whatever it was.
+pub(crate) fn settle<'a>(
+    state: &mut State,
+    signals: &'a [Signal],
+    cards: &mut Hopper,
+    printed: &mut Printed,
+) -> Settled<'a>
     requires { AllPass is_signal signals.now }
     ensures rest { AllPass is_signal result.signals.now }
     ensures came { (interlude (at_hand state.old signals.now cards.old)).scene
         ≡ at_hand state.new result.signals.now cards.new }
+    ensures printed { printed.new.items ≡ words_printed (interlude (at_hand state.old signals.now cards.old)).happened }
     ensures card { result.card ≡ nat_lt (length cards.new) (length cards.old) }
     ensures waited { result.waited
         ≡ rests (with_due_orders (with_due_signals state.old signals.now cards.old)).scene.machine }
 {
+    printed.clear();
     let due = due_signals(state, signals);
-    let first = serve_due(state, cards);
+    let first = serve_due(state, cards, printed);
     let waited = is_at_rest(state);
-    let second = serve_wait(state, cards);
+    let second = serve_wait(state, cards, printed);
     Settled {
         signals: signals_at_rest(state, due),
         card: either(first, second),

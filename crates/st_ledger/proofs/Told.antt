@@ -67,12 +67,3 @@ pub part_one : (s u : OutputState) (t : ℕ) (x : Part) (line : List ℕ) (r : R
     → WritesLines s u (charge_lines (part_charges t x)) r
 unfolding charge_lines
 part_one s u t x line r early is h = rw (lt-ltb t x.end early) (subst (λ l. WritesLines s u (l ∷ []) r) is h)
-
--- ---- a row
-
-pub row_then : (s v u : OutputState) (t : ℕ) (line : List ℕ) (ps qs : List Part) (o : Unit {0}) (r : Result (Unit {0}) Failed) → ps ≡ qs
-    → WritesLines s v (line ∷ []) (Ok o) → WritesLines v u (charge_lines (charged t ps)) r
-    → WritesLines s u (line ∷ [] ++ charge_lines (charged t qs)) r
-row_then s v u t line ps qs o r is h k =
-    lines_then s v u (line ∷ []) (charge_lines (charged t qs)) o r h
-    (subst (λ xs. WritesLines v u (charge_lines (charged t xs)) r) is k)

@@ -6,7 +6,6 @@ use Rattle.st_rows.specs.declared.front.Row.{Row}
 use Rattle.st_ledger.specs.declared.charges.Charge.{Charge}
 use Rattle.st_ledger.specs.declared.charges.Stage.{Stage}
 use Rattle.st_ledger.specs.declared.charges.Stage.TheVariants.{Restart, Instruction, Address, Index, Preparing, Operand, Executing}
-use Rattle.st_ledger.specs.Charges.{parts, charged}
 
 -- the name of a stage
 abbrev pub stage_name : Stage → List ℕ
@@ -38,8 +37,3 @@ sum_line stage ticks = codes "SUM " ++ stage_name stage ++ codes " " ++ decimal 
 unfoldable pub charge_lines : List Charge → List (List ℕ)
 charge_lines [] = []
 charge_lines (x ∷ xs) = charge_line x ∷ charge_lines xs
-
--- those of the n-th entry that is done, with its address and its row, where the last one was done at the tick `before` and the
--- segment of both starts at the tick `start`
-abbrev pub row_lines : ℕ → ℕ → Row → ℕ → ℕ → List (List ℕ)
-row_lines n address row before start = row_line n address row ∷ [] ++ charge_lines (charged before (parts start row))

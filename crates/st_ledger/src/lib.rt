@@ -8,5 +8,5 @@ mod totals;
 
 pub use charges::{Charge, Part, Stage};
 pub use lines::{fill_charge, fill_row, line_sum};
-pub use telling::write_row;
+pub use telling::{write_charges, write_row};
 pub use totals::{Totals, write_sums};

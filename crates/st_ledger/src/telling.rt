@@ -2,7 +2,7 @@
 ghost use Rattle.std.specs.Prelude.{◌≡◌, ◌∷◌, ◌<◌, [], length, max, MatchOption, IfSome};
 ghost use Rattle.st_io.specs.Lines.{WritesLines};
 ghost use Rattle.st_ledger.specs.Charges.{parts as parts_of, charged, part_charges};
-ghost use Rattle.st_ledger.specs.Lines.{row_line, charge_line, charge_lines, row_lines};
+ghost use Rattle.st_ledger.specs.Lines.{row_line, charge_line, charge_lines};
 
 use crate::charges::{Charge, Part, Stage};
 use crate::lines::{fill_charge, fill_row};
@@ -71,18 +71,18 @@ pub(crate) fn later(a: u64, b: u64) -> u64
 }
 
 // Writes the charges of stages behind the tick `from`.
-fn write_charges<K: Sink>(out: &mut K, from: u64, parts: &[Part]) -> Result<(), Failed>
+fn write_parts<K: Sink>(out: &mut K, from: u64, parts: &[Part]) -> Result<(), Failed>
     ensures { WritesLines (K.output out.old) (K.output out.new) (charge_lines (charged from parts.now)) result }
 {
     let Some((part, more)) = first_part(parts) else {
         return Ok(());
     };
     write_part(out, from, part)?;
-    write_charges(out, later(from, part.end), more)
+    write_parts(out, later(from, part.end), more)
 }
 
-// Writes the line of an entry that is done.
-fn write_ticks<K: Sink>(out: &mut K, n: u32, address: u32, row: &Row) -> Result<(), Failed>
+/// Writes the line of the n-th entry that is done, whose half-word address and row these are.
+pub fn write_row<K: Sink>(out: &mut K, n: u32, address: u32, row: &Row) -> Result<(), Failed>
     ensures { WritesLines (K.output out.old) (K.output out.new) (row_line n address row.now ∷ []) result }
 {
     let mut line = LineFromEnd::new();
@@ -90,18 +90,10 @@ fn write_ticks<K: Sink>(out: &mut K, n: u32, address: u32, row: &Row) -> Result<
     write_line(out, line.as_bytes())
 }
 
-/// Writes the lines of the n-th entry that is done, whose half-word address and row these are: the last one before it was done at the
-/// tick `before`, and its segment starts at `start`, if it is the first one of that.
-pub fn write_row<K: Sink>(
-    out: &mut K,
-    n: u32,
-    address: u32,
-    row: &Row,
-    before: u64,
-    start: u64,
-) -> Result<(), Failed>
-    ensures { WritesLines (K.output out.old) (K.output out.new) (row_lines n address row.now before start) result }
+/// Writes the charges of an entry that is done, whose row this is: the last one before it was done at the tick `before`, and its
+/// segment starts at `start`, if it is the first one of that.
+pub fn write_charges<K: Sink>(out: &mut K, row: &Row, before: u64, start: u64) -> Result<(), Failed>
+    ensures { WritesLines (K.output out.old) (K.output out.new) (charge_lines (charged before (parts_of start row.now))) result }
 {
-    write_ticks(out, n, address, row)?;
-    write_charges(out, before, &parts(start, row))
+    write_parts(out, before, &parts(start, row))
 }

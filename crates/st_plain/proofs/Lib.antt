@@ -2,3 +2,4 @@ pub mod PlanLemmas
 pub mod Words
 pub mod RowLemmas
 pub mod LookLemmas
+pub mod StraightLemmas

@@ -1,12 +1,29 @@
 -- What is noted of the entries that run ahead, and which of their reads are made.
-use Rattle.std.specs.Prelude.{ℕ, nat_lt, if◌then◌else◌, List, [], ◌∷◌, ◌++◌}
+use Rattle.std.specs.Prelude.{ℕ, Bool, nat_lt, if◌then◌else◌, List, [], ◌∷◌, ◌++◌, Option}
+use Rattle.st_state.specs.Machine.{Machine}
+use Rattle.st_prep.specs.Fetch.{place_of, fetched}
+use Rattle.st_prep.specs.Plan.{needs, sight}
+use Rattle.st_prep.specs.Reading.{is_execute}
 use Rattle.st_rows.specs.Asked.{Read, asked, formed_asked}
 use Rattle.st_segment.specs.Ahead.{Ahead, plan_of}
 use Rattle.st_plain.specs.declared.looking.Ahead.{Ahead as Seen}
 
--- the address and the row of an entry ahead
+-- the index-side word of the next entry of a state, or of its table instruction
+unfoldable pub side_at : Option ℕ → Machine → Option ℕ
+side_at table s = (needs (sight s (place_of s table))).index_read
+
+-- it is EX
+unfoldable pub executes_at : Option ℕ → Machine → Bool
+executes_at table s = is_execute (fetched s (place_of s table)).instr.instr
+
+-- an entry ahead: how it is prepared, its row, its index-side word, and whether it is EX
 abbrev pub seen_of : Ahead → Seen
-seen_of a = record { address = (plan_of a).place.address; row = a.row }
+seen_of a = record {
+  plan = plan_of a;
+  row = a.row;
+  side = side_at a.table a.state;
+  execute = executes_at a.table a.state;
+}
 
 -- the reads of the entries that are prepared before the tick t, and of the first one that is not those up to its address: all that
 -- may be accepted before that tick

@@ -1,19 +1,26 @@
 //! The next entry of a state, as the timetable sees it.
-ghost use Rattle.std.specs.Prelude.{◌≡◌, ◌+◌, ◌<◌, ◌≤◌, ◌&&◌, is_none, if◌then◌else◌, IfSome, length, take, drop};
+ghost use Rattle.std.specs.Prelude.{◌≡◌, ℕ, ◌+◌, ◌/◌, ◌<◌, ◌≤◌, ◌^◌, ◌∷◌, ◌&&◌, false, None, is_none, if◌then◌else◌, IfSome, length, take, drop};
+ghost use Rattle.st_format.specs.Formats.{decoded, instruction_of, spelled_as};
+ghost use Rattle.st_state.specs.Boundary.{forbidden_by};
 ghost use Rattle.st_state.specs.Machine.{word};
+ghost use Rattle.st_state.specs.declared.protection.Access.{Access as AccessOf};
 ghost use Rattle.st_prep.specs.Fetch.{index_words as index_words_of, reading_of, fetched as fetched_of};
 ghost use Rattle.st_prep.specs.Plan.{needs as needs_of, plan as plan_of, prepared as prepared_of, seen, side_of};
-ghost use Rattle.st_prep.specs.Ranges.{IsPlace, IsFetched, IsNeeds, IsPrepared};
-ghost use Rattle.st_prep.specs.Reading.{words_read, own_words};
+ghost use Rattle.st_prep.specs.Ranges.{HasFields, IsPlace, IsFetched, IsNeeds, IsPrepared};
+ghost use Rattle.st_prep.specs.Reading.{Use, words_read, own_words, half_of as half_by, with_second as with_second_of, with_first as with_first_of, instruction_at, is_execute as is_execute_of, plain, allowed_found};
+ghost use Rattle.st_plain.specs.Looking.{side_at, executes_at};
+ghost use Rattle.st_plain.specs.Straight.{Leads, if_more, shown, IsPlanned};
 ghost use Rattle.st_segment.specs.Entries.{run_of as run_by, above_registers as above_registers_of, words_to_read as words_to_read_of, words_to_write as words_to_write_of, side_to_read as side_to_read_of, entry as entry_of};
 
 use st_bits::register::FIRST_STORAGE_WORD;
+use st_bits::{HalfOp, part};
+use st_format::{Decoded, Format, FullOp, Instr, decode_as, format_of, length_in_halves};
 use st_prep::{
-    Fetched, Fetching, Needs, Place, Prepared, Words, fetch_on, index_words, place_of, prepare_in,
-    prepare_without_side, side_word,
+    Fetched, Fetching, Needs, Place, Prepared, Words, fetch_on, index_words, is_execute_format,
+    place_of, prepare_in, prepare_without_side, side_word,
 };
 use st_rows::{Entry, Run, Runs};
-use st_state::State;
+use st_state::{Access, State};
 
 // Words that follow each other, at most four, as a run.
 #[tactic(auto, unfolding(st_segment::specs::Entries::run_of))]
@@ -171,26 +178,310 @@ fn prepare_found(p: &mut Prepared, fetched: &Fetched, x: &[u64; 16], state: &Sta
     needs
 }
 
+// The half-words of an instruction, whose first word is read, and whether the word behind it is read too.
+#[derive(Clone, Copy, Debug, PartialEq, Eq)]
+struct Spelled {
+    first: u32,
+    second: u32,
+    more: bool,
+}
+
+// The second half-word of an instruction, and whether another word is read for it.
+#[derive(Clone, Copy, Debug, PartialEq, Eq)]
+struct Second {
+    half: u32,
+    more: bool,
+}
+
+// The content of the word at the word address `w`, unless it may not be fetched.
+#[inline(always)]
+fn fetched_word(w: u32, state: &State) -> Option<u64>
+    ensures allowed { IfSome result (λ c. forbidden_by (word state.now 3) state.now.enabled
+        AccessOf.Fetch w ≡ None) }
+    ensures value { IfSome result (λ c. c ≡ word state.now w) }
+{
+    match state.may(Access::Fetch, w) {
+        Some(_) => None,
+        None => Some(state.word(w)),
+    }
+}
+
+// The half at the half-word address `h` of a word with this content.
+#[inline(always)]
+fn half_of(content: u64, h: u32) -> u32
+    ensures { result ≡ half_by content h }
+{
+    part(content, 32 * (h % 2), 32) as u32
+}
+
+// The second half-word of the instruction at the half-word address `h`, whose first word has this content, unless it may
+// not be fetched.
+#[inline(always)]
+fn second_half(h: u32, content: u64, state: &State) -> Option<Second>
+    requires address { h < 2 ^ 19 }
+    requires allowed { forbidden_by (word state.now 3) state.now.enabled AccessOf.Fetch (h / 2) ≡ None }
+    ensures { IfSome result (λ r. (first : ℕ) (k : Use) → Leads (word state.now) (with_second_of
+        (forbidden_by (word state.now 3) state.now.enabled AccessOf.Fetch ((h + 1) / 2)) false first
+        (h + 1) (h / 2) content k) (k (allowed_found first r.half)) (if_more r.more ((h + 1) / 2))) }
+{
+    if (h + 1) / 2 == h / 2 {
+        return Some(Second {
+            half: half_of(content, h + 1),
+            more: false,
+        });
+    }
+    match fetched_word((h + 1) / 2, state) {
+        Some(next) => Some(Second {
+            half: half_of(next, h + 1),
+            more: true,
+        }),
+        None => None,
+    }
+}
+
+// The half-words of the instruction at the half-word address `h`, the content of its first word being known, unless one
+// of them may not be fetched. Where there is only one, 0 stands for the second.
+#[inline(always)]
+#[tactic(auto, unfolding(st_prep::specs::Reading::with_first))]
+fn halves_in(h: u32, content: u64, state: &State) -> Option<Spelled>
+    requires address { h < 2 ^ 19 }
+    requires allowed { forbidden_by (word state.now 3) state.now.enabled AccessOf.Fetch (h / 2) ≡ None }
+    ensures { IfSome result (λ r. (k : Use) → Leads (word state.now) (with_first_of false (word state.now 3)
+        state.now.enabled h content k) (k (allowed_found r.first r.second)) (if_more r.more ((h + 1) / 2))) }
+{
+    let first = half_of(content, h);
+    if length_in_halves(first) == 2 {
+        match second_half(h, content, state) {
+            Some(second) => Some(Spelled {
+                first,
+                second: second.half,
+                more: second.more,
+            }),
+            None => None,
+        }
+    } else {
+        Some(Spelled {
+            first,
+            second: 0,
+            more: false,
+        })
+    }
+}
+
+// The same, its first word being read from the state.
+#[inline(always)]
+#[tactic(auto, unfolding(st_prep::specs::Reading::instruction_at))]
+fn halves_at(h: u32, state: &State) -> Option<Spelled>
+    requires { h < 2 ^ 19 }
+    ensures { IfSome result (λ r. (k : Use) → Leads (word state.now) (instruction_at false (word state.now 3)
+        state.now.enabled h k) (k (allowed_found r.first r.second)) (h / 2 ∷ if_more r.more ((h + 1) / 2))) }
+{
+    match fetched_word(h / 2, state) {
+        Some(content) => match halves_in(h, content, state) {
+            Some(spelled) => Some(spelled),
+            None => None,
+        },
+        None => None,
+    }
+}
+
+// The words of the instruction at the half-word address `h`, as a run.
+#[inline(always)]
+#[tactic(auto, unfolding(st_segment::specs::Entries::run_of))]
+fn words_at(h: u32, more: bool) -> Run
+    ensures { result ≡ run_by (h / 2 ∷ if_more more ((h + 1) / 2)) }
+{
+    Run {
+        first: h / 2,
+        len: if more { 2 } else { 1 },
+    }
+}
+
+/// What is known of an entry that is planned, besides what it is.
+#[derive(Clone, Copy, Debug, Default, PartialEq, Eq)]
+pub struct Planned {
+    /// What the timetable sees of it.
+    pub entry: Entry,
+    /// Its index-side word, a register or a word that is read from storage.
+    pub side: Option<u32>,
+    /// Whether it is EX.
+    pub execute: bool,
+}
+
+// Whether an instruction is EX.
+#[inline(always)]
+#[tactic(auto, unfolding(st_prep::specs::Reading::is_execute))]
+fn is_execute(instr: &Instr) -> bool
+    ensures { result ≡ is_execute_of instr.now }
+{
+    matches!(*instr, Instr::Half { op: HalfOp::Ex, .. })
+}
+
+// What is known of an entry.
+#[inline(always)]
+#[tactic(auto, unfolding(crate::specs::Straight::shown))]
+fn show(own: Run, target: Run, needs: Needs, p: &Prepared, follows: bool, execute: bool) -> Planned
+    ensures entry { result.entry ≡ shown own target needs p.now follows }
+    ensures side { result.side ≡ needs.index_read }
+    ensures execute { result.execute ≡ execute }
+{
+    Planned {
+        entry: Entry {
+            own,
+            target,
+            side: side_to_read(needs.index_read),
+            reads: words_to_read(p.reads),
+            writes: words_to_write(p.writes),
+            cost: p.cost,
+            serial: p.serial,
+            follows,
+        },
+        side: needs.index_read,
+        execute,
+    }
+}
+
+// Plans the entry at `p.place`, an own instruction that is not EX and whose words may be fetched.
+#[inline(always)]
+fn plan_own(own: Decoded, words: Run, x: &[u64; 16], state: &State, p: &mut Prepared) -> Planned
+    requires place { IsPlace p.old.place }
+    requires fields { HasFields own.instr }
+    ensures planned { IsPlanned state.now x.now p.old.place (plain own) words (record { first = 0; len = 0 }) p.new result }
+    ensures ranges { IsPrepared p.new }
+{
+    let fetched = Fetched {
+        instr: own,
+        target: None,
+        fault: None,
+    };
+    let table = p.place.table;
+    let needs = prepare_found(p, &fetched, x, state);
+    let follows = asks_for_following(table, None);
+    let execute = is_execute(&fetched.instr.instr);
+    show(words, Run::default(), needs, p, follows, execute)
+}
+
+// The same of half-words whose format is known.
+#[inline(always)]
+fn plan_as(
+    format: Format,
+    halves: (u32, u32),
+    words: Run,
+    x: &[u64; 16],
+    state: &State,
+    p: &mut Prepared,
+) -> Planned
+    requires place { IsPlace p.old.place }
+    requires format { spelled_as format halves.0 halves.1 ≡ instruction_of halves.0 halves.1 }
+    ensures planned { IsPlanned state.now x.now p.old.place (plain (decoded halves.0 halves.1)) words (record { first = 0; len = 0 })
+        p.new result }
+    ensures ranges { IsPrepared p.new }
+{
+    plan_own(decode_as(format, halves.0, halves.1), words, x, state, p)
+}
+
+// The same of a format that is not frequent.
+#[inline(never)]
+fn plan_seldom(
+    format: Format,
+    halves: (u32, u32),
+    words: Run,
+    x: &[u64; 16],
+    state: &State,
+    p: &mut Prepared,
+) -> Planned
+    requires place { IsPlace p.old.place }
+    requires format { spelled_as format halves.0 halves.1 ≡ instruction_of halves.0 halves.1 }
+    ensures planned { IsPlanned state.now x.now p.old.place (plain (decoded halves.0 halves.1)) words (record { first = 0; len = 0 })
+        p.new result }
+    ensures ranges { IsPrepared p.new }
+{
+    plan_as(format, halves, words, x, state, p)
+}
+
+// The same of any format. What follows knows the format of a frequent instruction, so that it is told apart once.
+#[inline(always)]
+fn plan_known(
+    format: Format,
+    halves: (u32, u32),
+    words: Run,
+    x: &[u64; 16],
+    state: &State,
+    p: &mut Prepared,
+) -> Planned
+    requires place { IsPlace p.old.place }
+    requires format { spelled_as format halves.0 halves.1 ≡ instruction_of halves.0 halves.1 }
+    ensures planned { IsPlanned state.now x.now p.old.place (plain (decoded halves.0 halves.1)) words (record { first = 0; len = 0 })
+        p.new result }
+    ensures ranges { IsPrepared p.new }
+{
+    match format {
+        Format::Index(op) => plan_as(Format::Index(op), halves, words, x, state, p),
+        Format::Branch(op) => plan_as(Format::Branch(op), halves, words, x, state, p),
+        Format::Whole(FullOp::Variable(op)) => {
+            let format = Format::Whole(FullOp::Variable(op));
+            plan_as(format, halves, words, x, state, p)
+        }
+        _ => plan_seldom(format, halves, words, x, state, p),
+    }
+}
+
+// Plans the entry at `p.place`, which may be EX, or of which a word may not be fetched.
+#[inline(never)]
+fn plan_other(x: &[u64; 16], state: &State, p: &mut Prepared) -> Planned
+    requires place { IsPlace p.old.place }
+    requires words { x.now ≡ index_words_of state.now }
+    ensures planned { let r = reading_of state.now p.old.place in
+        IsPlanned state.now x.now p.old.place (fetched_of state.now p.old.place)
+        (run_by (take (own_words r (word state.now)) (words_read r (word state.now))))
+        (run_by (drop (own_words r (word state.now)) (words_read r (word state.now)))) p.new result }
+    ensures ranges { IsPrepared p.new }
+{
+    let table = p.place.table;
+    let found = find(&p.place, x, state);
+    let needs = prepare_found(p, &found.fetched, x, state);
+    let follows = asks_for_following(table, found.fetched.fault);
+    let execute = is_execute(&found.fetched.instr.instr);
+    show(found.own, found.target, needs, p, follows, execute)
+}
+
+// Plans the entry at `p.place`, of which these are the half-words.
+#[inline(always)]
+fn plan_spelled(spelled: Spelled, x: &[u64; 16], state: &State, p: &mut Prepared) -> Planned
+    requires place { IsPlace p.old.place }
+    requires words { x.now ≡ index_words_of state.now }
+    requires spelled { (k : Use) → Leads (word state.now) (instruction_at false (word state.now 3) state.now.enabled
+        p.old.place.address k) (k (allowed_found spelled.first spelled.second))
+        (p.old.place.address / 2 ∷ if_more spelled.more ((p.old.place.address + 1) / 2)) }
+    ensures planned { let r = reading_of state.now p.old.place in
+        IsPlanned state.now x.now p.old.place (fetched_of state.now p.old.place)
+        (run_by (take (own_words r (word state.now)) (words_read r (word state.now))))
+        (run_by (drop (own_words r (word state.now)) (words_read r (word state.now)))) p.new result }
+    ensures ranges { IsPrepared p.new }
+{
+    let format = format_of(spelled.first, spelled.second);
+    if is_execute_format(format) {
+        plan_other(x, state, p)
+    } else {
+        let words = words_at(p.place.address, spelled.more);
+        plan_known(format, (spelled.first, spelled.second), words, x, state, p)
+    }
+}
+
 /// Plans the next entry of a state, or the table instruction of an interrupt by the indicator in `table`, in place. The result is
-/// what the timetable sees of it.
-pub fn plan_entry(table: Option<u8>, state: &State, p: &mut Prepared) -> Entry
+/// what else is known of it.
+pub fn plan_entry(table: Option<u8>, state: &State, p: &mut Prepared) -> Planned
     requires indicator { IfSome table (λ i. i < 64) }
     ensures plan { p.new ≡ plan_of state.now table }
     ensures ranges { IsPrepared p.new }
-    ensures entry { result ≡ entry_of table state.now }
+    ensures entry { result.entry ≡ entry_of table state.now }
+    ensures side { result.side ≡ side_at table state.now }
+    ensures execute { result.execute ≡ executes_at table state.now }
 {
     p.place = place_of(state, table);
     let x = index_words(state);
-    let found = find(&p.place, &x, state);
-    let needs = prepare_found(p, &found.fetched, &x, state);
-    Entry {
-        own: found.own,
-        target: found.target,
-        side: side_to_read(needs.index_read),
-        reads: words_to_read(p.reads),
-        writes: words_to_write(p.writes),
-        cost: p.cost,
-        serial: p.serial,
-        follows: asks_for_following(table, found.fetched.fault),
+    match halves_at(p.place.address, state) {
+        Some(spelled) => plan_spelled(spelled, &x, state, p),
+        None => plan_other(&x, state, p),
     }
 }

@@ -6,6 +6,6 @@ mod entries;
 mod looking;
 mod rows;
 
-pub use entries::plan_entry;
+pub use entries::{Planned, plan_entry};
 pub use looking::{Ahead, Aheads, look};
 pub use rows::next_row;

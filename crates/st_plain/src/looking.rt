@@ -22,10 +22,14 @@ use st_state::State;
 /// An entry that runs ahead.
 #[derive(Clone, Copy, Debug, Default, PartialEq, Eq)]
 pub struct Ahead {
-    /// Its half-word address.
-    pub address: u32,
+    /// The entry as it is prepared.
+    pub plan: Prepared,
     /// Its ticks.
     pub row: Row,
+    /// Its index-side word, a register or a word that is read from storage.
+    pub side: Option<u32>,
+    /// Whether it is EX.
+    pub execute: bool,
 }
 
 /// Entries that run ahead, the oldest first. There are as many as levels at most.
@@ -77,16 +81,18 @@ pub fn look(
     delays.shape();
     state.shape();
     let mut p = Prepared::default();
-    let e = plan_entry(None, state, &mut p);
-    let begun = begin(front, delays, levels, &e, log);
+    let planned = plan_entry(None, state, &mut p);
+    let begun = begin(front, delays, levels, &planned.entry, log);
     if begun.formed.p >= tick {
         front.bus = begun.words.bus;
         return;
     }
-    let row = finish(front, delays, levels, &e, begun, log);
+    let row = finish(front, delays, levels, &planned.entry, begun, log);
     found.push(Ahead {
-        address: p.place.address,
+        plan: p,
         row,
+        side: planned.side,
+        execute: planned.execute,
     });
     let kept = keep(&p, state);
     guess(&p, state);

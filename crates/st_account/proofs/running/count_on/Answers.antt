@@ -8,11 +8,11 @@ use Rattle.st_account.proofs.LastLemmas.{past-kept}
 use Rattle.st_account.proofs.running.count_on.Goals as goal
 
 pub next_row-row-requires-clause-entry : goal.next_row-row-requires-clause-entry
-next_row-row-requires-clause-entry c = rw c.plan_entry-e.ensures.entry (entry-ranges c.args.taken c.args.state.now c.shape.ensures c.requires.indicator)
+next_row-row-requires-clause-entry c = rw c.plan_entry-planned.ensures.entry (entry-ranges c.args.taken c.args.state.now c.shape.ensures c.requires.indicator)
 
 pub returns-clause-past : goal.returns-clause-past
 returns-clause-past c =
-    past-kept c.args.delays.now c.args.levels c.args.last.now.front c.plan_entry-e.result c.next_row-row.result _ _ _ c.requires.past
+    past-kept c.args.delays.now c.args.levels c.args.last.now.front c.plan_entry-planned.result.entry c.next_row-row.result _ _ _ c.requires.past
     c.next_row-row.ensures.value c.put_past.ensures c.next_row-row.ensures.after
 
 pub returns-clause-log : goal.returns-clause-log
@@ -20,5 +20,5 @@ returns-clause-log c =
     let ds = c.args.delays.now in
     let f = c.args.last.now.front in
     c.next_row-row.ensures.log
-    ∙ ap (λ (l : List Made). noted ds (asked ds c.args.levels f c.plan_entry-e.result) f.bus l) c.clear.ensures
-    ∙ ap (λ (e : Entry). noted ds (asked ds c.args.levels f e) f.bus []) c.plan_entry-e.ensures.entry
+    ∙ ap (λ (l : List Made). noted ds (asked ds c.args.levels f c.plan_entry-planned.result.entry) f.bus l) c.clear.ensures
+    ∙ ap (λ (e : Entry). noted ds (asked ds c.args.levels f e) f.bus []) c.plan_entry-planned.ensures.entry

@@ -9,7 +9,7 @@ use Rattle.st_account.proofs.running.write_run.Given as goal
 abbrev pub invariant-entries : goal.invariant-entries
 invariant-entries g l =
     let c = start (at_hand l.fn.state l.signals l.fn.cards) in
-    IsRunning (g.K.Sink.output l.fn.out) (g.K.Sink.output l.out) (lines_from l.delays l.levels l.budget 0 c) l.delays l.levels
+    IsRunning (g.K.Sink.output l.fn.out) (g.K.Sink.output l.out) (lines_from l.delays l.levels l.budget 0 l.fn.state c) l.delays l.levels
     (λ x. ticks_for x (all_charges l.delays l.levels (entries_from l.delays l.levels l.budget c))) l.state l.rest l.cards l.last l.log l.k l.left l.sums
 
 abbrev pub decreases-entries : goal.decreases-entries

@@ -1,13 +1,42 @@
-use Rattle.st_plain.proofs.PlanLemmas.{plan-found, entry-found}
+use Rattle.st_plain.proofs.PlanLemmas.{plan-planned, side-planned, execute-planned, entry-planned}
 use Rattle.st_plain.proofs.entries.plan_entry.Goals as goal
 
-pub returns-clause-plan : goal.returns-clause-plan
-returns-clause-plan c =
-    plan-found c.args.state.now c.args.table c.place_of-p.result c.find-found.result.fetched c.index_words-x.result _ c.place_of-p.ensures.value
-    c.find-found.ensures.fetched c.index_words-x.ensures c.prepare_found-needs.ensures.value
+pub returns-in-Some-clause-plan : goal.returns-in-Some-clause-plan
+returns-in-Some-clause-plan c =
+    plan-planned c.args.state.now c.args.table c.place_of-p.result c.index_words-x.result _ c.plan_spelled.result c.place_of-p.ensures.value
+    c.index_words-x.ensures c.plan_spelled.ensures.planned
 
-pub returns-clause-entry : goal.returns-clause-entry
-returns-clause-entry c =
-    entry-found c.args.state.now c.args.table c.place_of-p.result c.find-found.result.fetched c.index_words-x.result _ c.place_of-p.ensures.value
-    c.find-found.ensures.fetched c.index_words-x.ensures c.prepare_found-needs.ensures.value _ c.prepare_found-needs.ensures.needs _ _ _ _ _ _
-    c.find-found.ensures.own c.find-found.ensures.target c.side_to_read.ensures c.words_to_read.ensures c.words_to_write.ensures c.asks_for_following.ensures
+pub returns-in-Some-clause-entry : goal.returns-in-Some-clause-entry
+returns-in-Some-clause-entry c =
+    entry-planned c.args.state.now c.args.table c.place_of-p.result c.index_words-x.result _ c.plan_spelled.result c.place_of-p.ensures.value
+    c.index_words-x.ensures c.plan_spelled.ensures.planned
+
+pub returns-in-None-clause-plan : goal.returns-in-None-clause-plan
+returns-in-None-clause-plan c =
+    plan-planned c.args.state.now c.args.table c.place_of-p.result c.index_words-x.result _ c.plan_other.result c.place_of-p.ensures.value
+    c.index_words-x.ensures c.plan_other.ensures.planned
+
+pub returns-in-None-clause-entry : goal.returns-in-None-clause-entry
+returns-in-None-clause-entry c =
+    entry-planned c.args.state.now c.args.table c.place_of-p.result c.index_words-x.result _ c.plan_other.result c.place_of-p.ensures.value
+    c.index_words-x.ensures c.plan_other.ensures.planned
+
+pub returns-in-Some-clause-side : goal.returns-in-Some-clause-side
+returns-in-Some-clause-side c =
+    side-planned c.args.state.now c.args.table c.place_of-p.result c.index_words-x.result _ c.plan_spelled.result c.place_of-p.ensures.value
+    c.index_words-x.ensures c.plan_spelled.ensures.planned
+
+pub returns-in-Some-clause-execute : goal.returns-in-Some-clause-execute
+returns-in-Some-clause-execute c =
+    execute-planned c.args.state.now c.args.table c.place_of-p.result c.index_words-x.result _ c.plan_spelled.result c.place_of-p.ensures.value
+    c.index_words-x.ensures c.plan_spelled.ensures.planned
+
+pub returns-in-None-clause-side : goal.returns-in-None-clause-side
+returns-in-None-clause-side c =
+    side-planned c.args.state.now c.args.table c.place_of-p.result c.index_words-x.result _ c.plan_other.result c.place_of-p.ensures.value
+    c.index_words-x.ensures c.plan_other.ensures.planned
+
+pub returns-in-None-clause-execute : goal.returns-in-None-clause-execute
+returns-in-None-clause-execute c =
+    execute-planned c.args.state.now c.args.table c.place_of-p.result c.index_words-x.result _ c.plan_other.result c.place_of-p.ensures.value
+    c.index_words-x.ensures c.plan_other.ensures.planned

@@ -1,4 +1,4 @@
-use Rattle.std.proofs.Common.{◌<◌, length, None, ◌∙◌, ap, arith}
+use Rattle.std.proofs.Common.{ℕ, ◌<◌, Bool, length, Option, None, ◌∙◌, ap, arith}
 use Rattle.std.proofs.lemmas.List.{length_push}
 use Rattle.st_exec.specs.Completion.{guessed}
 use Rattle.st_state.specs.Machine.{Machine}
@@ -15,15 +15,16 @@ use Rattle.st_rows.proofs.Tight.{later-c}
 use Rattle.st_rows.proofs.Within.{AreDelays-list}
 use Rattle.st_segment.specs.Entries.{entry}
 use Rattle.st_segment.proofs.EntryRanges.{entry-ranges}
+use Rattle.st_plain.specs.Looking.{side_at}
 use Rattle.st_plain.specs.declared.looking.Ahead.{Ahead as Seen}
 use Rattle.st_plain.proofs.LookLemmas.{guess-counted, guess-done, found-late, found-same, found-look, bus-late, log-late, bus-look, log-look, first-next, some-more, row-p, after-c}
 use Rattle.st_plain.proofs.looking.+look.Goals as goal
 
 pub begin-begun-requires-clause-entry : goal.begin-begun-requires-clause-entry
-begin-begun-requires-clause-entry t c = rw c.plan_entry-e.ensures.entry (entry-ranges None c.args.state.now c.shape-2.ensures tt)
+begin-begun-requires-clause-entry t c = rw c.plan_entry-planned.ensures.entry (entry-ranges None c.args.state.now c.shape-2.ensures tt)
 
 pub finish-row-requires-clause-entry : goal.finish-row-requires-clause-entry
-finish-row-requires-clause-entry t c = rw c.plan_entry-e.ensures.entry (entry-ranges None c.args.state.now c.shape-2.ensures tt)
+finish-row-requires-clause-entry t c = rw c.plan_entry-planned.ensures.entry (entry-ranges None c.args.state.now c.shape-2.ensures tt)
 
 -- the next entry is not prepared in time
 
@@ -33,7 +34,7 @@ returns-then-begun-tick-clause-found t c =
     let n = c.args.levels in
     let f = c.args.front.now in
     let s = c.args.state.now in
-    let p = ap (tick_p ds n f) c.plan_entry-e.ensures.entry in
+    let p = ap (tick_p ds n f) c.plan_entry-planned.ensures.entry in
     found-same c.args.found.now.items _
     (found-late ds n c.args.tick s f c.args.more (omega (arith, row-p ds n f (entry None s), p, c.begin-begun.ensures.tick, c.if-begun-tick.true)))
 
@@ -43,10 +44,10 @@ returns-then-begun-tick-clause-log t c =
     let n = c.args.levels in
     let f = c.args.front.now in
     let s = c.args.state.now in
-    let p = ap (tick_p ds n f) c.plan_entry-e.ensures.entry in
+    let p = ap (tick_p ds n f) c.plan_entry-planned.ensures.entry in
     log-late ds n c.args.tick s f c.args.more c.args.log.now c.begin-begun.new.log
     (omega (arith, row-p ds n f (entry None s), p, c.begin-begun.ensures.tick, c.if-begun-tick.true))
-    (c.begin-begun.ensures.log ∙ ap (λ (e : Entry). noted ds (formed_asked ds f e) f.bus c.args.log.now) c.plan_entry-e.ensures.entry)
+    (c.begin-begun.ensures.log ∙ ap (λ (e : Entry). noted ds (formed_asked ds f e) f.bus c.args.log.now) c.plan_entry-planned.ensures.entry)
 
 pub returns-then-begun-tick-clause-bus : goal.returns-then-begun-tick-clause-bus
 returns-then-begun-tick-clause-bus t c =
@@ -54,23 +55,23 @@ returns-then-begun-tick-clause-bus t c =
     let n = c.args.levels in
     let f = c.args.front.now in
     let s = c.args.state.now in
-    let p = ap (tick_p ds n f) c.plan_entry-e.ensures.entry in
+    let p = ap (tick_p ds n f) c.plan_entry-planned.ensures.entry in
     bus-late ds n c.args.tick s f c.args.more c.begin-begun.result.words.bus
     (omega (arith, row-p ds n f (entry None s), p, c.begin-begun.ensures.tick, c.if-begun-tick.true))
-    (c.begin-begun.ensures.bus ∙ ap (bus_a ds f) c.plan_entry-e.ensures.entry)
+    (c.begin-begun.ensures.bus ∙ ap (bus_a ds f) c.plan_entry-planned.ensures.entry)
 
 -- it is
 
 pub push-requires : goal.push-requires
 push-requires t c =
-    let some = some-more c.args.delays.now c.args.levels c.args.more c.args.tick c.args.front.now c.plan_entry-e.result c.requires.levels.0 c.requires.first
+    let some = some-more c.args.delays.now c.args.levels c.args.more c.args.tick c.args.front.now c.plan_entry-planned.result.entry c.requires.levels.0 c.requires.first
     (omega (arith, c.begin-begun.ensures.tick, c.if-begun-tick.false)) in
     let room : length c.args.found.now.items < 8 = omega (arith, c.requires.space, some) in
     (omega arith, room)
 
 pub overflow_sub-more : goal.overflow_sub-more
 overflow_sub-more t c =
-    some-more c.args.delays.now c.args.levels c.args.more c.args.tick c.args.front.now c.plan_entry-e.result c.requires.levels.0 c.requires.first
+    some-more c.args.delays.now c.args.levels c.args.more c.args.tick c.args.front.now c.plan_entry-planned.result.entry c.requires.levels.0 c.requires.first
     (omega (arith, c.begin-begun.ensures.tick, c.if-begun-tick.false))
 
 pub look-requires : goal.look-requires
@@ -78,12 +79,12 @@ look-requires t c =
     let ds = c.args.delays.now in
     let n = c.args.levels in
     let f = c.args.front.now in
-    let e = c.plan_entry-e.result in
+    let e = c.plan_entry-planned.result.entry in
     let some = some-more ds n c.args.more c.args.tick f e c.requires.levels.0 c.requires.first
     (omega (arith, c.begin-begun.ensures.tick, c.if-begun-tick.false)) in
-    let done = ap (λ (s : Machine). s.done) c.guess.ensures ∙ guess-done c.plan_entry-e.new.p c.args.state.now in
+    let done = ap (λ (s : Machine). s.done) c.guess.ensures ∙ guess-done c.plan_entry-planned.new.p c.args.state.now in
     let more = ap length c.push.ensures.items ∙ length_push c.args.found.now.items _ in
-    let range : IsEntry e = rw c.plan_entry-e.ensures.entry (entry-ranges None c.args.state.now c.shape-2.ensures tt) in
+    let range : IsEntry e = rw c.plan_entry-planned.ensures.entry (entry-ranges None c.args.state.now c.shape-2.ensures tt) in
     let rises : f.c < c.finish-row.new.front.c =
     omega (
       arith,
@@ -119,7 +120,7 @@ look-requires t c =
 
 pub returns-clause-state : goal.returns-clause-state
 returns-clause-state t c =
-    let counted = guess-counted c.plan_entry-e.new.p c.args.state.now in
+    let counted = guess-counted c.plan_entry-planned.new.p c.args.state.now in
     c.undo.ensures ∙ c.keep-kept.ensures.undone _ counted.ic (c.look.ensures.state ∙ c.guess.ensures ∙ counted.is)
 
 pub returns-clause-found : goal.returns-clause-found
@@ -128,16 +129,19 @@ returns-clause-found t c =
     let n = c.args.levels in
     let f = c.args.front.now in
     let s = c.args.state.now in
-    let some = some-more ds n c.args.more c.args.tick f c.plan_entry-e.result c.requires.levels.0 c.requires.first
+    let some = some-more ds n c.args.more c.args.tick f c.plan_entry-planned.result.entry c.requires.levels.0 c.requires.first
     (omega (arith, c.begin-begun.ensures.tick, c.if-begun-tick.false)) in
-    let p = ap (tick_p ds n f) c.plan_entry-e.ensures.entry in
-    let is = c.finish-row.ensures.value ∙ ap (row ds n f) c.plan_entry-e.ensures.entry in
-    let at : Prepared → Row → Seen = λ q r. record { address = q.place.address; row = r } in
+    let p = ap (tick_p ds n f) c.plan_entry-planned.ensures.entry in
+    let is = c.finish-row.ensures.value ∙ ap (row ds n f) c.plan_entry-planned.ensures.entry in
+    let at : Prepared → Row → Option ℕ → Bool → Seen = λ q r side execute. record { plan = q; row = r; side = side; execute = execute } in
     found-look ds n c.args.tick s f _ _ c.args.more _ _ _ _ some
     (omega (arith, row-p ds n f (entry None s), p, c.begin-begun.ensures.tick, c.if-begun-tick.false))
-    (ap (λ q. at q c.finish-row.result) c.plan_entry-e.ensures.plan ∙ ap (at (plan s None)) is)
-    (c.guess.ensures ∙ ap (λ q. guessed q s) c.plan_entry-e.ensures.plan)
-    (c.finish-row.ensures.after ∙ ap (after ds n f) c.plan_entry-e.ensures.entry)
+    (ap (λ q. at q c.finish-row.result c.plan_entry-planned.result.side c.plan_entry-planned.result.execute) c.plan_entry-planned.ensures.plan
+    ∙ ap (λ r. at (plan s None) r c.plan_entry-planned.result.side c.plan_entry-planned.result.execute) is
+    ∙ ap (λ w. at (plan s None) (row ds n f (entry None s)) w c.plan_entry-planned.result.execute) c.plan_entry-planned.ensures.side
+    ∙ ap (at (plan s None) (row ds n f (entry None s)) (side_at None s)) c.plan_entry-planned.ensures.execute)
+    (c.guess.ensures ∙ ap (λ q. guessed q s) c.plan_entry-planned.ensures.plan)
+    (c.finish-row.ensures.after ∙ ap (after ds n f) c.plan_entry-planned.ensures.entry)
     c.push.ensures.items c.look.ensures.found
 
 pub returns-clause-log : goal.returns-clause-log
@@ -146,14 +150,14 @@ returns-clause-log t c =
     let n = c.args.levels in
     let f = c.args.front.now in
     let s = c.args.state.now in
-    let some = some-more ds n c.args.more c.args.tick f c.plan_entry-e.result c.requires.levels.0 c.requires.first
+    let some = some-more ds n c.args.more c.args.tick f c.plan_entry-planned.result.entry c.requires.levels.0 c.requires.first
     (omega (arith, c.begin-begun.ensures.tick, c.if-begun-tick.false)) in
-    let p = ap (tick_p ds n f) c.plan_entry-e.ensures.entry in
+    let p = ap (tick_p ds n f) c.plan_entry-planned.ensures.entry in
     log-look ds n c.args.tick s f c.guess.new.state c.finish-row.new.front c.args.more some
     (omega (arith, row-p ds n f (entry None s), p, c.begin-begun.ensures.tick, c.if-begun-tick.false))
-    (c.guess.ensures ∙ ap (λ q. guessed q s) c.plan_entry-e.ensures.plan)
-    (c.finish-row.ensures.after ∙ ap (after ds n f) c.plan_entry-e.ensures.entry) c.args.log.now c.finish-row.new.log c.look.new.log
-    (c.finish-row.ensures.log c.args.log.now c.begin-begun.ensures.log ∙ ap (λ (e : Entry). noted ds (asked ds n f e) f.bus c.args.log.now) c.plan_entry-e.ensures.entry)
+    (c.guess.ensures ∙ ap (λ q. guessed q s) c.plan_entry-planned.ensures.plan)
+    (c.finish-row.ensures.after ∙ ap (after ds n f) c.plan_entry-planned.ensures.entry) c.args.log.now c.finish-row.new.log c.look.new.log
+    (c.finish-row.ensures.log c.args.log.now c.begin-begun.ensures.log ∙ ap (λ (e : Entry). noted ds (asked ds n f e) f.bus c.args.log.now) c.plan_entry-planned.ensures.entry)
     c.look.ensures.log
 
 pub returns-clause-bus : goal.returns-clause-bus
@@ -162,10 +166,10 @@ returns-clause-bus t c =
     let n = c.args.levels in
     let f = c.args.front.now in
     let s = c.args.state.now in
-    let some = some-more ds n c.args.more c.args.tick f c.plan_entry-e.result c.requires.levels.0 c.requires.first
+    let some = some-more ds n c.args.more c.args.tick f c.plan_entry-planned.result.entry c.requires.levels.0 c.requires.first
     (omega (arith, c.begin-begun.ensures.tick, c.if-begun-tick.false)) in
-    let p = ap (tick_p ds n f) c.plan_entry-e.ensures.entry in
+    let p = ap (tick_p ds n f) c.plan_entry-planned.ensures.entry in
     bus-look ds n c.args.tick s f c.guess.new.state c.finish-row.new.front c.args.more some
     (omega (arith, row-p ds n f (entry None s), p, c.begin-begun.ensures.tick, c.if-begun-tick.false))
-    (c.guess.ensures ∙ ap (λ q. guessed q s) c.plan_entry-e.ensures.plan)
-    (c.finish-row.ensures.after ∙ ap (after ds n f) c.plan_entry-e.ensures.entry) c.look.new.front.bus c.look.ensures.bus
+    (c.guess.ensures ∙ ap (λ q. guessed q s) c.plan_entry-planned.ensures.plan)
+    (c.finish-row.ensures.after ∙ ap (after ds n f) c.plan_entry-planned.ensures.entry) c.look.new.front.bus c.look.ensures.bus

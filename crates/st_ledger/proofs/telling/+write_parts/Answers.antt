@@ -1,5 +1,5 @@
 use Rattle.st_ledger.proofs.Told.{charges_cut, charges_then, charges_none}
-use Rattle.st_ledger.proofs.telling.+write_charges.Goals as goal
+use Rattle.st_ledger.proofs.telling.+write_parts.Goals as goal
 
 pub returns-in_err-write_part : goal.returns-in_err-write_part
 returns-in_err-write_part g t c =
@@ -7,7 +7,7 @@ returns-in_err-write_part g t c =
 
 pub returns : goal.returns
 returns g t c =
-    charges_then _ _ _ _ _ _ _ _ _ _ c.in-Some.ensures.parts c.later.ensures c.in_ok-write_part.ensures c.write_charges.ensures
+    charges_then _ _ _ _ _ _ _ _ _ _ c.in-Some.ensures.parts c.later.ensures c.in_ok-write_part.ensures c.write_parts.ensures
 
 pub returns-in_default : goal.returns-in_default
 returns-in_default g t c = charges_none _ _ _ _ c.in_default.ensures.parts

@@ -1,0 +1,48 @@
+-- An entry that is planned at once: its words, and what the timetable sees of it.
+use Rattle.std.specs.Prelude.{ℕ, ◌+◌, ◌≡◌, Bool, true, false, ◌&&◌, is_none, List, [], ◌∷◌, ◌++◌, length}
+use Rattle.st_state.specs.Machine.{Machine}
+use Rattle.st_prep.specs.Plan.{seen, needs, prepared, side_of}
+use Rattle.st_prep.specs.Reading.{Reading, outcome, words_read, own_words, is_execute}
+use Rattle.st_prep.specs.declared.entries.Place.{Place}
+use Rattle.st_prep.specs.declared.entries.Fetched.{Fetched}
+use Rattle.st_prep.specs.declared.entries.Needs.{Needs}
+use Rattle.st_prep.specs.declared.entries.Prepared.{Prepared}
+use Rattle.st_segment.specs.Entries.{words_to_read, words_to_write, side_to_read}
+use Rattle.st_rows.specs.declared.entry.Run.{Run}
+use Rattle.st_rows.specs.declared.entry.Entry.{Entry}
+use Rattle.st_plain.specs.declared.entries.Planned.{Planned}
+
+-- ---- words
+
+-- a reading goes on as another one behind these words, all of which are the entry's own; word w has the content c w
+pub record Leads (c : ℕ → ℕ) (r q : Reading) (ws : List ℕ) : Type 0 where
+  pub found : outcome r c ≡ outcome q c
+  pub read : words_read r c ≡ ws ++ words_read q c
+  pub own : own_words r c ≡ length ws + own_words q c
+
+-- a word, if it is asked for
+abbrev pub if_more : Bool → ℕ → List ℕ
+if_more true w = w ∷ []
+if_more false w = []
+
+-- ---- the entry
+
+-- what the timetable sees of an entry, by its runs of instruction words, by what it needs and what it is
+unfoldable pub shown : Run → Run → Needs → Prepared → Bool → Entry
+shown own target n p follows = record {
+  own = own;
+  target = target;
+  side = side_to_read n.index_read;
+  reads = words_to_read p.reads;
+  writes = words_to_write p.writes;
+  cost = p.cost;
+  serial = p.serial;
+  follows = follows;
+}
+
+-- the entry at a place of a state is planned, by what is fetched there, by its runs of instruction words and by the index words
+pub record IsPlanned (s : Machine) (x : List ℕ) (q : Place) (f : Fetched) (own target : Run) (p : Prepared) (e : Planned) : Type 0 where
+  pub plan : let v = seen q f x s in p ≡ prepared v (side_of s v)
+  pub entry : e.entry ≡ shown own target (needs (seen q f x s)) p (is_none q.table && is_none f.fault)
+  pub side : e.side ≡ (needs (seen q f x s)).index_read
+  pub execute : e.execute ≡ is_execute f.instr.instr
